@@ -1,0 +1,10 @@
+pub mod Open
+pub mod SlotsApart
+pub mod Declared
+pub mod Variables
+pub mod Captured
+pub mod OpenApart
+pub mod Following
+pub mod Sources
+pub mod Declarations
+pub mod Demand

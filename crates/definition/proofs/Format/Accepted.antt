@@ -1,0 +1,167 @@
+-- What an outcome without a refusal says, and how long the buffer is.
+use mathlib.Core.Path.{_≡_, refl, sym, ap, _∙_, subst}
+use mathlib.Core.List.{List, [], _∷_, _++_, map}
+use mathlib.Core.Bool.{Bool, true, false, not, _&&_}
+use Prim.Native.Nat.{ℕ, suc, _-_, _*_, _<_, _≤_}
+use native.Mathlib.Omega.{arith}
+use lib.ListN.{length, replicate, length-append, length-take, length-replicate}
+use lib.Dec.{eqb, leb, T, T-not, eqb→eq, leb→le}
+use Rattle.definition.specs.Basics.{if_then_else_, concatMap, from}
+use Rattle.definition.specs.Sheet.{Sheet, rows}
+use Rattle.definition.specs.Names.{namesFit, nameCount}
+use Rattle.definition.specs.Format.{sheetFits, depthsFit}
+use Rattle.definition.specs.Scope.{Moment, history}
+use Rattle.definition.specs.Slots.{finalGlobals}
+use Rattle.definition.specs.Question.{Refusal, refusal}
+use Rattle.definition.specs.Answer.{eight, rowsOf, answers}
+use Rattle.definition.specs.Outcome.{Outcome, refused, refusedAt, rowsFit, answered, asked, outcome, buffer}
+use Rattle.definition.proofs.Lists.Tests.{and-left, and-right}
+
+-- A sheet that no question refuses, with its names and a buffer.
+pub record Accepted (s : Sheet) (ns : List ℕ) (lent : ℕ) : Type 0 where
+  pub whole : T (rowsFit s)
+  pub named : T (namesFit ns)
+  pub fitting : T (sheetFits (nameCount ns) s)
+  pub shallow : T (depthsFit s)
+  pub agreed : refusal s (history s) .number ≡ 0
+  pub room : 8 * length (answers s (history s)) ≤ lent
+  pub rows : outcome s ns lent .rows ≡ answers s (history s)
+  pub globals : outcome s ns lent .globals ≡ finalGlobals s (history s)
+
+-- a choice that is no refusal is the other one
+chosen : (t : Bool) (x y : Outcome) → (x .number ≡ 0 → ⊥) → (if t then x else y) .number ≡ 0 → T (not t) × ((if t then x else y) ≡ y)
+chosen true x y f e = absurd (f e)
+chosen false x y f e = (tt, refl)
+
+not-not : (t : Bool) → T (not (not t)) → T t
+not-not true h = tt
+not-not false h = h
+
+never : (q : ℕ) → refused (suc q) .number ≡ 0 → ⊥
+never q e = omega arith
+
+asked-accepted : (lent : ℕ) (s : Sheet) → asked lent s .number ≡ 0
+    → (refusal s (history s) .number ≡ 0) × (8 * length (answers s (history s)) ≤ lent)
+    × (asked lent s .rows ≡ answers s (history s)) × (asked lent s .globals ≡ finalGlobals s (history s))
+asked-accepted lent s e = go (eqb (refusal s (history s) .number) 0) refl e
+  where
+    x : Refusal
+    x = refusal s (history s)
+
+    out : List (List ℕ)
+    out = answers s (history s)
+
+    answer : Bool → Outcome
+    answer u =
+        if u then record { number = 0; file = 0; line = 0; column = 0; name = 0; rows = out; globals = finalGlobals s (history s) }
+        else refused 22
+
+    fit : (u : Bool) → leb (8 * length out) lent ≡ u → answer u .number ≡ 0
+        → (8 * length out ≤ lent) × (answer u .rows ≡ out) × (answer u .globals ≡ finalGlobals s (history s))
+    fit true w e = (leb→le (8 * length out) lent (subst T (sym w) tt), refl, refl)
+    fit false w e = absurd (never 21 e)
+
+    go : (t : Bool) → eqb (x .number) 0 ≡ t
+        → (if t then answered lent out (finalGlobals s (history s)) else refusedAt (x .number) s (x .at) (x .name)) .number ≡ 0
+        → (x .number ≡ 0) × (8 * length out ≤ lent)
+        × ((if t then answered lent out (finalGlobals s (history s)) else refusedAt (x .number) s (x .at) (x .name)) .rows ≡ out)
+        × ((if t then answered lent out (finalGlobals s (history s)) else refusedAt (x .number) s (x .at) (x .name)) .globals ≡ finalGlobals s (history s))
+    go true w e =
+        let f = fit (leb (8 * length out) lent) refl e in
+        (eqb→eq (x .number) 0 (subst T (sym w) tt), f .0, f .1, f .2)
+    go false w e = absurd (T-not (eqb (x .number) 0) (subst (λ (t : Bool). T (not t)) (sym w) tt) (subst (λ (k : ℕ). T (eqb k 0)) (sym e) tt))
+
+pub accepted : (s : Sheet) (ns : List ℕ) (lent : ℕ) → outcome s ns lent .number ≡ 0 → Accepted s ns lent
+accepted s ns lent e =
+    let o4 : Outcome = if not (depthsFit s) then refused 4 else asked lent s in
+    let o3 : Outcome = if not (sheetFits (nameCount ns) s) then refused 3 else o4 in
+    let o2 : Outcome = if not (namesFit ns) then refused 2 else o3 in
+    let c1 = chosen (not (rowsFit s)) (refused 1) o2 (never 0) e in
+    let c2 = chosen (not (namesFit ns)) (refused 2) o3 (never 1) (ap (λ (o : Outcome). o .number) (sym (c1 .1)) ∙ e) in
+    let c3 = chosen (not (sheetFits (nameCount ns) s)) (refused 3) o4 (never 2) (ap (λ (o : Outcome). o .number) (sym (c1 .1 ∙ c2 .1)) ∙ e) in
+    let c4 = chosen (not (depthsFit s)) (refused 4) (asked lent s) (never 3) (ap (λ (o : Outcome). o .number) (sym (c1 .1 ∙ c2 .1 ∙ c3 .1)) ∙ e) in
+    let same : outcome s ns lent ≡ asked lent s = c1 .1 ∙ c2 .1 ∙ c3 .1 ∙ c4 .1 in
+    let w = asked-accepted lent s (ap (λ (o : Outcome). o .number) (sym same) ∙ e) in
+    record {
+      whole = not-not (rowsFit s) (c1 .0);
+      named = not-not (namesFit ns) (c2 .0);
+      fitting = not-not (sheetFits (nameCount ns) s) (c3 .0);
+      shallow = not-not (depthsFit s) (c4 .0);
+      agreed = w .0;
+      room = w .1;
+      rows = ap (λ (o : Outcome). o .rows) same ∙ w .2;
+      globals = ap (λ (o : Outcome). o .globals) same ∙ w .3;
+    }
+
+-- it has a row
+pub some-row : (s : Sheet) → T (rowsFit s) → 0 < rows s
+some-row s h =
+    leb→le 1 (rows s)
+    (and-right (eqb (8 * rows s) (length s)) (leb 1 (rows s)) (and-left (eqb (8 * rows s) (length s) && leb 1 (rows s)) (leb (rows s) 2048) h))
+
+-- Rows of eight numbers.
+pub data Eights : List (List ℕ) → Type 0 where
+  none : Eights []
+  more : {r : List ℕ} {rs : List (List ℕ)} → length r ≡ 8 → Eights rs → Eights (r ∷ rs)
+
+eight-length : (vs : List ℕ) → length (eight vs) ≡ 8
+eight-length vs = simp (length-take, length-append, length-replicate) (omega arith)
+
+eights-append : {xs ys : List (List ℕ)} → Eights xs → Eights ys → Eights (xs ++ ys)
+eights-append none q = q
+eights-append (more e p) q = more e (eights-append p q)
+
+eights-map : (r : ℕ) (xs : List (List ℕ)) → Eights (map (λ vs. eight (r ∷ vs)) xs)
+eights-map r [] = none
+eights-map r (x ∷ xs) = more (eight-length (r ∷ x)) (eights-map r xs)
+
+eights-rows : (s : Sheet) (h : List Moment) (rs : List ℕ) → Eights (concatMap (λ r. map (λ vs. eight (r ∷ vs)) (rowsOf s h r)) rs)
+eights-rows s h [] = none
+eights-rows s h (r ∷ rs) = eights-append (eights-map r (rowsOf s h r)) (eights-rows s h rs)
+
+pub eights-answers : (s : Sheet) (h : List Moment) → Eights (answers s h)
+eights-answers s h = eights-rows s h (from 0 (rows s))
+
+flat-length : {rs : List (List ℕ)} → Eights rs → length (concatMap (λ r. r) rs) ≡ 8 * length rs
+flat-length none = refl
+flat-length (more {r = r} {rs = rs} e p) = length-append r (concatMap (λ r. r) rs) ∙ omega (arith, e, flat-length p)
+
+-- The rows of an outcome fit.
+module _ (lent : ℕ) where
+  abbrev Good : Outcome → Type 0
+  Good o = Eights (o .rows) × (8 * length (o .rows) ≤ lent)
+
+  good-refused : (q : ℕ) → Good (refused q)
+  good-refused q = (none, omega arith)
+
+  good-if : (t : Bool) (x y : Outcome) → Good x → Good y → Good (if t then x else y)
+  good-if true x y p q = p
+  good-if false x y p q = q
+
+  good-answered : (out : List (List ℕ)) (g : ℕ) → Eights out → Good (answered lent out g)
+  good-answered out g p = go (leb (8 * length out) lent) refl
+    where
+      go : (t : Bool) → leb (8 * length out) lent ≡ t
+          → Good (if t then record { number = 0; file = 0; line = 0; column = 0; name = 0; rows = out; globals = g } else refused 22)
+      go true e = (p, leb→le (8 * length out) lent (subst T (sym e) tt))
+      go false e = good-refused 22
+
+  good-asked : (s : Sheet) → Good (asked lent s)
+  good-asked s =
+      good-if (eqb (refusal s (history s) .number) 0) (answered lent (answers s (history s)) (finalGlobals s (history s))) _
+      (good-answered (answers s (history s)) (finalGlobals s (history s)) (eights-answers s (history s))) (none, omega arith)
+
+  pub good-outcome : (s : Sheet) (ns : List ℕ) → Good (outcome s ns lent)
+  good-outcome s ns =
+      good-if (not (rowsFit s)) (refused 1) _ (good-refused 1)
+      (good-if (not (namesFit ns)) (refused 2) _ (good-refused 2)
+      (good-if (not (sheetFits (nameCount ns) s)) (refused 3) _ (good-refused 3)
+      (good-if (not (depthsFit s)) (refused 4) (asked lent s) (good-refused 4) (good-asked s))))
+
+  -- the buffer keeps its length
+  pub buffer-length : (s : Sheet) (ns : List ℕ) → length (buffer lent (outcome s ns lent)) ≡ lent
+  buffer-length s ns =
+      let g = good-outcome s ns in
+      let o : Outcome = outcome s ns lent in
+      length-append (concatMap (λ r. r) (o .rows)) (replicate (lent - 8 * length (o .rows)) 0)
+      ∙ omega (arith, flat-length (g .0), length-replicate {A = ℕ} (lent - 8 * length (o .rows)) 0, g .1)

@@ -1,0 +1,82 @@
+-- Classes: parents, fields and methods, their own and after inheritance.
+use mathlib.Core.Bool.{Bool, not, _&&_, _||_}
+use mathlib.Core.List.{List, [], _++_, map}
+use Prim.Native.Nat.{ℕ, zero, suc, _+_, _-_}
+use lib.ListN.{length}
+use lib.Dec.{eqb, leb}
+use Rattle.definition.specs.Basics.{if_then_else_, filter, any, first, final, distinct, largest, from, _∈?_}
+use Rattle.definition.specs.Sheet.{Sheet, child, a, b, rows, is, kidsOf, holder}
+use Rattle.definition.specs.Meaning.{classNumber}
+use Rattle.definition.specs.Outside.{Method, isRecorded, recordOf}
+use Rattle.definition.specs.Scope.{Moment, lookup, visited, visits, within}
+
+-- is it a class of the sheet? They are numbered 256 + row
+abbrev pub ofSheet : ℕ → Bool
+ofSheet c = leb 256 c
+
+-- has a class a record? Those of the sheet have, and some from outside
+abbrev pub hasRecord : ℕ → Bool
+hasRecord c = ofSheet c || isRecorded c
+
+-- the name of a class that has a record
+abbrev pub className : Sheet → ℕ → ℕ
+className s c = if ofSheet c then a s (c - 256) else recordOf c .name
+
+-- the own methods of a class
+abbrev pub ownMethods : Sheet → ℕ → List Method
+ownMethods s c = if ofSheet c then map (λ f. record { name = a s f; fun = f }) (kidsOf s 6 (c - 256)) else recordOf c .methods
+
+-- the function of the method of a name in a list, or 0
+abbrev pub methodNamed : ℕ → List Method → ℕ
+methodNamed n ms = first (λ m. eqb (m .name) n) (record { name = 0; fun = 0 }) ms .fun
+
+-- how many parameters a function has
+abbrev pub arity : Sheet → ℕ → ℕ
+arity s f = length (kidsOf s 11 f)
+
+-- the class row of a method or of a literal's function, or 0
+abbrev pub classOf : Sheet → ℕ → ℕ
+classOf s f = if is s 4 (holder s f) then holder s f else if is s 52 (holder s f) then a s (holder s f) else 0
+
+-- the parent's fields, then the others
+abbrev pub mergeFields : List ℕ → List ℕ → List ℕ
+mergeFields up own = up ++ filter (λ n. not (n ∈? up)) own
+
+-- the parent's methods, own ones replacing in place, then the new ones
+abbrev pub mergeMethods : List Method → List Method → List Method
+mergeMethods up own =
+    map (λ m. first (λ o. eqb (o .name) (m .name)) m own) up
+    ++ filter (λ o. not (any (λ m. eqb (m .name) (o .name)) up)) own
+
+module _ (s : Sheet) (h : List Moment) where
+  -- the fields that assignments to members register in the class of row c, in the walk's order
+  abbrev pub registered : ℕ → List ℕ
+  registered c =
+      map (λ m. a s (child s (visited (m .event))))
+      (filter (λ m. is s 54 (child s (visited (m .event))) && eqb (classOf s (within s m)) c) (visits s h 21))
+
+  -- the own fields of a class, by slot
+  abbrev pub ownFields : ℕ → List ℕ
+  ownFields c =
+      if ofSheet c then distinct eqb (map (a s) (kidsOf s 10 (c - 256)) ++ registered (c - 256)) else recordOf c .fields
+
+  -- the parent of a class, or 0: what the parent's name means at the class declaration
+  abbrev pub parentOf : ℕ → ℕ
+  parentOf c =
+      if ofSheet c
+      then largest (final (map (λ m. classNumber (lookup (b s (c - 256)) (m .stack))) (filter (λ m. eqb (a s (visited (m .event))) (c - 256)) (visits s h 30))))
+      else 0
+
+  -- the fields of a class after inheritance, by slot; n bounds the climb
+  abbrev pub fields : ℕ → ℕ → List ℕ
+  fields zero c = []
+  fields (suc n) c = let up = fields n (parentOf c) in if eqb (parentOf c) 0 then ownFields c else mergeFields up (ownFields c)
+
+  -- the methods of a class after inheritance; n bounds the climb
+  abbrev pub methods : ℕ → ℕ → List Method
+  methods zero c = []
+  methods (suc n) c = let up = methods n (parentOf c) in if eqb (parentOf c) 0 then ownMethods s c else mergeMethods up (ownMethods s c)
+
+  -- is a class the parent of some class of the sheet?
+  abbrev pub hasChildren : ℕ → Bool
+  hasChildren c = any (λ r. is s 4 r && eqb (parentOf (256 + r)) c) (from 0 (rows s))

@@ -1,0 +1,107 @@
+-- The questions 5 to 21, in the order in which they are asked.
+use mathlib.Core.Bool.{Bool, true, false, not, _&&_, _||_}
+use mathlib.Core.List.{List, [], _∷_, map}
+use Prim.Native.Nat.{ℕ, zero, suc, _+_, _-_}
+use lib.ListN.{length}
+use lib.Dec.{eqb}
+use Rattle.definition.specs.Basics.{if_then_else_, filter, first, from, _∈?_}
+use Rattle.definition.specs.Sheet.{Sheet, child, a, b, rows, kids, is}
+use Rattle.definition.specs.Meaning.{isDeclared, isClass, classNumber}
+use Rattle.definition.specs.Walk.{Event, enter, leave, loop, declare, bring, visit, literalLet}
+use Rattle.definition.specs.Scope.{Moment, Stack, lookup, taken, inLoop, visited, visits}
+use Rattle.definition.specs.Slots.{isMutable}
+use Rattle.definition.specs.Classes.{hasRecord, ofSheet, methodNamed, ownMethods, arity, className, parentOf, methods}
+
+-- A question answered no: its number, the row of its position, the name asked about. Number 0: none.
+pub record Refusal : Type 0 where
+  pub number : ℕ
+  pub at : ℕ
+  pub name : ℕ
+
+abbrev pub none : Refusal
+none = record { number = 0; at = 0; name = 0 }
+
+-- question q, with a position and a name: no refusal if the test passes
+abbrev pub ask : ℕ → ℕ → ℕ → Bool → Refusal
+ask q r n true = none
+ask q r n false = record { number = q; at = r; name = n }
+
+-- the first refusal of a list
+abbrev pub firstNo : List Refusal → Refusal
+firstNo rs = first (λ x. not (eqb (x .number) 0)) none rs
+
+-- the class that call r constructs: its callee is an identifier that means it
+abbrev pub constructed : Sheet → ℕ → Stack → ℕ
+constructed s r st = if is s 50 (child s r) then classNumber (lookup (a s (child s r)) st) else 0
+
+-- the class on which call r calls a method: its callee is a member of an identifier that means the class
+abbrev pub receiver : Sheet → ℕ → Stack → ℕ
+receiver s r st =
+    if is s 54 (child s r) && is s 50 (child s (child s r)) then classNumber (lookup (a s (child s (child s r))) st) else 0
+
+-- how many arguments call r has
+abbrev pub arguments : Sheet → ℕ → ℕ
+arguments s r = length (kids s r) - 1
+
+-- the questions on the callee of call r
+abbrev pub askCallee : Sheet → ℕ → Stack → Refusal
+askCallee s r st =
+    let callee : ℕ = child s r in
+    let c : ℕ = receiver s r st in
+    let f : ℕ = methodNamed (a s callee) (ownMethods s c) in
+    if not (eqb (constructed s r st) 0) then ask 12 callee (a s callee) (hasRecord (constructed s r st))
+    else if eqb c 0 then none
+    else if not (hasRecord c) then ask 17 callee (a s callee) false
+    else if eqb f 0 then ask 13 callee (a s callee) false
+    else ask 14 callee (a s callee) (eqb (arguments s r) (arity s f))
+
+-- the question on row r when it is visited
+abbrev pub askVisit : Sheet → ℕ → Stack → Refusal
+askVisit s r st =
+    if is s 23 r || is s 24 r then ask 5 r 0 (inLoop s st)
+    else if is s 21 r then ask 6 r (a s (child s r)) (not (is s 50 (child s r)) || isMutable s (lookup (a s (child s r)) st))
+    else if is s 50 r then ask (if eqb (a s r) 22 then 9 else 8) r (a s r) (isDeclared (lookup (a s r) st))
+    else if is s 55 r then ask 10 r (a s r) (isClass (lookup (a s r) st))
+    else if is s 30 r then ask 11 r (b s (a s r)) (eqb (b s (a s r)) 0 || isClass (lookup (b s (a s r)) st))
+    else if is s 51 r then ask 17 r (a s r) (eqb (a s r) 24)
+    else if is s 59 r then askCallee s r st
+    else none
+
+-- the question at a moment of the walk
+abbrev pub askEvent : Sheet → Event → Stack → Refusal
+askEvent s (enter r) st = none
+askEvent s leave st = none
+askEvent s loop st = none
+askEvent s (declare r) st = ask (if is s 29 r && not (literalLet s r) then 7 else 16) r (a s r) (not (taken (a s r) st))
+askEvent s (bring r n d) st = if isDeclared d then ask 16 r n (not (taken n st)) else ask 15 r n false
+askEvent s (visit r) st = askVisit s r st
+
+module _ (s : Sheet) (h : List Moment) where
+  -- the questions on class c and those that it climbs to; n bounds the climb
+  abbrev pub askClimb : ℕ → List ℕ → ℕ → Refusal
+  askClimb zero met c = none
+  askClimb (suc n) met c =
+      let up : Refusal = askClimb n (c ∷ met) (parentOf s h c) in
+      if not (ofSheet c) then none
+      else if c ∈? met then ask 18 (c - 256) (className s c) false
+      else if not (eqb (parentOf s h c) 0) && not (hasRecord (parentOf s h c)) then ask 19 (c - 256) (className s c) false
+      else up
+
+  -- the questions on a constructor call
+  abbrev pub askConstructor : Moment → Refusal
+  askConstructor m =
+      let r : ℕ = visited (m .event) in
+      let c : ℕ = constructed s r (m .stack) in
+      let f : ℕ = methodNamed 23 (methods s h (rows s) c) in
+      if eqb c 0 then none
+      else if eqb f 0 then ask 20 (child s r) (className s c) false
+      else ask 21 (child s r) (className s c) (eqb (arguments s r + 1) (arity s f))
+
+  -- the first question with a no: in the walk, then of the classes in row order, then of the constructor calls
+  abbrev pub refusal : Refusal
+  refusal =
+      firstNo (
+      firstNo (map (λ m. askEvent s (m .event) (m .stack)) h)
+      ∷ firstNo (map (λ r. askClimb (suc (rows s)) [] (256 + r)) (filter (is s 4) (from 0 (rows s))))
+      ∷ firstNo (map askConstructor (visits s h 59))
+      ∷ [])

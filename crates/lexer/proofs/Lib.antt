@@ -1,0 +1,2 @@
+-- Callers' proofs cite the laws.
+pub mod Laws
