@@ -43,41 +43,54 @@ receiver s r st =
 abbrev pub arguments : Sheet → ℕ → ℕ
 arguments s r = length (kids s r) - 1
 
--- the questions on the callee of call r
+-- the questions on the callee of call r, at the callee's position
 abbrev pub askCallee : Sheet → ℕ → Stack → Refusal
 askCallee s r st =
     let callee : ℕ = child s r in
     let c : ℕ = receiver s r st in
     let f : ℕ = methodNamed (a s callee) (ownMethods s c) in
+    -- 12: has a class called as a constructor a record?
     if not (eqb (constructed s r st) 0) then ask 12 callee (a s callee) (hasRecord (constructed s r st))
     else if eqb c 0 then none
+    -- 17: is a method's class none of 3 to 9?
     else if not (hasRecord c) then ask 17 callee (a s callee) false
+    -- 13: has a class with a record the method called on it? Its own ones alone
     else if eqb f 0 then ask 13 callee (a s callee) false
+    -- 14: with as many parameters as arguments?
     else ask 14 callee (a s callee) (eqb (arguments s r) (arity s f))
 
--- the question on row r when it is visited
+-- the question on row r when it is visited, at its position
 abbrev pub askVisit : Sheet → ℕ → Stack → Refusal
 askVisit s r st =
+    -- 5: does a break or continue stand in a loop?
     if is s 23 r || is s 24 r then ask 5 r 0 (inLoop s st)
+    -- 6: is an assigned identifier mutable?
     else if is s 21 r then ask 6 r (a s (child s r)) (not (is s 50 (child s r)) || isMutable s (lookup (a s (child s r)) st))
+    -- 8: is an identifier other than null declared? 9: and null?
     else if is s 50 r then ask (if eqb (a s r) 22 then 9 else 8) r (a s r) (isDeclared (lookup (a s r) st))
+    -- 10: does instanceof name a class?
     else if is s 55 r then ask 10 r (a s r) (isClass (lookup (a s r) st))
+    -- 11: does a parent name one?
     else if is s 30 r then ask 11 r (b s (a s r)) (eqb (b s (a s r)) 0 || isClass (lookup (b s (a s r)) st))
+    -- 17: is a host constant MAIN_UNIT?
     else if is s 51 r then ask 17 r (a s r) (eqb (a s r) 24)
     else if is s 59 r then askCallee s r st
     else none
 
--- the question at a moment of the walk
+-- the question at an event of the walk
 abbrev pub askEvent : Sheet → Event → Stack → Refusal
 askEvent s (enter r) st = none
 askEvent s leave st = none
 askEvent s loop st = none
+-- 7: is a let's name free in its own scope? 16: is each class, parameter and hoisted name new in its scope?
 askEvent s (declare r) st = ask (if is s 29 r && not (literalLet s r) then 7 else 16) r (a s r) (not (taken (a s r) st))
+-- 15: does the imported unit define the listed name? 16: is each import new in its scope?
 askEvent s (bring r n d) st = if isDeclared d then ask 16 r n (not (taken n st)) else ask 15 r n false
 askEvent s (visit r) st = askVisit s r st
 
 module _ (s : Sheet) (h : List Moment) where
-  -- the questions on class c and those that it climbs to; n bounds the climb
+  -- 18: is class c off every parent circle it climbs into? 19: has its parent a record? Then the same of its parent; `met` are
+  -- the classes climbed through, n bounds the climb
   abbrev pub askClimb : ℕ → List ℕ → ℕ → Refusal
   askClimb zero met c = none
   askClimb (suc n) met c =
@@ -87,7 +100,7 @@ module _ (s : Sheet) (h : List Moment) where
       else if not (eqb (parentOf s h c) 0) && not (hasRecord (parentOf s h c)) then ask 19 (c - 256) (className s c) false
       else up
 
-  -- the questions on a constructor call
+  -- 20: has the constructed class init, its own or inherited? 21: with arguments + 1 parameters? At the callee's position
   abbrev pub askConstructor : Moment → Refusal
   askConstructor m =
       let r : ℕ = visited (m .event) in
