@@ -1,0 +1,4 @@
+pub mod States
+pub mod Pass
+pub mod Apart
+pub mod Rising
