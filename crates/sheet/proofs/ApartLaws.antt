@@ -70,15 +70,15 @@ module _ (s : Sheet) (up : Rising s) where
   pub left-next : (k v : ℕ) (m : List ℕ) (c : ℕ) {x w : Bool} {u : List ℕ} {d : ℕ} → Place s c → (c ≡ 0 → ⊥) → x ≡ childUnmarked s k v m c → x ≡ true
       → (x ≡ true → u ≡ childMarked s k v m c) → d ≡ next s c → left s k v m c ≡ w → left s k v u d ≡ w
   unfolding unmarked
-  left-next k v m c p z e f g h i =
-      ap (λ (y : List ℕ). left s k v y _) (g f) ∙ ap (λ (y : ℕ). left s k v (childMarked s k v m c) y) h
+  left-next k v m c {d = d} p z e f g h i =
+      ap (λ (y : List ℕ). left s k v y d) (g f) ∙ ap (λ (y : ℕ). left s k v (childMarked s k v m c) y) h
       ∙ ap (λ (y : Bool). y && unmarked s k v (childMarked s k v m c) (chain (rows s) s (next s c))) (sym (sym e ∙ f)) ∙ sym (ap (unmarked s k v m) (list-on c p z)) ∙ i
 
   pub marks-next : (k v : ℕ) (m : List ℕ) (c : ℕ) {x : Bool} {u w : List ℕ} {d : ℕ} → Place s c → (c ≡ 0 → ⊥) → x ≡ true → (x ≡ true → u ≡ childMarked s k v m c) → d ≡ next s c
       → leftMarks s k v m c ≡ w → leftMarks s k v u d ≡ w
   unfolding marked
-  marks-next k v m c p z f g h i =
-      ap (λ (y : List ℕ). leftMarks s k v y _) (g f) ∙ ap (λ (y : ℕ). leftMarks s k v (childMarked s k v m c) y) h ∙ sym (ap (marked s k v m) (list-on c p z)) ∙ i
+  marks-next k v m c {d = d} p z f g h i =
+      ap (λ (y : List ℕ). leftMarks s k v y d) (g f) ∙ ap (λ (y : ℕ). leftMarks s k v (childMarked s k v m c) y) h ∙ sym (ap (marked s k v m) (list-on c p z)) ∙ i
 
 pub left-done : (s : Sheet) (k v : ℕ) (m : List ℕ) (c : ℕ) → c ≡ 0 → left s k v m c ≡ true
 unfolding unmarked
