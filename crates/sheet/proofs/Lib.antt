@@ -1,3 +1,7 @@
 mod Laws
 mod LinkLaws
 mod ApartLaws
+mod EntryLaws
+mod StateLaws
+mod Noting
+mod Filling

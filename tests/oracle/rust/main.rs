@@ -1,0 +1,120 @@
+//! The unchanged resolver of Plush behind the sheet of document 01. The sheet must pass questions 1 to 4.
+//!
+//!   oracle SHEET NAMES                  resolve one sheet
+//!   oracle --batch FILE                 resolve many: in FILE, for each case, a line "ID SHEETBYTES NAMEBYTES",
+//!                                       then that many bytes of each; before each answer stands "CASE ID"
+//!   oracle --time N SHEET NAMES         time resolve_syms alone, on a tree that is built
+//!   oracle --time-full N SHEET NAMES    time it all, from text to text
+//!
+//! An answer is the program's output, or one line: ERR file line column message; HOST and the same, if the host table
+//! of core methods was asked; PANIC message.
+mod answers;
+mod ast;
+mod sheet;
+mod shims;
+mod symbols;
+use shims::{alloc, host, lexer, libcore, value};
+
+use sheet::{parse_rows, Row, Sheet};
+use std::fmt::Write as _;
+use std::io::Write as _;
+use std::time::Instant;
+
+fn print_row(out: &mut String, row: &Row) {
+    for number in row {
+        write!(out, "{number:>10}").unwrap();
+    }
+    out.push('\n');
+}
+
+fn printed(sheet: &Sheet) -> String {
+    let mut prog = sheet.program();
+    if let Err(error) = prog.resolve_syms() {
+        let (word, pos) = (if libcore::take_asked() { "HOST" } else { "ERR" }, error.pos);
+        return format!("{word} {} {} {} {}\n", pos.file_id(), pos.line_no(), pos.col_no(), error.msg);
+    }
+    let rows = answers::answers(sheet, &prog);
+    let mut out = String::with_capacity(81 * (rows.len() + 1));
+    print_row(&mut out, &[0, 0, 0, 0, 0, rows.len() as u32, prog.num_globals, 0]);
+    rows.iter().for_each(|row| print_row(&mut out, row));
+    out
+}
+
+fn resolve(sheet: &[u8], names: &[u8]) -> String {
+    let sheet = Sheet::new(parse_rows(sheet), names);
+    std::panic::catch_unwind(|| printed(&sheet)).unwrap_or_else(|panic| {
+        let message = match panic.downcast_ref::<String>() {
+            Some(message) => message,
+            None => *panic.downcast_ref::<&str>().unwrap(),
+        };
+        format!("PANIC {}\n", message.replace('\n', " "))
+    })
+}
+
+fn batch(path: &str) {
+    let data = std::fs::read(path).unwrap();
+    let mut rest = &data[..];
+    let mut out = std::io::stdout().lock();
+    while let Some(end) = rest.iter().position(|&b| b == 10) {
+        let head: Vec<&str> = std::str::from_utf8(&rest[..end]).unwrap().split(' ').collect();
+        let (sheet, after) = rest[end + 1..].split_at(head[1].parse().unwrap());
+        let (names, after) = after.split_at(head[2].parse().unwrap());
+        write!(out, "CASE {}\n{}", head[0], resolve(sheet, names)).unwrap();
+        rest = after;
+    }
+}
+
+fn time(what: &str, count: usize, mut once: impl FnMut() -> u64) {
+    let mut times: Vec<u64> = (0..count).map(|_| once()).collect();
+    times.sort();
+    let mean = times.iter().sum::<u64>() / count as u64;
+    println!("{what}: {count} times, mean {mean} ns, median {} ns, least {} ns", times[count / 2], times[0]);
+}
+
+fn time_resolve(count: usize, sheet: &[u8], names: &[u8]) {
+    let tree = Sheet::new(parse_rows(sheet), names).program();
+    time("resolve_syms", count, || {
+        let mut prog = tree.clone();
+        let start = Instant::now();
+        let result = prog.resolve_syms();
+        let elapsed = start.elapsed().as_nanos() as u64;
+        std::hint::black_box(&result);
+        elapsed
+    });
+}
+
+fn time_full(count: usize, sheet: &[u8], names: &[u8]) {
+    time("text to text", count, || {
+        let start = Instant::now();
+        std::hint::black_box(resolve(sheet, names));
+        start.elapsed().as_nanos() as u64
+    });
+}
+
+fn run() {
+    let args: Vec<String> = std::env::args().skip(1).collect();
+    let args: Vec<&str> = args.iter().map(|arg| arg.as_str()).collect();
+    let read = |path| std::fs::read(path).unwrap();
+    match args[..] {
+        ["--batch", file] => batch(file),
+        ["--time", count, sheet, names] => time_resolve(count.parse().unwrap(), &read(sheet), &read(names)),
+        ["--time-full", count, sheet, names] => time_full(count.parse().unwrap(), &read(sheet), &read(names)),
+        [sheet, names] => print!("{}", resolve(&read(sheet), &read(names))),
+        _ => panic!("the ways to call it stand at the head of main.rs"),
+    }
+}
+
+/// A deep tree wants a large stack. Panics of the resolver are answers, so they are not printed.
+fn main() {
+    let silent_in_resolver = |info: &std::panic::PanicHookInfo| {
+        let in_resolver = info.location().is_some_and(|at| !at.file().ends_with("main.rs"));
+        if !in_resolver {
+            eprintln!("oracle: {info}");
+        }
+    };
+    std::panic::set_hook(Box::new(silent_in_resolver));
+    let thread = std::thread::Builder::new().stack_size(256 << 20).spawn(run).unwrap();
+    if thread.join().is_err() {
+        std::process::exit(2);
+    }
+}
