@@ -5,3 +5,7 @@ mod EntryLaws
 mod StateLaws
 mod Noting
 mod Filling
+mod Clauses
+mod Declaring
+mod Unlike
+mod Question3
