@@ -21,6 +21,7 @@ use Rattle.definition.proofs.Format.Tables.{table-length}
 use Rattle.definition.proofs.Format.Tree.{class-declared, declared-once}
 use Rattle.sheet.specs.Pass.{rowIn, entryIn, columnsOk, plainOk, functionOk, endsOk, newOk, rowAsked, rowOk, noteRow, rowsOk, rowsNoted, literalOk, declarationOk, classOk, methodOk, crossOk, depthOk}
 use Rattle.sheet.specs.Apart.{allUnmarked}
+use Rattle.sheet.specs.Whole.{linksOk, rowsAll}
 use Rattle.sheet.proofs.Filling.{Entered, Listed, Waiting, Reached, Below, Filled, filled-none, filled-more, linked-below, function-top, class-top}
 use Rattle.sheet.proofs.Clauses.{imp-of, columns-are, plain-gives, gives-plain, function-gives, gives-function, ends-give, give-ends}
 use Rattle.sheet.proofs.Declaring.{Declared, none, by, declared-none, declared-more, new-gives, gives-new, count-one}
@@ -477,3 +478,107 @@ module _ (s : Sheet) (t : List ℕ) (ok : LinkFacts s) (top : kind s 0 ≡ 0) (s
             classes = class-yes i l;
             methods = method-yes i l;
           }))
+
+-- Question 3 as a whole.
+abbrev Yes : ℕ → Sheet → List ℕ → List ℕ → Type 0
+Yes last s t m = T (linksOk s) × T (rowsAll s last t m)
+
+module _ (last : ℕ) (s : Sheet) (t m : List ℕ) (some : 0 < rows s) (few : rows s ≤ 2048) (long : 8 * rows s ≤ length t) (zeros : (k c : ℕ) → word t k c ≡ 0)
+    (fresh : Under m 1) (wide : last < length m) where
+  record Links : Type 0 where
+    heads : T (headerFirst s)
+    main : T (mainMarked s)
+    rise : (r : ℕ) → r < rows s → T (linksRise s r)
+    once : (r : ℕ) → r < rows s → T (linkedOnce (links s) r)
+
+  links-of : T (linksOk s) → Links
+  unfolding linksOk
+  links-of h =
+      let q1 = T-and (headerFirst s) (mainMarked s && (all (linksRise s) (from 0 (rows s)) && all (linkedOnce (links s)) (from 0 (rows s)))) h in
+      let q2 = T-and (mainMarked s) (all (linksRise s) (from 0 (rows s)) && all (linkedOnce (links s)) (from 0 (rows s))) (q1 .1) in
+      let q3 = T-and (all (linksRise s) (from 0 (rows s))) (all (linkedOnce (links s)) (from 0 (rows s))) (q2 .1) in
+      record { heads = q1 .0; main = q2 .0; rise = all-below (linksRise s) (rows s) (q3 .0); once = all-below (linkedOnce (links s)) (rows s) (q3 .1) }
+
+  of-links : SheetFacts last s → T (linksOk s)
+  unfolding linksOk
+  of-links f =
+      and-both (headerFirst s) (mainMarked s && (all (linksRise s) (from 0 (rows s)) && all (linkedOnce (links s)) (from 0 (rows s)))) (f .header)
+      (and-both (mainMarked s) (all (linksRise s) (from 0 (rows s)) && all (linkedOnce (links s)) (from 0 (rows s))) (f .main)
+      (and-both (all (linksRise s) (from 0 (rows s))) (all (linkedOnce (links s)) (from 0 (rows s)))
+      (all-of (linksRise s) 0 (rows s) (λ i p q. f .row i (omega arith) .rise)) (all-of (linkedOnce (links s)) 0 (rows s) (λ i p q. f .row i (omega arith) .once))))
+
+  -- what links that are right say
+  right : Links → LinkFacts s
+  right q =
+      record {
+        header-next = eqb→eq (next s 0) 0 (T-and (is s 0 0) (eqb (next s 0) 0) (q .heads) .1);
+        nexts = λ r l. link-rises s r (next s r) (T-and (linkRises s r (next s r)) (linkRises s r (child s r)) (q .rise r l) .0);
+        children = λ r l. link-rises s r (child s r) (T-and (linkRises s r (next s r)) (linkRises s r (child s r)) (q .rise r l) .1);
+        once = λ r z l. pick r z (or-cases (eqb r 0) (eqb (count (eqb r) (links s)) 1) (q .once r l));
+      }
+    where
+      pick : (r : ℕ) → 0 < r → T (eqb r 0) ⊎ T (eqb (count (eqb r) (links s)) 1) → count (eqb r) (links s) ≡ 1
+      pick r z (inl x) = absurd (omega (arith, eqb→eq r 0 x))
+      pick r z (inr x) = eqb→eq (count (eqb r) (links s)) 1 x
+
+  top-of : Links → kind s 0 ≡ 0
+  top-of q = eqb→eq (kind s 0) 0 (T-and (is s 0 0) (eqb (next s 0) 0) (q .heads) .0)
+
+  -- the facts that the walks over child lists need
+  pub links-right : T (linksOk s) → LinkFacts s
+  links-right h = right (links-of h)
+
+  asked-fits : Yes last s t m → SheetFacts last s
+  unfolding rowsAll
+  asked-fits h =
+      let q : Links = links-of (h .0) in
+      let q1 = T-and (rowsOk s last (rows s) 0 t) (allUnmarked s (rows s) 0 m && all (crossOk s (rowsNoted s (rows s) 0 t)) (from 0 (rows s))) (h .1) in
+      let q2 = T-and (allUnmarked s (rows s) 0 m) (all (crossOk s (rowsNoted s (rows s) 0 t)) (from 0 (rows s))) (q1 .1) in
+      all-clauses s t (right q) (top-of q) some few long zeros last m fresh wide (q .heads) (q .main) (q .rise) (q .once) (q1 .0) (q2 .0)
+      (subst (λ (u : List ℕ). T (all (crossOk s u) (from 0 (rows s)))) (noted-whole s t (rows s)) (q2 .1))
+
+  fits-asked : SheetFacts last s → Yes last s t m
+  unfolding rowsAll
+  fits-asked f =
+      let ok : LinkFacts s = link-facts last s f in
+      let top : kind s 0 ≡ 0 = eqb→eq (kind s 0) 0 (T-and (is s 0 0) (eqb (next s 0) 0) (f .header) .0) in
+      (of-links f,
+      and-both (rowsOk s last (rows s) 0 t) (allUnmarked s (rows s) 0 m && all (crossOk s (rowsNoted s (rows s) 0 t)) (from 0 (rows s)))
+      (rows-yes s t ok top some few long zeros last m fresh wide f)
+      (and-both (allUnmarked s (rows s) 0 m) (all (crossOk s (rowsNoted s (rows s) 0 t)) (from 0 (rows s))) (names-yes s t ok top some few long zeros last m fresh wide f)
+      (subst (λ (u : List ℕ). T (all (crossOk s u) (from 0 (rows s)))) (sym (noted-whole s t (rows s))) (cross-yes s t ok top some few long zeros last m fresh wide f))))
+
+  same-test : (x y : Bool) → (T x → T y) → (T y → T x) → x ≡ y
+  same-test true true f g = refl
+  same-test true false f g = absurd (f tt)
+  same-test false true f g = absurd (g tt)
+  same-test false false f g = refl
+
+  pub question-3 : (linksOk s && rowsAll s last t m) ≡ sheetFits last s
+  question-3 =
+      same-test (linksOk s && rowsAll s last t m) (sheetFits last s) (λ h. T-true (sheetFits last s) (sheet-fits last s (asked-fits (T-and (linksOk s) (rowsAll s last t m) h))))
+      (λ h. let q = fits-asked (sheet-facts last s h) in and-both (linksOk s) (rowsAll s last t m) (q .0) (q .1))
+
+  -- question 4, of a sheet that fits
+  all-places : (p : ℕ → Bool) (xs : List ℕ) → ((i : ℕ) → i < length xs → T (p (getD xs i 0))) → T (all p xs)
+  all-places p [] f = tt
+  all-places p (x ∷ xs) f = and-both (p x) (all p xs) (f 0 (omega arith)) (all-places p xs (λ i h. f (suc i) (omega arith)))
+
+  places-all : (p : ℕ → Bool) (xs : List ℕ) → T (all p xs) → (i : ℕ) → i < length xs → T (p (getD xs i 0))
+  places-all p [] h i l = absurd (omega arith)
+  places-all p (x ∷ xs) h zero l = T-and (p x) (all p xs) h .0
+  places-all p (x ∷ xs) h (suc i) l = places-all p xs (T-and (p x) (all p xs) h .1) i (omega arith)
+
+  depths-long : length (tables s .depths) ≡ rows s
+  depths-long = table-length (depthEntry s (parentTable s)) (rows s)
+
+  pub question-4 : sheetFits last s ≡ true → all (depthOk (rowsNoted s (rows s) 0 t)) (from 0 (rows s)) ≡ depthsFit s
+  unfolding depthOk
+  question-4 h =
+      let f : SheetFacts last s = sheet-facts last s (T-true (sheetFits last s) h) in
+      let ok : LinkFacts s = link-facts last s f in
+      let top : kind s 0 ≡ 0 = eqb→eq (kind s 0) 0 (T-and (is s 0 0) (eqb (next s 0) 0) (f .header) .0) in
+      let e : (i : ℕ) → i < rows s → word (rowsNoted s (rows s) 0 t) i 1 ≡ at (tables s .depths) i = λ i l. ap (λ (u : List ℕ). word u i 1) (noted-whole s t (rows s)) ∙ entered s t ok top some few long zeros i l .depth in
+      same-test (all (depthOk (rowsNoted s (rows s) 0 t)) (from 0 (rows s))) (depthsFit s)
+      (λ g. all-places (λ d. leb d 64) (tables s .depths) (λ i l. let b : i < rows s = omega (arith, depths-long) in subst (λ (d : ℕ). T (leb d 64)) (e i b) (all-below (depthOk (rowsNoted s (rows s) 0 t)) (rows s) g i b)))
+      (λ g. all-of (depthOk (rowsNoted s (rows s) 0 t)) 0 (rows s) (λ i p q. let b : i < rows s = omega arith in subst (λ (d : ℕ). T (leb d 64)) (sym (e i b)) (places-all (λ d. leb d 64) (tables s .depths) g i (omega (arith, depths-long)))))

@@ -2,3 +2,4 @@ pub mod States
 pub mod Pass
 pub mod Apart
 pub mod Rising
+pub mod Whole
