@@ -1,5 +1,5 @@
 -- The walk over a child list that marks names, and the pass over all rows that asks for it.
-use mathlib.Core.Path.{_≡_, refl, sym, ap, _∙_, subst}
+use mathlib.Core.Path.{_≡_, refl, sym, ap, _∙_}
 use mathlib.Core.Logic.{_⊎_, inl, inr}
 use mathlib.Core.List.{List, [], _∷_}
 use mathlib.Core.Bool.{Bool, true, false, _&&_}
@@ -8,7 +8,7 @@ use native.Mathlib.Omega.{arith}
 use lib.Dec.{eqb}
 use borrow.Author.Tests.{ne-eqb}
 use Rattle.definition.specs.Basics.{if_then_else_}
-use Rattle.definition.specs.Sheet.{Sheet, next, child, rows, chain, kids}
+use Rattle.definition.specs.Sheet.{Sheet, next, child, rows, chain}
 use Rattle.definition.proofs.Format.Links.{Rises}
 use Rattle.definition.proofs.Format.Passes.{chain-on}
 use Rattle.sheet.specs.Rising.{Rising}

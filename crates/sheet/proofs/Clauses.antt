@@ -3,21 +3,20 @@ use mathlib.Core.Path.{_≡_, refl, sym, ap, _∙_, subst}
 use mathlib.Core.Logic.{_⊎_, inl, inr}
 use mathlib.Core.Bool.{Bool, true, false, not, _&&_, _||_}
 use mathlib.Core.List.{List, [], _∷_, map}
-use Prim.Native.Nat.{ℕ, zero, suc, _+_, _-_, _*_, _<_, _≤_}
+use Prim.Native.Nat.{ℕ, zero, suc, _<_, _≤_}
 use native.Mathlib.Omega.{arith}
 use lib.Dec.{eqb, leb, ltb, T, T-not, not-T, eqb→eq, ltb→lt, lt→ltb, leb→le, le→leb}
-use lib.ListN.{length, getD}
 use Rattle.definition.specs.Basics.{if_then_else_, _⇒_, bit}
-use Rattle.definition.specs.Sheet.{Sheet, word, kind, next, child, file, a, b, rows, chain, kids, is, holder}
-use Rattle.definition.specs.Shape.{Column, holds, Part, one, only, fits, rest, mayEnd, never, shapeOf}
-use Rattle.definition.specs.Format.{tables, parent, fileFits, constantFits, columnsFit, childrenFit, unitMarked, unitBody, methodNamed, ofUnit, ofClass}
-use Rattle.definition.proofs.Lists.Tests.{T-and, and-both, or-cases, or-left, or-right, decide, eqb-of, T-imp, kind-apart, if-true, if-false, ℕ-trichotomy}
-use Rattle.definition.proofs.Format.Links.{LinkFacts, held, parent-is, next-held}
+use Rattle.definition.specs.Sheet.{Sheet, kind, next, child, file, a, b, rows, chain, kids, is, holder}
+use Rattle.definition.specs.Shape.{Column, holds, one, only, fits, rest, mayEnd, never, shapeOf}
+use Rattle.definition.specs.Format.{tables, parent, fileFits, constantFits, columnsFit, childrenFit, unitMarked, unitBody, methodNamed}
+use Rattle.definition.proofs.Lists.Tests.{T-and, and-both, or-cases, or-left, or-right, decide, eqb-of, T-imp, kind-apart, ℕ-trichotomy}
+use Rattle.definition.proofs.Format.Links.{LinkFacts, parent-is}
 use Rattle.definition.proofs.Format.Passes.{chain-on}
 use Rattle.sheet.specs.States.{entryOf, kindTable, stateAt, ruleAt}
 use Rattle.sheet.specs.Pass.{rowIn, columnsOk, plainOk, functionOk, stateAfter, endsIn, endsOk}
 use Rattle.sheet.proofs.StateLaws.{kind-is, after-is, ends-is}
-use Rattle.sheet.proofs.Filling.{Entered, Listed, leftFits}
+use Rattle.sheet.proofs.Filling.{leftFits}
 
 pub imp-of : (x y : Bool) → (T x → T y) → T (x ⇒ y)
 imp-of true y f = f tt
@@ -36,9 +35,11 @@ below-two n h g = omega (arith, ltb→lt n 2 h, leb→le 2 n g)
 pub plain-gives : (s : Sheet) (r : ℕ) → T (plainOk s (rowIn s r)) → T (fileFits s r) × T (constantFits s r)
 unfolding plainOk
 plain-gives s r h =
-    let q = T-and (ltb (file s r) 262144) (not (is s 29 r) || (ltb (b s r) 2 || not (is s 52 (child s r)))) h in
-    (q .0, imp-of (is s 29 r && leb 2 (b s r)) (not (is s 52 (child s r))) (λ g. let w = T-and (is s 29 r) (leb 2 (b s r)) g in
-    go w (or-cases (not (is s 29 r)) (ltb (b s r) 2 || not (is s 52 (child s r))) (q .1))))
+    let q = T-and (ltb (file s r) 262144) (not (is s 29 r) || (ltb (b s r) 2 || not (is s 52 (child s r)))) h in (
+      q .0,
+      imp-of (is s 29 r && leb 2 (b s r)) (not (is s 52 (child s r))) (λ g. let w = T-and (is s 29 r) (leb 2 (b s r)) g in
+          go w (or-cases (not (is s 29 r)) (ltb (b s r) 2 || not (is s 52 (child s r))) (q .1))),
+    )
   where
     last : T (leb 2 (b s r)) → T (ltb (b s r) 2) ⊎ T (not (is s 52 (child s r))) → T (not (is s 52 (child s r)))
     last w (inl x) = absurd (below-two (b s r) x w)
@@ -213,9 +214,10 @@ module _ (s : Sheet) (ok : LinkFacts s) (top : kind s 0 ≡ 0) (r : ℕ) (l : r 
       → (child s r ≡ 0 → T (childrenFit s r)) × (0 < r → next s r ≡ 0 → T (childrenFit s (holder s r)))
   unfolding endsOk
   ends-give q low g h =
-      let w = T-and (not (eqb (child s r) 0) || endsIn (entryOf kindTable (kind s r) 1)) (eqb r 0 || (not (eqb (next s r) 0) || endsIn (stateAfter q (kind s r)))) h in
-      (λ e. first e (or-cases (not (eqb (child s r) 0)) (endsIn (entryOf kindTable (kind s r) 1)) (w .0)),
-      λ z e. second z e (or-cases (eqb r 0) (not (eqb (next s r) 0) || endsIn (stateAfter q (kind s r))) (w .1)))
+      let w = T-and (not (eqb (child s r) 0) || endsIn (entryOf kindTable (kind s r) 1)) (eqb r 0 || (not (eqb (next s r) 0) || endsIn (stateAfter q (kind s r)))) h in (
+        λ e. first e (or-cases (not (eqb (child s r) 0)) (endsIn (entryOf kindTable (kind s r) 1)) (w .0)),
+        λ z e. second z e (or-cases (eqb r 0) (not (eqb (next s r) 0) || endsIn (stateAfter q (kind s r))) (w .1)),
+      )
     where
       first : child s r ≡ 0 → T (not (eqb (child s r) 0)) ⊎ T (endsIn (entryOf kindTable (kind s r) 1)) → T (childrenFit s r)
       first e (inl x) = absurd (T-not (eqb (child s r) 0) x (eqb-of (child s r) 0 e))

@@ -1,15 +1,15 @@
 -- Word 7 of a class: the row that declares it.
 use mathlib.Core.Path.{_≡_, refl, sym, ap, _∙_, subst}
 use mathlib.Core.Logic.{_⊎_, inl, inr}
-use mathlib.Core.Bool.{Bool, true, false, not, _&&_, _||_}
+use mathlib.Core.Bool.{Bool, true, false, not, _||_}
 use mathlib.Core.List.{List}
 use Prim.Native.Nat.{ℕ, zero, suc, _+_, _*_, _<_, _≤_}
 use native.Mathlib.Omega.{arith}
-use lib.Dec.{eqb, T, T-not, not-T, eqb→eq}
+use lib.Dec.{eqb, T, T-not, eqb→eq}
 use lib.ListN.{length}
 use Rattle.definition.specs.Basics.{bit, count, from}
-use Rattle.definition.specs.Sheet.{Sheet, word, kind, a, rows, is}
-use Rattle.definition.proofs.Lists.Tests.{T-and, and-both, or-cases, or-left, or-right, decide, eqb-of, bit-not, ℕ-trichotomy}
+use Rattle.definition.specs.Sheet.{Sheet, word, kind, a, is}
+use Rattle.definition.proofs.Lists.Tests.{or-cases, or-left, or-right, decide, eqb-of, bit-not, ℕ-trichotomy}
 use Rattle.definition.proofs.Lists.Members.{count-append}
 use Rattle.definition.proofs.Format.Passes.{from-suc}
 use Rattle.sheet.specs.Pass.{rowIn, newOk, noteRow}

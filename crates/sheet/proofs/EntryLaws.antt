@@ -1,17 +1,13 @@
 -- Words of the table after its entries were written.
-use mathlib.Core.Path.{_≡_, refl, sym, ap, _∙_, subst}
-use mathlib.Core.Bool.{Bool, true, false}
+use mathlib.Core.Path.{_≡_, _∙_}
 use mathlib.Core.List.{List}
 use Prim.Native.Nat.{ℕ, _+_, _*_, _<_, _≤_}
 use native.Mathlib.Omega.{arith}
-use lib.Dec.{eqb}
-use lib.ListN.{length, getD, set, length-set}
+use lib.ListN.{length, set, length-set}
 use lib.Seq.{getD-set-same, getD-set-other}
-use Rattle.definition.specs.Basics.{if_then_else_}
-use Rattle.definition.specs.Sheet.{Sheet, word}
-use Rattle.sheet.specs.declared.row.Row.{Row}
+use Rattle.definition.specs.Sheet.{word}
 use Rattle.sheet.specs.declared.row.Entry.{Entry}
-use Rattle.sheet.specs.Pass.{putEntry, noteNext, noteChild, noteOwn, noteDeclared, nextEntry, childEntry, unitHere, classHere}
+use Rattle.sheet.specs.Pass.{putEntry}
 
 pub word-same : (t : List ℕ) (r c v : ℕ) → 8 * r + c < length t → word (set t (8 * r + c) v) r c ≡ v
 word-same t r c v h = getD-set-same t (8 * r + c) v 0 h

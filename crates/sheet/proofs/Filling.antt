@@ -3,21 +3,21 @@
 use mathlib.Core.Path.{_≡_, refl, sym, ap, _∙_, subst}
 use mathlib.Core.Logic.{_⊎_, inl, inr}
 use mathlib.Core.Bool.{Bool, true, false, _&&_}
-use mathlib.Core.List.{List, [], _∷_, map}
+use mathlib.Core.List.{List, [], map}
 use Prim.Native.Nat.{ℕ, zero, suc, _+_, _*_, _<_, _≤_, min}
 use native.Mathlib.Omega.{arith}
-use lib.Dec.{eqb, T, eqb→eq}
-use lib.ListN.{length, getD}
+use lib.Dec.{eqb}
+use lib.ListN.{length}
 use Rattle.definition.specs.Basics.{if_then_else_}
-use Rattle.definition.specs.Sheet.{Sheet, word, kind, next, child, a, rows, chain, kids, is, holder}
-use Rattle.definition.specs.Shape.{Part, fits, rest, mayEnd, shapeOf}
+use Rattle.definition.specs.Sheet.{Sheet, word, kind, next, child, rows, chain, is, holder}
+use Rattle.definition.specs.Shape.{Part, fits}
 use Rattle.definition.specs.Format.{tables, at, parentTable, unitEntry, functionEntry, classEntry, unit, function, class, childrenFit}
 use Rattle.definition.proofs.Lists.Tests.{ℕ-trichotomy}
 use Rattle.definition.proofs.Format.Links.{Rises, LinkFacts, next-one, child-one, next-not-child, linker, held, header-held, parent-is, depth-header, depth-step, unit-step, function-step, class-step, child-held, next-held}
 use Rattle.definition.proofs.Format.Tables.{table-at}
 use Rattle.definition.proofs.Format.Passes.{chain-on}
 use Rattle.sheet.specs.States.{entryOf, kindTable, stateAt}
-use Rattle.sheet.specs.Pass.{stateAfter, noteRow, unitHere, classHere, childEntry, nextEntry, entryIn}
+use Rattle.sheet.specs.Pass.{stateAfter, noteRow, unitHere, classHere, entryIn}
 use Rattle.sheet.proofs.StateLaws.{kind-is, after-is}
 use Rattle.sheet.proofs.Noting.{NotLinked, length-noted, stays-row, stays-column, own-unit, own-class, child-parent, child-depth, child-unit, child-fun, child-class, child-state, next-parent, next-depth, next-unit, next-fun, next-class, next-state}
 

@@ -9,3 +9,4 @@ mod Clauses
 mod Declaring
 mod Unlike
 mod Question3
+mod Asking

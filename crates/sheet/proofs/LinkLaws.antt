@@ -1,17 +1,17 @@
 -- The two passes over the links: do all rise, and is every row but 0 linked exactly once?
-use mathlib.Core.Path.{_≡_, refl, sym, ap, _∙_, subst}
+use mathlib.Core.Path.{_≡_, sym, ap, _∙_, subst}
 use mathlib.Core.Bool.{Bool, true, false, _&&_, _||_}
-use Prim.Native.Nat.{ℕ, suc, _+_, _*_, _/_, _<_, _≤_, zero}
+use Prim.Native.Nat.{ℕ, suc, _+_, _*_, _<_, _≤_}
 use native.Mathlib.Omega.{arith}
-use lib.Dec.{eqb, ltb, T, eqb→eq, eqb-refl}
+use lib.Dec.{eqb, ltb, T}
 use lib.ListN.{length, getD, set, length-set}
 use Rattle.definition.specs.Basics.{all, from, if_then_else_, bit, count, concatMap}
 use Rattle.definition.specs.Sheet.{Sheet, next, child, rows}
 use Rattle.definition.specs.Format.{linksRise, linkRises, linkedOnce, links}
-use Rattle.definition.proofs.Lists.Tests.{T-true, true-of, T-and, or-cases, ℕ-trichotomy}
+use Rattle.definition.proofs.Lists.Tests.{T-true, true-of, T-and, ℕ-trichotomy}
 use Rattle.definition.proofs.Format.Passes.{all-fails, all-of, linkedTo, linked-suc}
 use mathlib.Core.Logic.{_⊎_, inl, inr}
-use mathlib.Core.List.{List, [], _∷_, _++_}
+use mathlib.Core.List.{List, [], _∷_}
 use native.Mathlib.Numerals.{add-one}
 use lib.Seq.{getD-set-same, getD-set-other}
 use borrow.Author.Tests.{eq-eqb, ne-eqb}
@@ -43,10 +43,10 @@ module _ (s : Sheet) (n : ℕ) (size : length s ≡ 8 * n) where
 
 -- `seen` counts the links from the rows below r
 pub record Counted (s : Sheet) (n r : ℕ) (seen : List ℕ) : Type 0 where
-  pub size : length seen ≡ n
+  pub size : n ≤ length seen
   pub here : (k : ℕ) → k < n → getD seen k 0 ≡ linkedTo s r k
 
-pub counted-none : (s : Sheet) (n : ℕ) (seen : List ℕ) → length seen ≡ n → ((k : ℕ) → k < n → getD seen k 0 ≡ 0) → Counted s n 0 seen
+pub counted-none : (s : Sheet) (n : ℕ) (seen : List ℕ) → n ≤ length seen → ((k : ℕ) → k < n → getD seen k 0 ≡ 0) → Counted s n 0 seen
 counted-none s n seen e f = record { size = e; here = f }
 
 count-le : (p : ℕ → Bool) (xs : List ℕ) → count p xs ≤ length xs
@@ -91,9 +91,9 @@ more-at seen x k l = go (ℕ-trichotomy k x)
 
 pub counted-more : (s : Sheet) (n r : ℕ) (seen : List ℕ) → Counted s n r seen → next s r < n → child s r < n → Counted s n (suc r) (more (more seen (next s r)) (child s r))
 counted-more s n r seen c ln lc =
-    let z : length (more seen (next s r)) ≡ n = length-set seen (next s r) (getD seen (next s r) 0 + 1) ∙ c .size in
+    let z : n ≤ length (more seen (next s r)) = omega (arith, length-set seen (next s r) (getD seen (next s r) 0 + 1), c .size) in
     record {
-      size = length-set (more seen (next s r)) (child s r) (getD (more seen (next s r)) (child s r) 0 + 1) ∙ z;
+      size = omega (arith, length-set (more seen (next s r)) (child s r) (getD (more seen (next s r)) (child s r) 0 + 1), z);
       here = λ k l.
           more-at (more seen (next s r)) (child s r) k (omega (arith, z))
           ∙ go (eqb k (next s r)) (eqb k (child s r)) (getD seen k 0) (getD (more seen (next s r)) k 0) (linkedTo s r k) (c .here k l) (more-at seen (next s r) k (omega (arith, c .size)))

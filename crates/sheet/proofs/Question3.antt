@@ -5,24 +5,24 @@ use mathlib.Core.Bool.{Bool, true, false, not, _&&_, _||_}
 use mathlib.Core.List.{List, [], _∷_, List·Memᴰ as Mem}
 use Prim.Native.Nat.{ℕ, zero, suc, _+_, _*_, _<_, _≤_}
 use native.Mathlib.Omega.{arith}
-use lib.Dec.{eqb, leb, ltb, T, T-not, not-T, eqb→eq, ltb→lt, lt→ltb, leb→le}
+use lib.Dec.{eqb, leb, ltb, T, T-not, not-T, eqb→eq, ltb→lt, leb→le}
 use lib.ListN.{length, getD}
-use Rattle.definition.specs.Basics.{if_then_else_, _⇒_, all, count, from, _∈?_}
+use Rattle.definition.specs.Basics.{if_then_else_, _⇒_, all, count, from}
 use Rattle.definition.specs.Sheet.{Sheet, word, kind, next, child, a, b, rows, kids, is, holder}
 use Rattle.definition.specs.Shape.{holds, shapeOf}
 use Rattle.definition.specs.Format.{tables, at, parent, unit, function, class, depthEntry, parentTable, headerFirst, mainMarked, linksRise, linkRises, linkedOnce, links, columnsFit, fileFits, constantFits, childrenFit, unitApart, classApart, unitMarked, unitBody, methodNamed, literalClass, declaredOnce, declaredInUnit, declaredAfter, sheetFits, depthsFit}
-use Rattle.definition.proofs.Lists.Tests.{T-and, and-both, or-cases, or-left, or-right, decide, eqb-of, T-imp, T-true, true-of, if-true, if-false, ℕ-trichotomy}
+use Rattle.definition.proofs.Lists.Tests.{T-and, and-both, or-cases, or-left, or-right, decide, eqb-of, T-imp, T-true, ℕ-trichotomy}
 use Rattle.definition.proofs.Lists.Counts.{all-below}
 use Rattle.definition.proofs.Lists.Members.{mem-test}
-use Rattle.definition.proofs.Format.Links.{LinkFacts, held, holder-of, kid-bounds, parent-is, next-held, child-held, function-step, class-step}
+use Rattle.definition.proofs.Format.Links.{LinkFacts, held, kid-bounds, parent-is, next-held, child-held, function-step, class-step}
 use Rattle.definition.proofs.Format.Facts.{SheetFacts, RowFacts, sheet-facts, link-rises, link-facts}
 use Rattle.definition.proofs.Format.Passes.{all-of, sheet-fits}
 use Rattle.definition.proofs.Format.Tables.{table-length}
 use Rattle.definition.proofs.Format.Tree.{class-declared, declared-once}
-use Rattle.sheet.specs.Pass.{rowIn, entryIn, columnsOk, plainOk, functionOk, endsOk, newOk, rowAsked, rowOk, noteRow, rowsOk, rowsNoted, literalOk, declarationOk, classOk, methodOk, crossOk, depthOk}
+use Rattle.sheet.specs.Pass.{rowIn, columnsOk, plainOk, functionOk, endsOk, newOk, rowAsked, rowOk, noteRow, rowsOk, rowsNoted, literalOk, declarationOk, classOk, methodOk, crossOk, depthOk}
 use Rattle.sheet.specs.Apart.{allUnmarked}
 use Rattle.sheet.specs.Whole.{linksOk, rowsAll}
-use Rattle.sheet.proofs.Filling.{Entered, Listed, Waiting, Reached, Below, Filled, filled-none, filled-more, linked-below, function-top, class-top}
+use Rattle.sheet.proofs.Filling.{Entered, Listed, Reached, Below, Filled, filled-none, filled-more, linked-below, function-top, class-top}
 use Rattle.sheet.proofs.Clauses.{imp-of, columns-are, plain-gives, gives-plain, function-gives, gives-function, ends-give, give-ends}
 use Rattle.sheet.proofs.Declaring.{Declared, none, by, declared-none, declared-more, new-gives, gives-new, count-one}
 use Rattle.sheet.proofs.Unlike.{Under, rows-give, give-rows}
@@ -541,12 +541,13 @@ module _ (last : ℕ) (s : Sheet) (t m : List ℕ) (some : 0 < rows s) (few : ro
   unfolding rowsAll
   fits-asked f =
       let ok : LinkFacts s = link-facts last s f in
-      let top : kind s 0 ≡ 0 = eqb→eq (kind s 0) 0 (T-and (is s 0 0) (eqb (next s 0) 0) (f .header) .0) in
-      (of-links f,
-      and-both (rowsOk s last (rows s) 0 t) (allUnmarked s (rows s) 0 m && all (crossOk s (rowsNoted s (rows s) 0 t)) (from 0 (rows s)))
-      (rows-yes s t ok top some few long zeros last m fresh wide f)
-      (and-both (allUnmarked s (rows s) 0 m) (all (crossOk s (rowsNoted s (rows s) 0 t)) (from 0 (rows s))) (names-yes s t ok top some few long zeros last m fresh wide f)
-      (subst (λ (u : List ℕ). T (all (crossOk s u) (from 0 (rows s)))) (sym (noted-whole s t (rows s))) (cross-yes s t ok top some few long zeros last m fresh wide f))))
+      let top : kind s 0 ≡ 0 = eqb→eq (kind s 0) 0 (T-and (is s 0 0) (eqb (next s 0) 0) (f .header) .0) in (
+        of-links f,
+        and-both (rowsOk s last (rows s) 0 t) (allUnmarked s (rows s) 0 m && all (crossOk s (rowsNoted s (rows s) 0 t)) (from 0 (rows s)))
+            (rows-yes s t ok top some few long zeros last m fresh wide f)
+            (and-both (allUnmarked s (rows s) 0 m) (all (crossOk s (rowsNoted s (rows s) 0 t)) (from 0 (rows s))) (names-yes s t ok top some few long zeros last m fresh wide f)
+            (subst (λ (u : List ℕ). T (all (crossOk s u) (from 0 (rows s)))) (sym (noted-whole s t (rows s))) (cross-yes s t ok top some few long zeros last m fresh wide f))),
+      )
 
   same-test : (x y : Bool) → (T x → T y) → (T y → T x) → x ≡ y
   same-test true true f g = refl

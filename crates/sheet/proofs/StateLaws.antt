@@ -1,19 +1,18 @@
 -- The tables by kind and state say what the definition's shapes say: each by one test that is computed over the table.
 use mathlib.Core.Path.{_≡_, refl, sym, ap, _∙_, subst}
 use mathlib.Core.Logic.{_⊎_, inl, inr}
-use mathlib.Core.List.{List, [], _∷_, map}
+use mathlib.Core.List.{List, [], _∷_}
 use mathlib.Core.Bool.{Bool, true, false, not, _&&_}
-use Prim.Native.Nat.{ℕ, zero, suc, _+_, _<_, _≤_}
+use Prim.Native.Nat.{ℕ, _+_, _<_, _≤_}
 use native.Mathlib.Omega.{arith}
-use lib.ListN.{length, getD, List·getD-eq-default}
-use lib.Dec.{eqb, leb, ltb, T, eqb→eq, ltb→lt}
+use lib.Dec.{eqb, ltb, T, eqb→eq, ltb→lt}
 use Rattle.definition.specs.Basics.{if_then_else_, all, from, head, _∈?_}
-use Rattle.definition.specs.Shape.{Column, unread, upTo, name, row, global, mode, orZero, Part, one, perhaps, many, never, nought, rest, mayEnd, shapeOf}
+use Rattle.definition.specs.Shape.{Column, unread, upTo, name, row, global, mode, orZero, Part, one, perhaps, many, never, rest, mayEnd, shapeOf}
 use Rattle.definition.proofs.Lists.Tests.{T-and, ℕ-trichotomy}
 use Rattle.definition.proofs.Lists.Counts.{all-below, in-cases}
 use Rattle.definition.proofs.Format.Shapes.{partKinds}
 use Rattle.definition.proofs.Format.Passes.{shape-beyond}
-use Rattle.sheet.specs.States.{entryOf, kindTable, stateTable, states, stateAt, ruleAt}
+use Rattle.sheet.specs.States.{entryOf, kindTable, stateTable, stateAt, ruleAt}
 use Rattle.sheet.specs.Pass.{stateAfter, endsIn}
 use Rattle.sheet.proofs.Laws.{no-row}
 

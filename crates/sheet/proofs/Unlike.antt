@@ -5,11 +5,11 @@ use mathlib.Core.Bool.{Bool, true, false, not, _&&_}
 use mathlib.Core.List.{List, [], _∷_, map, List·Memᴰ as Mem, List·Memᴰ·head as here, List·Memᴰ·tail as there, List·Memᴰ·not-nil}
 use Prim.Native.Nat.{ℕ, zero, suc, _+_, _*_, _<_, _≤_}
 use native.Mathlib.Omega.{arith}
-use lib.Dec.{eqb, T, T-not, not-T, eqb→eq, eqb-refl}
+use lib.Dec.{eqb, T, T-not, not-T, eqb→eq}
 use lib.ListN.{length, getD, set, length-set}
 use lib.Seq.{getD-set-same, getD-set-other}
 use Rattle.definition.specs.Basics.{if_then_else_, _⇒_, any, unlike, filter}
-use Rattle.definition.specs.Sheet.{Sheet, kind, a, rows, kids, kidsOf, is}
+use Rattle.definition.specs.Sheet.{Sheet, kind, a, kids, is}
 use Rattle.definition.specs.Format.{namesApart, unitApart, classApart}
 use Rattle.definition.proofs.Lists.Tests.{T-and, and-both, decide, eqb-of, T-imp, if-true, if-false, kind-apart, ℕ-trichotomy}
 use Rattle.definition.proofs.Lists.Members.{mem-any, any-mem}
@@ -209,13 +209,15 @@ module _ (s : Sheet) (r : ℕ) (m : List ℕ) (u : Under m (4 * r + 1)) where
       no false y f = tt
 
       go : T (is s 2 r) ⊎ T (not (is s 2 r)) → T (is s 4 r) ⊎ T (not (is s 4 r)) → T (unitApart s r) × T (classApart s r)
-      go (inl t) w =
-          (imp-of (is s 2 r) (namesApart s 4 r && namesApart s 7 r && namesApart s 8 r) (λ x. unit-gives g (subst T (if-true (is s 2 r) (unitUnmarked s r m) (if is s 4 r then classUnmarked s r m else true) t) h)),
-          imp-of (is s 4 r) (namesApart s 10 r && namesApart s 6 r) (λ x. absurd (kind-apart (kind s r) 2 4 tt t x)))
-      go (inr t) (inl w) =
-          (no (is s 2 r) (namesApart s 4 r && namesApart s 7 r && namesApart s 8 r) t,
-          imp-of (is s 4 r) (namesApart s 10 r && namesApart s 6 r)
-          (λ x. class-gives g (subst T (if-false (is s 2 r) (unitUnmarked s r m) (if is s 4 r then classUnmarked s r m else true) t ∙ if-true (is s 4 r) (classUnmarked s r m) true w) h)))
+      go (inl t) w = (
+        imp-of (is s 2 r) (namesApart s 4 r && namesApart s 7 r && namesApart s 8 r) (λ x. unit-gives g (subst T (if-true (is s 2 r) (unitUnmarked s r m) (if is s 4 r then classUnmarked s r m else true) t) h)),
+        imp-of (is s 4 r) (namesApart s 10 r && namesApart s 6 r) (λ x. absurd (kind-apart (kind s r) 2 4 tt t x)),
+      )
+      go (inr t) (inl w) = (
+        no (is s 2 r) (namesApart s 4 r && namesApart s 7 r && namesApart s 8 r) t,
+        imp-of (is s 4 r) (namesApart s 10 r && namesApart s 6 r)
+            (λ x. class-gives g (subst T (if-false (is s 2 r) (unitUnmarked s r m) (if is s 4 r then classUnmarked s r m else true) t ∙ if-true (is s 4 r) (classUnmarked s r m) true w) h)),
+      )
       go (inr t) (inr w) = (no (is s 2 r) (namesApart s 4 r && namesApart s 7 r && namesApart s 8 r) t, no (is s 4 r) (namesApart s 10 r && namesApart s 6 r) w)
 
   pub gives-row : T (unitApart s r) → T (classApart s r) → T (rowUnmarked s r m)

@@ -1,6 +1,6 @@
 -- The program's own pass that looks for names twice: marks by name number, each a stamp of its row and kind of child.
 use mathlib.Core.List.{List, [], _∷_}
-use mathlib.Core.Bool.{Bool, true, false, not, _&&_}
+use mathlib.Core.Bool.{Bool, true, not, _&&_}
 use Prim.Native.Nat.{ℕ, zero, suc, _+_, _*_}
 use lib.ListN.{getD, set}
 use lib.Dec.{eqb}

@@ -1,7 +1,7 @@
 -- The program's own pass over the rows of a sheet, as functions on its words and on a table of eight words for each row.
 -- The contracts of the routines below the entry cite it; that of the entry cites the definition alone.
-use mathlib.Core.List.{List, [], _∷_}
-use mathlib.Core.Bool.{Bool, true, false, not, _&&_, _||_}
+use mathlib.Core.List.{List}
+use mathlib.Core.Bool.{Bool, true, not, _&&_, _||_}
 use Prim.Native.Nat.{ℕ, zero, suc, _+_, _*_, min}
 use lib.ListN.{set}
 use lib.Dec.{eqb, leb, ltb}

@@ -2,6 +2,7 @@
 use mathlib.Core.List.{List}
 use mathlib.Core.Bool.{Bool, not, _&&_}
 use Prim.Native.Nat.{ℕ}
+use lib.ListN.{replicate}
 use Rattle.definition.specs.Basics.{if_then_else_, all, from}
 use Rattle.definition.specs.Sheet.{Sheet, rows}
 use Rattle.definition.specs.Names.{namesFit, nameCount}
@@ -25,3 +26,11 @@ formatQuestion n s = if not (sheetFits n s) then 3 else if not (depthsFit s) the
 -- the first of questions 1 to 4 that gets a no, or 0, of a sheet and a byte list of names
 abbrev pub firstFour : Sheet → List ℕ → ℕ
 firstFour s ns = if not (rowsFit s) then 1 else if not (namesFit ns) then 2 else formatQuestion (nameCount ns) s
+
+-- a mark for each number up to the last name's, 24 + 1,024
+abbrev pub zeroMarks : List ℕ
+zeroMarks = replicate 1049 0
+
+-- a table for 2,048 rows
+abbrev pub zeroTable : List ℕ
+zeroTable = replicate 16384 0

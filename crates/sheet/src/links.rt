@@ -36,7 +36,7 @@ pub fn links_rise(s: &[u32], n: usize) -> bool
 
 // `seen` counts the links to each row; the missing links count for row 0.
 pub fn linked_once(s: &[u32], n: usize, seen: &mut [u32]) -> bool
-    requires { ⌜ (length (now s) ≡ 8 * n) × (n ≤ 2048) × (length (now seen) ≡ n) × (all (linksRise (now s)) (from 0 (rows (now s))) ≡ true) × ((k : ℕ) → k < n → getD (now seen) k 0 ≡ 0) ⌝ }
+    requires { ⌜ (length (now s) ≡ 8 * n) × (n ≤ 2048) × (n ≤ length (now seen)) × (all (linksRise (now s)) (from 0 (rows (now s))) ≡ true) × ((k : ℕ) → k < n → getD (now seen) k 0 ≡ 0) ⌝ }
     ensures { λ b. ⌜ b ≡ all (linkedOnce (links (now (s .entry)))) (from 0 (rows (now (s .entry)))) ⌝ }
 {
     let mut r: usize = 0;

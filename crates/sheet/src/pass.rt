@@ -3,8 +3,8 @@ ghost use mathlib.Core.Path.{_≡_};
 ghost use mathlib.Core.Bool.{true};
 ghost use Rattle.definition.specs.Basics.{all, from};
 ghost use Rattle.sheet.specs.Pass.{rowsOk, rowsNoted, literalOk, declarationOk, classOk, methodOk, crossOk, depthOk};
-use crate::row::row_fits;
 use crate::row::note_row;
+use crate::row::row_fits;
 use crate::words::word;
 
 // Do the rows fit as they are reached, in rising order? Each tells the table what it knows of its next row and first child.

@@ -7,11 +7,11 @@ ghost use Rattle.definition.specs.Sheet.{kind, next, rows, is};
 ghost use Rattle.definition.specs.Shape.{holds as holdsRule};
 ghost use Rattle.sheet.specs.States.{entryOf, kindTable, ruleAt};
 ghost use Rattle.sheet.specs.Pass.{rowIn, entryIn, columnsOk, plainOk, functionOk, stateAfter, endsIn, endsOk, newOk, rowAsked, rowOk, putEntry, noteNext, noteChild, noteOwn, noteDeclared, noteRow, unitHere, funInside, classHere, childEntry, nextEntry};
-use crate::tables::of_kind;
-use crate::tables::next_state;
 use crate::tables::may_end;
-use crate::words::word;
+use crate::tables::next_state;
+use crate::tables::of_kind;
 use crate::words::put;
+use crate::words::word;
 
 // The words of a row that are asked about.
 pub struct Row {

@@ -1,51 +1,37 @@
 use Rattle.sheet.specs.Apart.{childUnmarked, childMarked}
 use borrow.Author.Tests.{eq-eqb, ne-eqb}
 use lib.Dec.{T}
-use mathlib.Core.Path.{_≡_, refl, sym, ap, _∙_, subst}
+use mathlib.Core.Path.{sym, subst}
 use borrow.Author.Needs.{needs}
 use Rattle.sheet.proofs.apart.child_apart.Statement.{statement}
 use Rattle.sheet.proofs.apart.child_apart.Tie as tie
-use Rattle.sheet.proofs.apart.child_apart.Reads as reads
-use Rattle.sheet.proofs.apart.child_apart.Lts as lts
-use Rattle.sheet.proofs.apart.mark_of.Reads as mark-of-reads
-use Rattle.sheet.proofs.apart.set_mark.Reads as set-mark-reads
-use Rattle.sheet.proofs.words.word.Reads as word-reads
 
--- src/apart.rt:34:8
 word-requires : tie.Need-word-requires
 word-requires c κs = search needs
 
--- src/apart.rt:35:9
 returns : tie.Need-returns
 unfolding childUnmarked childMarked
 returns c = (rw (← c .before .word .ensures, ne-eqb _ _ (c .if1 .taken)), λ e. rw (← c .before .word .ensures, ne-eqb _ _ (c .if1 .taken)))
 
--- src/apart.rt:37:9
 word-requires-2 : tie.Need-word-requires-2
 word-requires-2 c κs = search needs
 
--- src/apart.rt:38:8
 mark-of-requires : tie.Need-mark-of-requires
 mark-of-requires c κs = search needs
 
--- src/apart.rt:39:9
 same-length : tie.Need-same-length
 same-length c = search needs
 
--- src/apart.rt:39:9
 returns-2 : tie.Need-returns-2
 unfolding childUnmarked
 returns-2 c = (rw (← c .before .before .before .before .before .word .ensures, eq-eqb _ _ (c .before .before .before .before .if1 .left), ← c .before .before .before .word2 .ensures, ← c .before .mark-of .ensures, eq-eqb _ _ (c .if2 .taken)), λ e. absurd (subst T (sym e) tt))
 
--- src/apart.rt:41:5
 set-mark-requires : tie.Need-set-mark-requires
 set-mark-requires c κs = search needs
 
--- src/apart.rt:30:1
 same-length-2 : tie.Need-same-length-2
 same-length-2 c = search needs
 
--- src/apart.rt:30:1
 returns-3 : tie.Need-returns-3
 unfolding childUnmarked childMarked
 returns-3 c = (rw (← c .before .before .before .before .before .before .before .before .before .word .ensures, eq-eqb _ _ (c .before .before .before .before .before .before .before .before .if1 .left), ← c .before .before .before .before .before .before .before .word2 .ensures, ← c .before .before .before .before .before .mark-of .ensures, ne-eqb _ _ (c .before .before .before .before .if2 .left)), λ e. rw (← c .before .before .before .before .before .before .before .before .before .word .ensures, eq-eqb _ _ (c .before .before .before .before .before .before .before .before .if1 .left), ← c .before .before .before .before .before .before .before .word2 .ensures, c .before .before .set-mark .ensures))

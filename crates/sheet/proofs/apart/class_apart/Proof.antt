@@ -1,52 +1,39 @@
 use Rattle.sheet.specs.Apart.{classUnmarked, classMarked}
 use borrow.Author.Tests.{not-true, not-false}
 use lib.Dec.{T}
-use mathlib.Core.Path.{_≡_, refl, sym, ap, _∙_, subst}
+use mathlib.Core.Path.{sym, subst}
 use borrow.Author.Needs.{needs}
 use Rattle.sheet.proofs.apart.class_apart.Statement.{statement}
 use Rattle.sheet.proofs.apart.class_apart.Tie as tie
-use Rattle.sheet.proofs.apart.class_apart.Reads as reads
-use Rattle.sheet.proofs.apart.class_apart.Lts as lts
-use Rattle.sheet.proofs.apart.names_apart.Reads as names-apart-reads
 
--- src/apart.rt:80:31
 mul-names-apart : tie.Need-mul-names-apart
 mul-names-apart c = search needs
 
--- src/apart.rt:80:31
 add-names-apart : tie.Need-add-names-apart
 add-names-apart c = search needs
 
--- src/apart.rt:80:9
 names-apart-requires : tie.Need-names-apart-requires
 names-apart-requires c κs = search needs
 
--- src/apart.rt:81:9
 same-length : tie.Need-same-length
 same-length c = search needs
 
--- src/apart.rt:81:9
 returns : tie.Need-returns
 unfolding classUnmarked
 returns c = (rw (← c .before .before .before .names-apart .ensures .0, not-true (c .before .before .before .names-apart .result) (c .if1 .taken)), λ e. absurd (subst T (sym e) tt))
 
--- src/apart.rt:83:26
 mul-names-apart-2 : tie.Need-mul-names-apart-2
 mul-names-apart-2 c = search needs
 
--- src/apart.rt:83:26
 add-names-apart-2 : tie.Need-add-names-apart-2
 add-names-apart-2 c = search needs
 
--- src/apart.rt:83:5
 names-apart-requires-2 : tie.Need-names-apart-requires-2
 names-apart-requires-2 c κs = search needs
 
--- src/apart.rt:75:1
 same-length-2 : tie.Need-same-length-2
 same-length-2 c = search needs
 
--- src/apart.rt:75:1
 returns-2 : tie.Need-returns-2
 unfolding classUnmarked classMarked
 returns-2 c = (rw (← c .before .before .before .before .before .before .before .names-apart .ensures .0, not-false (c .before .before .before .before .before .before .before .names-apart .result) (c .before .before .before .before .if1 .left), ← c .before .before .before .before .before .before .before .names-apart .ensures .1 (not-false (c .before .before .before .before .before .before .before .names-apart .result) (c .before .before .before .before .if1 .left)), c .before .before .names-apart2 .ensures .0), λ e. rw (← c .before .before .before .before .before .before .before .names-apart .ensures .1 (not-false (c .before .before .before .before .before .before .before .names-apart .result) (c .before .before .before .before .if1 .left))) (c .before .before .names-apart2 .ensures .1 e))

@@ -7,15 +7,9 @@ use borrow.Author.Needs.{needs}
 use lib.ListN.{length}
 use lib.Dec.{T}
 use Prim.Native.Nat.{ℕ}
-use mathlib.Core.Bool.{true}
-use mathlib.Core.Logic.{_⊎_, inl, inr}
 use mathlib.Core.Path.{_≡_, refl, sym, ap, _∙_, subst}
 use Rattle.sheet.proofs.apart.names_apart.Statement.{statement}
 use Rattle.sheet.proofs.apart.names_apart.Tie as tie
-use Rattle.sheet.proofs.apart.names_apart.Reads as reads
-use Rattle.sheet.proofs.apart.names_apart.Lts as lts
-use Rattle.sheet.proofs.apart.child_apart.Reads as child-apart-reads
-use Rattle.sheet.proofs.words.word.Reads as word-reads
 
 abbrev Inv-loop : tie.InvT-loop
 Inv-loop s r kind v m₀ c₀ m c = (length m ≡ length m₀) × Place s c × (left s kind v m c ≡ unmarked s kind v m₀ (kids s r)) × (leftMarks s kind v m c ≡ marked s kind v m₀ (kids s r))
@@ -23,43 +17,33 @@ Inv-loop s r kind v m₀ c₀ m c = (length m ≡ length m₀) × Place s c × (
 abbrev μ-loop : tie.MeasureT-loop
 μ-loop s r kind v m₀ c₀ m c = ahead s c
 
--- src/apart.rt:51:9
 word-requires : tie.Need-word-requires Inv-loop μ-loop
 word-requires c κs = search needs
 
--- src/apart.rt:52:5
 loop-holds : tie.Need-loop-holds Inv-loop μ-loop
 loop-holds c = (refl, subst (Place (c .before .before .before .args .s .now)) (sym (c .word .ensures)) (child-placed _ (c .before .before .before .pre .0) _ (c .before .before .before .pre .1)), ap (left _ _ _ _) (c .word .ensures), ap (leftMarks _ _ _ _) (c .word .ensures))
 
--- src/apart.rt:53:13
 child-apart-requires : tie.Need-child-apart-requires Inv-loop μ-loop
 child-apart-requires c κs = search needs
 
--- src/apart.rt:54:13
 same-length : tie.Need-same-length Inv-loop μ-loop
 same-length c = c .before .before .before .child-apart .kept .1 .1 .1 .1 .0 ∙ c .before .before .before .before .before .before .loop .inv .0
 
--- src/apart.rt:54:13
 returns : tie.Need-returns Inv-loop μ-loop
 returns c = (left-refused _ (c .before .before .before .before .before .before .before .before .before .before .pre .0) _ _ _ _ (c .before .before .before .before .before .before .loop .inv .1) (c .before .before .before .before .before .loop-test .taken) (c .before .before .before .child-apart .ensures .0) (not-true (c .before .before .before .child-apart .result) (c .if1 .taken)) (c .before .before .before .before .before .before .loop .inv .2), λ e. absurd (subst T (sym e) tt))
 
--- src/apart.rt:56:9
 word-requires-2 : tie.Need-word-requires-2 Inv-loop μ-loop
 word-requires-2 c κs = search needs
 
--- src/apart.rt:52:5
 loop-less : tie.Need-loop-less Inv-loop μ-loop
 loop-less c = subst (λ (x : ℕ). ahead (c .before .before .before .before .before .before .before .before .before .before .before .args .s .now) x < ahead (c .before .before .before .before .before .before .before .before .before .before .before .args .s .now) (c .before .before .before .before .before .before .before .loop .c)) (sym (c .word2 .ensures)) (ahead-less _ (c .before .before .before .before .before .before .before .before .before .before .before .pre .0) _ (c .before .before .before .before .before .before .before .loop .inv .1) (c .before .before .before .before .before .before .loop-test .taken))
 
--- src/apart.rt:52:5
 loop-again : tie.Need-loop-again Inv-loop μ-loop
 loop-again c = (c .before .before .before .before .child-apart .kept .1 .1 .1 .1 .0 ∙ c .before .before .before .before .before .before .before .loop .inv .0, subst (Place (c .before .before .before .before .before .before .before .before .before .before .before .args .s .now)) (sym (c .word2 .ensures)) (next-placed _ (c .before .before .before .before .before .before .before .before .before .before .before .pre .0) _ (c .before .before .before .before .before .before .before .loop .inv .1) (c .before .before .before .before .before .before .loop-test .taken)), left-next _ (c .before .before .before .before .before .before .before .before .before .before .before .pre .0) _ _ _ _ (c .before .before .before .before .before .before .before .loop .inv .1) (c .before .before .before .before .before .before .loop-test .taken) (c .before .before .before .before .child-apart .ensures .0) (not-false (c .before .before .before .before .child-apart .result) (c .before .if1 .left)) (c .before .before .before .before .child-apart .ensures .1) (c .word2 .ensures) (c .before .before .before .before .before .before .before .loop .inv .2), marks-next _ (c .before .before .before .before .before .before .before .before .before .before .before .pre .0) _ _ _ _ (c .before .before .before .before .before .before .before .loop .inv .1) (c .before .before .before .before .before .before .loop-test .taken) (not-false (c .before .before .before .before .child-apart .result) (c .before .if1 .left)) (c .before .before .before .before .child-apart .ensures .1) (c .word2 .ensures) (c .before .before .before .before .before .before .before .loop .inv .3))
 
--- src/apart.rt:46:1
 same-length-2 : tie.Need-same-length-2 Inv-loop μ-loop
 same-length-2 c = c .before .loop .inv .0
 
--- src/apart.rt:46:1
 returns-2 : tie.Need-returns-2 Inv-loop μ-loop
 returns-2 c = (sym (left-done _ _ _ _ _ (c .loop-test .left)) ∙ c .before .loop .inv .2, λ e. sym (marks-done _ _ _ _ _ (c .loop-test .left)) ∙ c .before .loop .inv .3)
 

@@ -3,43 +3,30 @@ use borrow.Author.Tests.{eq-eqb, ne-eqb}
 use borrow.Author.Needs.{needs}
 use Rattle.sheet.proofs.apart.row_apart.Statement.{statement}
 use Rattle.sheet.proofs.apart.row_apart.Tie as tie
-use Rattle.sheet.proofs.apart.row_apart.Reads as reads
-use Rattle.sheet.proofs.apart.row_apart.Lts as lts
-use Rattle.sheet.proofs.apart.class_apart.Reads as class-apart-reads
-use Rattle.sheet.proofs.apart.unit_apart.Reads as unit-apart-reads
-use Rattle.sheet.proofs.words.word.Reads as word-reads
 
--- src/apart.rt:91:9
 word-requires : tie.Need-word-requires
 word-requires c κs = search needs
 
--- src/apart.rt:93:9
 unit-apart-requires : tie.Need-unit-apart-requires
 unit-apart-requires c κs = search needs
 
--- src/apart.rt:93:9
 same-length : tie.Need-same-length
 same-length c = search needs
 
--- src/apart.rt:93:9
 returns : tie.Need-returns
 unfolding rowUnmarked rowMarked
 returns c = (rw (← c .before .before .before .before .before .word .ensures, eq-eqb _ _ (c .before .before .before .before .if1 .taken)) (c .before .before .unit-apart .ensures .0), rw (← c .before .before .before .before .before .word .ensures, eq-eqb _ _ (c .before .before .before .before .if1 .taken)) (c .before .before .unit-apart .ensures .1))
 
--- src/apart.rt:96:9
 class-apart-requires : tie.Need-class-apart-requires
 class-apart-requires c κs = search needs
 
--- src/apart.rt:96:9
 same-length-2 : tie.Need-same-length-2
 same-length-2 c = search needs
 
--- src/apart.rt:96:9
 returns-2 : tie.Need-returns-2
 unfolding rowUnmarked rowMarked
 returns-2 c = (rw (← c .before .before .before .before .before .before .word .ensures, ne-eqb _ _ (c .before .before .before .before .before .if1 .left), eq-eqb _ _ (c .before .before .before .before .if2 .taken)) (c .before .before .class-apart .ensures .0), rw (← c .before .before .before .before .before .before .word .ensures, ne-eqb _ _ (c .before .before .before .before .before .if1 .left), eq-eqb _ _ (c .before .before .before .before .if2 .taken)) (c .before .before .class-apart .ensures .1))
 
--- src/apart.rt:86:1
 returns-3 : tie.Need-returns-3
 unfolding rowUnmarked rowMarked
 returns-3 c = (rw (← c .before .before .word .ensures, ne-eqb _ _ (c .before .if1 .left), ne-eqb _ _ (c .if2 .left)), λ e. rw (← c .before .before .word .ensures, ne-eqb _ _ (c .before .if1 .left), ne-eqb _ _ (c .if2 .left)))

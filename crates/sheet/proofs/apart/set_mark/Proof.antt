@@ -3,26 +3,19 @@ use mathlib.Core.Path.{sym}
 use borrow.Author.Needs.{needs}
 use Rattle.sheet.proofs.apart.set_mark.Statement.{statement}
 use Rattle.sheet.proofs.apart.set_mark.Tie as tie
-use Rattle.sheet.proofs.apart.set_mark.Reads as reads
-use Rattle.sheet.proofs.apart.set_mark.Lts as lts
 
--- src/apart.rt:25:9
 mul-m : tie.Need-mul-m
 mul-m c = search needs
 
--- src/apart.rt:25:9
 slice-write-m : tie.Need-slice-write-m
 slice-write-m c = search needs
 
--- src/apart.rt:20:1
 same-length : tie.Need-same-length
 same-length c = search needs
 
--- src/apart.rt:20:1
 returns : tie.Need-returns
 returns c = search needs
 
--- src/apart.rt:20:1
 returns-2 : tie.Need-returns-2
 returns-2 c = sym (set-out _ _ _ (c .if1 .left))
 

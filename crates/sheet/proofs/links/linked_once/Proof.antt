@@ -1,17 +1,15 @@
-use mathlib.Core.Path.{_≡_, refl, sym, ap, _∙_, subst}
-use mathlib.Core.Bool.{Bool, true, false}
+use mathlib.Core.Path.{_≡_, refl, sym, _∙_, subst}
 use Prim.Native.Nat.{ℕ, _≤_, _<_, _+_, _*_, _-_}
 use native.Mathlib.Omega.{arith}
 use lib.ListN.{length, getD, length-set}
 use Rattle.definition.specs.Sheet.{next, child}
-use borrow.Author.Needs.{needs}
 use borrow.Author.Count.{below-more}
-use Rattle.sheet.proofs.LinkLaws.{Counted, counted-none, counted-next, more-le, link-below, linked-le, not-once, once}
+use Rattle.sheet.proofs.LinkLaws.{Counted, more, counted-none, counted-next, more-le, link-below, linked-le, not-once, once}
 use Rattle.sheet.proofs.links.linked_once.Statement.{statement}
 use Rattle.sheet.proofs.links.linked_once.Tie as tie
 
 abbrev Inv-loop : tie.InvT-loop
-Inv-loop s n seen₀ r₀ seen r = (r ≤ n) × Counted s n r seen
+Inv-loop s n seen₀ r₀ seen r = (r ≤ n) × Counted s n r seen × (length seen ≡ length seen₀)
 
 abbrev μ-loop : tie.MeasureT-loop
 μ-loop s n seen₀ r₀ seen r = n - r
@@ -23,7 +21,7 @@ abbrev μ-loop2 : tie.MeasureT-loop2
 μ-loop2 s n seen r k₀ k = n - k
 
 loop-holds : tie.Need-loop-holds Inv-loop μ-loop Inv-loop2 μ-loop2
-loop-holds c = (omega arith, counted-none (c .args .s .now) (c .args .n) (c .args .seen .now) (c .pre .2) (c .pre .4))
+loop-holds c = (omega arith, counted-none (c .args .s .now) (c .args .n) (c .args .seen .now) (c .pre .2) (c .pre .4), refl)
 
 mul-next : tie.Need-mul-next Inv-loop μ-loop Inv-loop2 μ-loop2
 mul-next c = omega arith
@@ -158,8 +156,11 @@ loop-again c =
     let r = z .loop .r in
     let seen = z .loop .seen in
     let b = link-below s n (z .before .pre .0) (z .before .pre .3) r (c .before .before .before .before .loop-test .taken) in
-    let d = z .loop .inv .1 in
-    (omega arith, counted-next s n r seen d (b .0) (b .1))
+    let d = z .loop .inv .1 in (
+      omega arith,
+      counted-next s n r seen d (b .0) (b .1),
+      length-set (more seen (next s r)) (child s r) (getD (more seen (next s r)) (child s r) 0 + 1) ∙ length-set seen (next s r) (getD seen (next s r) 0 + 1) ∙ z .loop .inv .2,
+    )
 
 loop2-holds : tie.Need-loop2-holds Inv-loop μ-loop Inv-loop2 μ-loop2
 loop2-holds c = (omega arith, λ j l z. absurd (omega arith))
@@ -171,7 +172,7 @@ slice-read-if1 : tie.Need-slice-read-if1 Inv-loop μ-loop Inv-loop2 μ-loop2
 slice-read-if1 c = omega (arith, c .before .before .before .before .loop .inv .1 .size)
 
 same-length : tie.Need-same-length Inv-loop μ-loop Inv-loop2 μ-loop2
-same-length c = omega (arith, c .before .before .before .before .before .loop .inv .1 .size, c .before .before .before .before .before .before .pre .2)
+same-length c = c .before .before .before .before .before .loop .inv .2
 
 returns : tie.Need-returns Inv-loop μ-loop Inv-loop2 μ-loop2
 returns c =
@@ -193,7 +194,7 @@ loop2-again : tie.Need-loop2-again Inv-loop μ-loop Inv-loop2 μ-loop2
 loop2-again c = (omega arith, below-more _ _ (c .before .before .before .loop2 .inv .1) (λ z. c .if1 .left))
 
 same-length-2 : tie.Need-same-length-2 Inv-loop μ-loop Inv-loop2 μ-loop2
-same-length-2 c = omega (arith, c .before .before .before .loop .inv .1 .size, c .before .before .before .before .pre .2)
+same-length-2 c = c .before .before .before .loop .inv .2
 
 returns-2 : tie.Need-returns-2 Inv-loop μ-loop Inv-loop2 μ-loop2
 returns-2 c =

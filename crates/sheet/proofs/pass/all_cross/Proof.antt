@@ -6,12 +6,9 @@ use borrow.Author.Needs.{needs}
 use native.Mathlib.Omega.{arith}
 use Prim.Native.Nat.{ℕ, _<_, _≤_, _-_}
 use mathlib.Core.Bool.{true}
-use mathlib.Core.Path.{_≡_, refl, sym, ap, _∙_}
+use mathlib.Core.Path.{_≡_, sym, _∙_}
 use Rattle.sheet.proofs.pass.all_cross.Statement.{statement}
 use Rattle.sheet.proofs.pass.all_cross.Tie as tie
-use Rattle.sheet.proofs.pass.all_cross.Reads as reads
-use Rattle.sheet.proofs.pass.all_cross.Lts as lts
-use Rattle.sheet.proofs.pass.cross_fits.Reads as cross-fits-reads
 
 abbrev Inv-loop : tie.InvT-loop
 Inv-loop s n t r₀ r = (r ≤ n) × ((k : ℕ) → k < r → crossOk s t k ≡ true)
@@ -19,31 +16,24 @@ Inv-loop s n t r₀ r = (r ≤ n) × ((k : ℕ) → k < r → crossOk s t k ≡ 
 abbrev μ-loop : tie.MeasureT-loop
 μ-loop s n t r₀ r = n - r
 
--- src/pass.rt:89:5
 loop-holds : tie.Need-loop-holds Inv-loop μ-loop
 loop-holds c = (omega arith, λ k l. absurd (omega arith))
 
--- src/pass.rt:90:13
 cross-fits-requires : tie.Need-cross-fits-requires Inv-loop μ-loop
 cross-fits-requires c κs = search needs
 
--- src/pass.rt:91:13
 returns : tie.Need-returns Inv-loop μ-loop
 returns c = row-fails (crossOk (c .before .before .before .before .before .before .args .s .now) (c .before .before .before .before .before .before .args .t .now)) (c .before .before .before .before .before .before .args .n) (c .before .before .before .loop .r) (c .before .before .loop-test .taken) (sym (c .before .cross-fits .ensures) ∙ not-true (c .before .cross-fits .result) (c .if1 .taken))
 
--- src/pass.rt:93:9
 add-r : tie.Need-add-r Inv-loop μ-loop
 add-r c = omega arith
 
--- src/pass.rt:89:5
 loop-less : tie.Need-loop-less Inv-loop μ-loop
 loop-less c = omega arith
 
--- src/pass.rt:89:5
 loop-again : tie.Need-loop-again Inv-loop μ-loop
 loop-again c = (omega arith, below-more _ _ (c .before .before .before .loop .inv .1) (sym (c .before .cross-fits .ensures) ∙ not-false (c .before .cross-fits .result) (c .if1 .left)))
 
--- src/pass.rt:85:1
 returns-2 : tie.Need-returns-2 Inv-loop μ-loop
 returns-2 c = rows-pass (crossOk (c .before .before .before .before .args .s .now) (c .before .before .before .before .args .t .now)) (c .before .before .before .before .args .n) (c .before .loop .r) (c .loop-test .left) (c .before .loop .inv .1)
 

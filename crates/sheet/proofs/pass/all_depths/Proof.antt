@@ -6,12 +6,9 @@ use borrow.Author.Needs.{needs}
 use native.Mathlib.Omega.{arith}
 use Prim.Native.Nat.{ℕ, _<_, _≤_, _-_}
 use mathlib.Core.Bool.{true}
-use mathlib.Core.Path.{_≡_, refl, sym, ap, _∙_}
+use mathlib.Core.Path.{_≡_, sym, _∙_}
 use Rattle.sheet.proofs.pass.all_depths.Statement.{statement}
 use Rattle.sheet.proofs.pass.all_depths.Tie as tie
-use Rattle.sheet.proofs.pass.all_depths.Reads as reads
-use Rattle.sheet.proofs.pass.all_depths.Lts as lts
-use Rattle.sheet.proofs.pass.depth_fits.Reads as depth-fits-reads
 
 abbrev Inv-loop : tie.InvT-loop
 Inv-loop n t r₀ r = (r ≤ n) × ((k : ℕ) → k < r → depthOk t k ≡ true)
@@ -19,31 +16,24 @@ Inv-loop n t r₀ r = (r ≤ n) × ((k : ℕ) → k < r → depthOk t k ≡ true
 abbrev μ-loop : tie.MeasureT-loop
 μ-loop n t r₀ r = n - r
 
--- src/pass.rt:109:5
 loop-holds : tie.Need-loop-holds Inv-loop μ-loop
 loop-holds c = (omega arith, λ k l. absurd (omega arith))
 
--- src/pass.rt:110:13
 depth-fits-requires : tie.Need-depth-fits-requires Inv-loop μ-loop
 depth-fits-requires c κs = search needs
 
--- src/pass.rt:111:13
 returns : tie.Need-returns Inv-loop μ-loop
 returns c = row-fails (depthOk (c .before .before .before .before .before .args .t .now)) (c .before .before .before .before .before .args .n) (c .before .before .before .loop .r) (c .before .before .loop-test .taken) (sym (c .before .depth-fits .ensures) ∙ not-true (c .before .depth-fits .result) (c .if1 .taken))
 
--- src/pass.rt:113:9
 add-r : tie.Need-add-r Inv-loop μ-loop
 add-r c = omega arith
 
--- src/pass.rt:109:5
 loop-less : tie.Need-loop-less Inv-loop μ-loop
 loop-less c = omega arith
 
--- src/pass.rt:109:5
 loop-again : tie.Need-loop-again Inv-loop μ-loop
 loop-again c = (omega arith, below-more _ _ (c .before .before .before .loop .inv .1) (sym (c .before .depth-fits .ensures) ∙ not-false (c .before .depth-fits .result) (c .if1 .left)))
 
--- src/pass.rt:105:1
 returns-2 : tie.Need-returns-2 Inv-loop μ-loop
 returns-2 c = rows-pass (depthOk (c .before .before .before .args .t .now)) (c .before .before .before .args .n) (c .before .loop .r) (c .loop-test .left) (c .before .loop .inv .1)
 

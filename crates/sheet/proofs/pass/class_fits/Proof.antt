@@ -3,24 +3,17 @@ use borrow.Author.Tests.{eq-eqb, ne-eqb}
 use borrow.Author.Needs.{needs}
 use Rattle.sheet.proofs.pass.class_fits.Statement.{statement}
 use Rattle.sheet.proofs.pass.class_fits.Tie as tie
-use Rattle.sheet.proofs.pass.class_fits.Reads as reads
-use Rattle.sheet.proofs.pass.class_fits.Lts as lts
-use Rattle.sheet.proofs.words.word.Reads as word-reads
 
--- src/pass.rt:53:8
 word-requires : tie.Need-word-requires
 word-requires c κs = search needs
 
--- src/pass.rt:54:9
 returns : tie.Need-returns
 unfolding classOk
 returns c = rw (← c .before .word .ensures, ne-eqb _ _ (c .if1 .taken))
 
--- src/pass.rt:56:5
 word-requires-2 : tie.Need-word-requires-2
 word-requires-2 c κs = search needs
 
--- src/pass.rt:50:1
 returns-2 : tie.Need-returns-2
 unfolding classOk
 returns-2 c = rw (← c .before .before .word .ensures, eq-eqb _ _ (c .before .if1 .left), c .word2 .ensures)

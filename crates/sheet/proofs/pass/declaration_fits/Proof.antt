@@ -3,36 +3,26 @@ use borrow.Author.Tests.{eq-eqb, ne-eqb}
 use borrow.Author.Needs.{needs}
 use Rattle.sheet.proofs.pass.declaration_fits.Statement.{statement}
 use Rattle.sheet.proofs.pass.declaration_fits.Tie as tie
-use Rattle.sheet.proofs.pass.declaration_fits.Reads as reads
-use Rattle.sheet.proofs.pass.declaration_fits.Lts as lts
-use Rattle.sheet.proofs.words.word.Reads as word-reads
 
--- src/pass.rt:42:8
 word-requires : tie.Need-word-requires
 word-requires c κs = search needs
 
--- src/pass.rt:43:9
 returns : tie.Need-returns
 unfolding declarationOk
 returns c = rw (← c .before .word .ensures, ne-eqb _ _ (c .if1 .taken))
 
--- src/pass.rt:45:9
 word-requires-2 : tie.Need-word-requires-2
 word-requires-2 c κs = search needs
 
--- src/pass.rt:46:9
 word-requires-3 : tie.Need-word-requires-3
 word-requires-3 c κs = search needs
 
--- src/pass.rt:47:5
 word-requires-4 : tie.Need-word-requires-4
 word-requires-4 c κs = search needs
 
--- src/pass.rt:47:24
 word-requires-5 : tie.Need-word-requires-5
 word-requires-5 c κs = search needs
 
--- src/pass.rt:39:1
 returns-2 : tie.Need-returns-2
 unfolding declarationOk
 returns-2 c = rw (← c .before .before .before .before .before .word .ensures, eq-eqb _ _ (c .before .before .before .before .if1 .left), c .before .word4 .ensures, c .word5 .ensures, c .before .before .before .word2 .ensures, c .before .before .word3 .ensures)

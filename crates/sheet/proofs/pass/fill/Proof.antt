@@ -7,16 +7,10 @@ use lib.ListN.{length}
 use borrow.Author.Tests.{not-true, not-false}
 use borrow.Author.Needs.{needs}
 use native.Mathlib.Omega.{arith}
-use Prim.Native.Nat.{ℕ, _<_, _≤_, _-_, _+_}
-use mathlib.Core.List.{List}
-use mathlib.Core.Bool.{Bool, true, false, _&&_}
-use mathlib.Core.Path.{_≡_, refl, sym, ap, _∙_}
+use Prim.Native.Nat.{_≤_, _-_}
+use mathlib.Core.Path.{_≡_, refl, sym, _∙_}
 use Rattle.sheet.proofs.pass.fill.Statement.{statement}
 use Rattle.sheet.proofs.pass.fill.Tie as tie
-use Rattle.sheet.proofs.pass.fill.Reads as reads
-use Rattle.sheet.proofs.pass.fill.Lts as lts
-use Rattle.sheet.proofs.row.note_row.Reads as note-row-reads
-use Rattle.sheet.proofs.row.row_fits.Reads as row-fits-reads
 
 abbrev Inv-loop : tie.InvT-loop
 Inv-loop s n last t₀ r₀ t r = (r ≤ n) × (length t ≡ length t₀) × (rowsOk s last (n - r) r t ≡ rowsOk s last n 0 t₀) × (rowsNoted s (n - r) r t ≡ rowsNoted s n 0 t₀)
@@ -24,43 +18,33 @@ Inv-loop s n last t₀ r₀ t r = (r ≤ n) × (length t ≡ length t₀) × (ro
 abbrev μ-loop : tie.MeasureT-loop
 μ-loop s n last t₀ r₀ t r = n - r
 
--- src/pass.rt:16:5
 loop-holds : tie.Need-loop-holds Inv-loop μ-loop
 loop-holds c = (omega arith, refl, rows-start _ _ _ _, noted-start _ _ _)
 
--- src/pass.rt:17:13
 row-fits-requires : tie.Need-row-fits-requires Inv-loop μ-loop
 row-fits-requires c κs = search needs
 
--- src/pass.rt:18:13
 same-length : tie.Need-same-length Inv-loop μ-loop
 same-length c = c .before .before .before .before .loop .inv .1
 
--- src/pass.rt:18:13
 returns : tie.Need-returns Inv-loop μ-loop
 returns c = (rows-refused _ _ _ _ _ (c .before .before .before .loop-test .taken) (c .before .row-fits .ensures) (not-true (c .before .row-fits .result) (c .if1 .taken)) (c .before .before .before .before .loop .inv .2), λ e. absurd (subst T (sym e) tt))
 
--- src/pass.rt:20:9
 note-row-requires : tie.Need-note-row-requires Inv-loop μ-loop
 note-row-requires c κs = search needs
 
--- src/pass.rt:21:9
 add-r : tie.Need-add-r Inv-loop μ-loop
 add-r c = omega arith
 
--- src/pass.rt:16:5
 loop-less : tie.Need-loop-less Inv-loop μ-loop
 loop-less c = omega arith
 
--- src/pass.rt:16:5
 loop-again : tie.Need-loop-again Inv-loop μ-loop
 loop-again c = (omega arith, c .before .before .note-row .kept .1 .1 .0 ∙ c .before .before .before .before .before .before .before .before .loop .inv .1, rows-next _ _ _ _ _ (c .before .before .before .before .before .before .before .loop-test .taken) (c .before .before .before .before .before .row-fits .ensures) (not-false (c .before .before .before .before .before .row-fits .result) (c .before .before .before .before .if1 .left)) (c .before .before .note-row .ensures) (c .before .before .before .before .before .before .before .before .loop .inv .2), noted-next _ _ _ _ (c .before .before .before .before .before .before .before .loop-test .taken) (c .before .before .note-row .ensures) (c .before .before .before .before .before .before .before .before .loop .inv .3))
 
--- src/pass.rt:11:1
 same-length-2 : tie.Need-same-length-2 Inv-loop μ-loop
 same-length-2 c = c .before .loop .inv .1
 
--- src/pass.rt:11:1
 returns-2 : tie.Need-returns-2 Inv-loop μ-loop
 returns-2 c = (sym (rows-done _ _ _ _ _ (c .loop-test .left)) ∙ c .before .loop .inv .2, λ e. sym (noted-done _ _ _ _ (c .loop-test .left)) ∙ c .before .loop .inv .3)
 

@@ -3,37 +3,27 @@ use borrow.Author.Tests.{eq-eqb, ne-eqb}
 use borrow.Author.Needs.{needs}
 use Rattle.sheet.proofs.pass.literal_fits.Statement.{statement}
 use Rattle.sheet.proofs.pass.literal_fits.Tie as tie
-use Rattle.sheet.proofs.pass.literal_fits.Reads as reads
-use Rattle.sheet.proofs.pass.literal_fits.Lts as lts
-use Rattle.sheet.proofs.words.word.Reads as word-reads
 
--- src/pass.rt:29:8
 word-requires : tie.Need-word-requires
 word-requires c κs = search needs
 
--- src/pass.rt:30:9
 returns : tie.Need-returns
 unfolding literalOk
 returns c = rw (← c .before .word .ensures, ne-eqb _ _ (c .if1 .taken))
 
--- src/pass.rt:32:9
 word-requires-2 : tie.Need-word-requires-2
 word-requires-2 c κs = search needs
 
--- src/pass.rt:34:9
 returns-2 : tie.Need-returns-2
 unfolding literalOk
 returns-2 c = rw (← c .before .before .before .word .ensures, eq-eqb _ _ (c .before .before .if1 .left), ← c .before .word2 .ensures, eq-eqb _ _ (c .if2 .taken))
 
--- src/pass.rt:36:5
 word-requires-3 : tie.Need-word-requires-3
 word-requires-3 c κs = search needs
 
--- src/pass.rt:36:26
 word-requires-4 : tie.Need-word-requires-4
 word-requires-4 c κs = search needs
 
--- src/pass.rt:26:1
 returns-3 : tie.Need-returns-3
 unfolding literalOk
 returns-3 c = rw (← c .before .before .before .before .before .word .ensures, eq-eqb _ _ (c .before .before .before .before .if1 .left), ← c .before .before .before .word2 .ensures, ne-eqb _ _ (c .before .before .if2 .left), c .before .word3 .ensures, c .word4 .ensures)

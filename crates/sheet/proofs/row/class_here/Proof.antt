@@ -2,23 +2,16 @@ use borrow.Author.Tests.{eq-eqb, ne-eqb}
 use borrow.Author.Needs.{needs}
 use Rattle.sheet.proofs.row.class_here.Statement.{statement}
 use Rattle.sheet.proofs.row.class_here.Tie as tie
-use Rattle.sheet.proofs.row.class_here.Reads as reads
-use Rattle.sheet.proofs.row.class_here.Lts as lts
-use Rattle.sheet.proofs.words.word.Reads as word-reads
 
--- src/row.rt:258:9
 returns : tie.Need-returns
 returns c = rw (ne-eqb _ _ (c .if1 .taken))
 
--- src/row.rt:260:8
 word-requires : tie.Need-word-requires
 word-requires c κs = search needs
 
--- src/row.rt:261:9
 returns-2 : tie.Need-returns-2
 returns-2 c = rw (eq-eqb _ _ (c .before .before .if1 .left), ← c .before .word .ensures, ne-eqb _ _ (c .if2 .taken))
 
--- src/row.rt:254:1
 returns-3 : tie.Need-returns-3
 returns-3 c = rw (eq-eqb _ _ (c .before .before .if1 .left), ← c .before .word .ensures, eq-eqb _ _ (c .if2 .left))
 

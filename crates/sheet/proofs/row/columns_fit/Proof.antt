@@ -1,39 +1,25 @@
-use Rattle.sheet.specs.States.{ruleAt}
 use Rattle.definition.specs.Shape.{holds}
-use Prim.Native.Nat.{ℕ}
-use mathlib.Core.Bool.{Bool, true, _&&_}
-use mathlib.Core.Path.{_≡_, refl, sym, ap, _∙_}
 use Rattle.sheet.specs.Pass.{columnsOk}
 use borrow.Author.Needs.{needs}
 use Rattle.sheet.proofs.row.columns_fit.Statement.{statement}
 use Rattle.sheet.proofs.row.columns_fit.Tie as tie
-use Rattle.sheet.proofs.row.columns_fit.Reads as reads
-use Rattle.sheet.proofs.row.columns_fit.Lts as lts
-use Rattle.sheet.proofs.row.holds.Reads as holds-reads
-use Rattle.sheet.proofs.tables.of_kind.Reads as of-kind-reads
 
--- src/row.rt:136:23
 of-kind-requires : tie.Need-of-kind-requires
 of-kind-requires c κs = search needs
 
--- src/row.rt:136:8
 holds-requires : tie.Need-holds-requires
 holds-requires c κs = search needs
 
--- src/row.rt:137:31
 of-kind-requires-2 : tie.Need-of-kind-requires-2
 of-kind-requires-2 c κs = search needs
 
--- src/row.rt:137:9
 holds-requires-2 : tie.Need-holds-requires-2
 holds-requires-2 c κs = search needs
 
--- src/row.rt:137:9
 returns : tie.Need-returns
 unfolding columnsOk
 returns c = rw (← c .before .before .before .before .of-kind .ensures, ← c .before .of-kind2 .ensures, ← c .before .before .before .holds .ensures, ← c .holds2 .ensures, c .before .before .if1 .taken)
 
--- src/row.rt:133:1
 returns-2 : tie.Need-returns-2
 unfolding columnsOk
 returns-2 c = rw (← c .before .before .of-kind .ensures, ← c .before .holds .ensures, c .if1 .left)

@@ -3,25 +3,17 @@ use borrow.Author.Tests.{not-true, not-false}
 use borrow.Author.Needs.{needs}
 use Rattle.sheet.proofs.row.ends_fit.Statement.{statement}
 use Rattle.sheet.proofs.row.ends_fit.Tie as tie
-use Rattle.sheet.proofs.row.ends_fit.Reads as reads
-use Rattle.sheet.proofs.row.ends_fit.Lts as lts
-use Rattle.sheet.proofs.row.child_list_ends.Reads as child-list-ends-reads
-use Rattle.sheet.proofs.row.list_ends.Reads as list-ends-reads
 
--- src/row.rt:221:9
 child-list-ends-requires : tie.Need-child-list-ends-requires
 child-list-ends-requires c κs = search needs
 
--- src/row.rt:222:9
 returns : tie.Need-returns
 unfolding endsOk
 returns c = rw (← c .before .child-list-ends .ensures, not-true (c .before .child-list-ends .result) (c .if1 .taken))
 
--- src/row.rt:224:5
 list-ends-requires : tie.Need-list-ends-requires
 list-ends-requires c κs = search needs
 
--- src/row.rt:218:1
 returns-2 : tie.Need-returns-2
 unfolding endsOk
 returns-2 c = rw (← c .before .before .child-list-ends .ensures, not-false (c .before .before .child-list-ends .result) (c .before .if1 .left), c .list-ends .ensures)

@@ -3,20 +3,14 @@ use borrow.Author.Tests.{eq-eqb, ne-eqb}
 use borrow.Author.Needs.{needs}
 use Rattle.sheet.proofs.row.first_declared.Statement.{statement}
 use Rattle.sheet.proofs.row.first_declared.Tie as tie
-use Rattle.sheet.proofs.row.first_declared.Reads as reads
-use Rattle.sheet.proofs.row.first_declared.Lts as lts
-use Rattle.sheet.proofs.words.word.Reads as word-reads
 
--- src/row.rt:223:9
 returns : tie.Need-returns
 unfolding newOk
 returns c = rw (ne-eqb _ _ (c .if1 .taken))
 
--- src/row.rt:225:5
 word-requires : tie.Need-word-requires
 word-requires c κs = search needs
 
--- src/row.rt:219:1
 returns-2 : tie.Need-returns-2
 unfolding newOk
 returns-2 c = rw (eq-eqb _ _ (c .before .if1 .left), c .word .ensures)

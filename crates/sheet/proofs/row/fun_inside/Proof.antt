@@ -1,14 +1,10 @@
 use borrow.Author.Tests.{eq-eqb, ne-eqb}
 use Rattle.sheet.proofs.row.fun_inside.Statement.{statement}
 use Rattle.sheet.proofs.row.fun_inside.Tie as tie
-use Rattle.sheet.proofs.row.fun_inside.Reads as reads
-use Rattle.sheet.proofs.row.fun_inside.Lts as lts
 
--- src/row.rt:290:1
 returns : tie.Need-returns
 returns c = rw (eq-eqb _ _ (c .if1 .taken))
 
--- src/row.rt:290:1
 returns-2 : tie.Need-returns-2
 returns-2 c = rw (ne-eqb _ _ (c .if1 .left))
 

@@ -3,40 +3,29 @@ use borrow.Author.Tests.{eq-eqb, ne-eqb}
 use borrow.Author.Needs.{needs}
 use Rattle.sheet.proofs.row.function_fits.Statement.{statement}
 use Rattle.sheet.proofs.row.function_fits.Tie as tie
-use Rattle.sheet.proofs.row.function_fits.Reads as reads
-use Rattle.sheet.proofs.row.function_fits.Lts as lts
-use Rattle.sheet.proofs.row.unit_function_fits.Reads as unit-function-fits-reads
-use Rattle.sheet.proofs.words.word.Reads as word-reads
 
--- src/row.rt:174:9
 returns : tie.Need-returns
 unfolding functionOk
 returns c = rw (ne-eqb _ _ (c .if1 .taken))
 
--- src/row.rt:176:9
 word-requires : tie.Need-word-requires
 word-requires c κs = search needs
 
--- src/row.rt:178:9
 unit-function-fits-requires : tie.Need-unit-function-fits-requires
 unit-function-fits-requires c κs = search needs
 
--- src/row.rt:178:9
 returns-2 : tie.Need-returns-2
 unfolding functionOk
 returns-2 c = rw (eq-eqb _ _ (c .before .before .before .if1 .left), ← c .before .before .word .ensures, eq-eqb _ _ (c .before .if2 .taken), c .unit-function-fits .ensures)
 
--- src/row.rt:181:9
 returns-3 : tie.Need-returns-3
 unfolding functionOk
 returns-3 c = rw (eq-eqb _ _ (c .before .before .before .before .if1 .left), ← c .before .before .before .word .ensures, ne-eqb _ _ (c .before .before .if2 .left), ne-eqb _ _ (c .if3 .taken))
 
--- src/row.rt:184:9
 returns-4 : tie.Need-returns-4
 unfolding functionOk
 returns-4 c = rw (eq-eqb _ _ (c .before .before .before .before .before .if1 .left), ← c .before .before .before .before .word .ensures, ne-eqb _ _ (c .before .before .before .if2 .left), eq-eqb _ _ (c .before .if3 .left), ne-eqb _ _ (c .if4 .taken))
 
--- src/row.rt:170:1
 returns-5 : tie.Need-returns-5
 unfolding functionOk
 returns-5 c = rw (eq-eqb _ _ (c .before .before .before .before .before .before .if1 .left), ← c .before .before .before .before .before .word .ensures, ne-eqb _ _ (c .before .before .before .before .if2 .left), eq-eqb _ _ (c .before .before .if3 .left), eq-eqb _ _ (c .before .if4 .left))

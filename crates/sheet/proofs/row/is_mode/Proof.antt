@@ -2,18 +2,13 @@ use borrow.Author.Tests.{le-leb, lt-leb}
 use borrow.Author.Needs.{needs}
 use Rattle.sheet.proofs.row.is_mode.Statement.{statement}
 use Rattle.sheet.proofs.row.is_mode.Tie as tie
-use Rattle.sheet.proofs.row.is_mode.Reads as reads
-use Rattle.sheet.proofs.row.is_mode.Lts as lts
 
--- src/row.rt:107:9
 returns : tie.Need-returns
 returns c = rw (le-leb _ _ (c .if1 .taken))
 
--- src/row.rt:109:5
 sub-result : tie.Need-sub-result
 sub-result c = search needs
 
--- src/row.rt:103:1
 returns-2 : tie.Need-returns-2
 returns-2 c = rw (lt-leb _ _ (c .if1 .left))
 

@@ -1,14 +1,10 @@
 use borrow.Author.Tests.{le-leb, lt-leb}
 use Rattle.sheet.proofs.row.is_name.Statement.{statement}
 use Rattle.sheet.proofs.row.is_name.Tie as tie
-use Rattle.sheet.proofs.row.is_name.Reads as reads
-use Rattle.sheet.proofs.row.is_name.Lts as lts
 
--- src/row.rt:88:9
 returns : tie.Need-returns
 returns c = rw (le-leb _ _ (c .if1 .taken))
 
--- src/row.rt:84:1
 returns-2 : tie.Need-returns-2
 returns-2 c = rw (lt-leb _ _ (c .if1 .left))
 

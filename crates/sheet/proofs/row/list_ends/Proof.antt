@@ -3,28 +3,19 @@ use borrow.Author.Tests.{eq-eqb, ne-eqb}
 use borrow.Author.Needs.{needs}
 use Rattle.sheet.proofs.row.list_ends.Statement.{statement}
 use Rattle.sheet.proofs.row.list_ends.Tie as tie
-use Rattle.sheet.proofs.row.list_ends.Reads as reads
-use Rattle.sheet.proofs.row.list_ends.Lts as lts
-use Rattle.sheet.proofs.row.state_after.Reads as state-after-reads
-use Rattle.sheet.proofs.tables.may_end.Reads as may-end-reads
 
--- src/row.rt:200:9
 returns : tie.Need-returns
 returns c = rw (eq-eqb _ _ (c .if1 .taken))
 
--- src/row.rt:203:9
 returns-2 : tie.Need-returns-2
 returns-2 c = rw (ne-eqb _ _ (c .before .before .if1 .left), ne-eqb _ _ (c .if2 .taken))
 
--- src/row.rt:205:13
 state-after-requires : tie.Need-state-after-requires
 state-after-requires c κs = search needs
 
--- src/row.rt:205:5
 may-end-requires : tie.Need-may-end-requires
 may-end-requires c κs = search needs
 
--- src/row.rt:196:1
 returns-3 : tie.Need-returns-3
 unfolding endsIn
 returns-3 c = rw (ne-eqb _ _ (c .before .before .before .before .if1 .left), eq-eqb _ _ (c .before .before .if2 .left), c .may-end .ensures, c .before .state-after .ensures)

@@ -3,24 +3,17 @@ use borrow.Author.Tests.{eq-eqb, ne-eqb}
 use borrow.Author.Needs.{needs}
 use Rattle.sheet.proofs.row.note_declared.Statement.{statement}
 use Rattle.sheet.proofs.row.note_declared.Tie as tie
-use Rattle.sheet.proofs.row.note_declared.Reads as reads
-use Rattle.sheet.proofs.row.note_declared.Lts as lts
-use Rattle.sheet.proofs.words.put.Reads as put-reads
 
--- src/row.rt:351:9
 put-requires : tie.Need-put-requires
 put-requires c κs = search needs
 
--- src/row.rt:347:1
 same-length : tie.Need-same-length
 same-length c = search needs
 
--- src/row.rt:347:1
 returns : tie.Need-returns
 unfolding noteDeclared
 returns c = rw (eq-eqb _ _ (c .before .before .before .before .if1 .taken), c .before .before .put .ensures)
 
--- src/row.rt:347:1
 returns-2 : tie.Need-returns-2
 unfolding noteDeclared
 returns-2 c = rw (ne-eqb _ _ (c .if1 .left))

@@ -3,29 +3,20 @@ use borrow.Author.Tests.{eq-eqb, ne-eqb}
 use borrow.Author.Needs.{needs}
 use Rattle.sheet.proofs.row.note_next.Statement.{statement}
 use Rattle.sheet.proofs.row.note_next.Tie as tie
-use Rattle.sheet.proofs.row.note_next.Reads as reads
-use Rattle.sheet.proofs.row.note_next.Lts as lts
-use Rattle.sheet.proofs.row.next_entry.Reads as next-entry-reads
-use Rattle.sheet.proofs.row.put_entry.Reads as put-entry-reads
 
--- src/row.rt:314:28
 next-entry-requires : tie.Need-next-entry-requires
 next-entry-requires c κs = search needs
 
--- src/row.rt:314:9
 put-entry-requires : tie.Need-put-entry-requires
 put-entry-requires c κs = search needs
 
--- src/row.rt:310:1
 same-length : tie.Need-same-length
 same-length c = search needs
 
--- src/row.rt:310:1
 returns : tie.Need-returns
 unfolding noteNext
 returns c = rw (ne-eqb _ _ (c .before .before .before .before .before .if1 .taken), c .before .before .put-entry .ensures, c .before .before .before .next-entry .ensures)
 
--- src/row.rt:310:1
 returns-2 : tie.Need-returns-2
 unfolding noteNext
 returns-2 c = rw (eq-eqb _ _ (c .if1 .left))

@@ -2,44 +2,28 @@ use Rattle.sheet.specs.Pass.{noteAll}
 use borrow.Author.Needs.{needs}
 use Rattle.sheet.proofs.row.note_row.Statement.{statement}
 use Rattle.sheet.proofs.row.note_row.Tie as tie
-use Rattle.sheet.proofs.row.note_row.Reads as reads
-use Rattle.sheet.proofs.row.note_row.Lts as lts
-use Rattle.sheet.proofs.row.entry_at.Reads as entry-at-reads
-use Rattle.sheet.proofs.row.note_child.Reads as note-child-reads
-use Rattle.sheet.proofs.row.note_declared.Reads as note-declared-reads
-use Rattle.sheet.proofs.row.note_next.Reads as note-next-reads
-use Rattle.sheet.proofs.row.note_own.Reads as note-own-reads
-use Rattle.sheet.proofs.row.row_at.Reads as row-at-reads
 
--- src/row.rt:359:9
 row-at-requires : tie.Need-row-at-requires
 row-at-requires c κs = search needs
 
--- src/row.rt:360:9
 entry-at-requires : tie.Need-entry-at-requires
 entry-at-requires c κs = search needs
 
--- src/row.rt:361:5
 note-next-requires : tie.Need-note-next-requires
 note-next-requires c κs = search needs
 
--- src/row.rt:362:5
 note-child-requires : tie.Need-note-child-requires
 note-child-requires c κs = search needs
 
--- src/row.rt:363:5
 note-own-requires : tie.Need-note-own-requires
 note-own-requires c κs = search needs
 
--- src/row.rt:364:5
 note-declared-requires : tie.Need-note-declared-requires
 note-declared-requires c κs = search needs
 
--- src/row.rt:356:1
 same-length : tie.Need-same-length
 same-length c = search needs
 
--- src/row.rt:356:1
 returns : tie.Need-returns
 unfolding noteAll
 returns c = rw (c .before .before .note-declared .ensures, c .before .before .before .before .before .before .note-own .ensures, c .before .before .before .before .before .before .before .before .before .before .note-child .ensures, c .before .before .before .before .before .before .before .before .before .before .before .before .before .before .note-next .ensures, c .before .before .before .before .before .before .before .before .before .before .before .before .before .before .before .before .entry-at .ensures, c .before .before .before .before .before .before .before .before .before .before .before .before .before .before .before .before .before .before .row-at .ensures)

@@ -3,30 +3,22 @@ use borrow.Author.Tests.{lt-ltb, le-ltb, eq-eqb, ne-eqb}
 use borrow.Author.Needs.{needs}
 use Rattle.sheet.proofs.row.plain_fits.Statement.{statement}
 use Rattle.sheet.proofs.row.plain_fits.Tie as tie
-use Rattle.sheet.proofs.row.plain_fits.Reads as reads
-use Rattle.sheet.proofs.row.plain_fits.Lts as lts
-use Rattle.sheet.proofs.words.word.Reads as word-reads
 
--- src/row.rt:146:9
 returns : tie.Need-returns
 unfolding plainOk
 returns c = rw (le-ltb _ _ (c .if1 .taken))
 
--- src/row.rt:149:9
 returns-2 : tie.Need-returns-2
 unfolding plainOk
 returns-2 c = rw (lt-ltb _ _ (c .before .before .if1 .left), ne-eqb _ _ (c .if2 .taken))
 
--- src/row.rt:152:9
 returns-3 : tie.Need-returns-3
 unfolding plainOk
 returns-3 c = rw (lt-ltb _ _ (c .before .before .before .before .if1 .left), eq-eqb _ _ (c .before .before .if2 .left), lt-ltb _ _ (c .if3 .taken))
 
--- src/row.rt:154:5
 word-requires : tie.Need-word-requires
 word-requires c κs = search needs
 
--- src/row.rt:142:1
 returns-4 : tie.Need-returns-4
 unfolding plainOk
 returns-4 c = rw (lt-ltb _ _ (c .before .before .before .before .before .if1 .left), eq-eqb _ _ (c .before .before .before .if2 .left), le-ltb _ _ (c .before .if3 .left), c .word .ensures)

@@ -2,39 +2,28 @@ use Rattle.sheet.specs.Pass.{putEntry}
 use borrow.Author.Needs.{needs}
 use Rattle.sheet.proofs.row.put_entry.Statement.{statement}
 use Rattle.sheet.proofs.row.put_entry.Tie as tie
-use Rattle.sheet.proofs.row.put_entry.Reads as reads
-use Rattle.sheet.proofs.row.put_entry.Lts as lts
-use Rattle.sheet.proofs.words.put.Reads as put-reads
 
--- src/row.rt:63:5
 put-requires : tie.Need-put-requires
 put-requires c κs = search needs
 
--- src/row.rt:64:5
 put-requires-2 : tie.Need-put-requires-2
 put-requires-2 c κs = search needs
 
--- src/row.rt:65:5
 put-requires-3 : tie.Need-put-requires-3
 put-requires-3 c κs = search needs
 
--- src/row.rt:66:5
 put-requires-4 : tie.Need-put-requires-4
 put-requires-4 c κs = search needs
 
--- src/row.rt:67:5
 put-requires-5 : tie.Need-put-requires-5
 put-requires-5 c κs = search needs
 
--- src/row.rt:68:5
 put-requires-6 : tie.Need-put-requires-6
 put-requires-6 c κs = search needs
 
--- src/row.rt:60:1
 same-length : tie.Need-same-length
 same-length c = search needs
 
--- src/row.rt:60:1
 returns : tie.Need-returns
 unfolding putEntry
 returns c = rw (c .before .before .put6 .ensures, c .before .before .before .before .before .before .put5 .ensures, c .before .before .before .before .before .before .before .before .before .before .put4 .ensures, c .before .before .before .before .before .before .before .before .before .before .before .before .before .before .put3 .ensures, c .before .before .before .before .before .before .before .before .before .before .before .before .before .before .before .before .before .before .put2 .ensures, c .before .before .before .before .before .before .before .before .before .before .before .before .before .before .before .before .before .before .before .before .before .before .put .ensures)

@@ -3,55 +3,38 @@ use borrow.Author.Tests.{not-true, not-false}
 use borrow.Author.Needs.{needs}
 use Rattle.sheet.proofs.row.row_asked.Statement.{statement}
 use Rattle.sheet.proofs.row.row_asked.Tie as tie
-use Rattle.sheet.proofs.row.row_asked.Reads as reads
-use Rattle.sheet.proofs.row.row_asked.Lts as lts
-use Rattle.sheet.proofs.row.columns_fit.Reads as columns-fit-reads
-use Rattle.sheet.proofs.row.ends_fit.Reads as ends-fit-reads
-use Rattle.sheet.proofs.row.first_declared.Reads as first-declared-reads
-use Rattle.sheet.proofs.row.function_fits.Reads as function-fits-reads
-use Rattle.sheet.proofs.row.plain_fits.Reads as plain-fits-reads
 
--- src/row.rt:240:9
 columns-fit-requires : tie.Need-columns-fit-requires
 columns-fit-requires c κs = search needs
 
--- src/row.rt:241:9
 returns : tie.Need-returns
 unfolding rowAsked
 returns c = rw (← c .before .columns-fit .ensures, not-true (c .before .columns-fit .result) (c .if1 .taken))
 
--- src/row.rt:243:9
 plain-fits-requires : tie.Need-plain-fits-requires
 plain-fits-requires c κs = search needs
 
--- src/row.rt:244:9
 returns-2 : tie.Need-returns-2
 unfolding rowAsked
 returns-2 c = rw (← c .before .before .before .columns-fit .ensures, not-false (c .before .before .before .columns-fit .result) (c .before .before .if1 .left), ← c .before .plain-fits .ensures, not-true (c .before .plain-fits .result) (c .if2 .taken))
 
--- src/row.rt:246:9
 function-fits-requires : tie.Need-function-fits-requires
 function-fits-requires c κs = search needs
 
--- src/row.rt:247:9
 returns-3 : tie.Need-returns-3
 unfolding rowAsked
 returns-3 c = rw (← c .before .before .before .before .before .columns-fit .ensures, not-false (c .before .before .before .before .before .columns-fit .result) (c .before .before .before .before .if1 .left), ← c .before .before .before .plain-fits .ensures, not-false (c .before .before .before .plain-fits .result) (c .before .before .if2 .left), ← c .before .function-fits .ensures, not-true (c .before .function-fits .result) (c .if3 .taken))
 
--- src/row.rt:249:9
 ends-fit-requires : tie.Need-ends-fit-requires
 ends-fit-requires c κs = search needs
 
--- src/row.rt:250:9
 returns-4 : tie.Need-returns-4
 unfolding rowAsked
 returns-4 c = rw (← c .before .before .before .before .before .before .before .columns-fit .ensures, not-false (c .before .before .before .before .before .before .before .columns-fit .result) (c .before .before .before .before .before .before .if1 .left), ← c .before .before .before .before .before .plain-fits .ensures, not-false (c .before .before .before .before .before .plain-fits .result) (c .before .before .before .before .if2 .left), ← c .before .before .before .function-fits .ensures, not-false (c .before .before .before .function-fits .result) (c .before .before .if3 .left), ← c .before .ends-fit .ensures, not-true (c .before .ends-fit .result) (c .if4 .taken))
 
--- src/row.rt:252:5
 first-declared-requires : tie.Need-first-declared-requires
 first-declared-requires c κs = search needs
 
--- src/row.rt:237:1
 returns-5 : tie.Need-returns-5
 unfolding rowAsked
 returns-5 c = rw (← c .before .before .before .before .before .before .before .before .columns-fit .ensures, not-false (c .before .before .before .before .before .before .before .before .columns-fit .result) (c .before .before .before .before .before .before .before .if1 .left), ← c .before .before .before .before .before .before .plain-fits .ensures, not-false (c .before .before .before .before .before .before .plain-fits .result) (c .before .before .before .before .before .if2 .left), ← c .before .before .before .before .function-fits .ensures, not-false (c .before .before .before .before .function-fits .result) (c .before .before .before .if3 .left), ← c .before .before .ends-fit .ensures, not-false (c .before .before .ends-fit .result) (c .before .if4 .left), c .first-declared .ensures)

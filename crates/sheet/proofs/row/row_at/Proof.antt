@@ -1,35 +1,25 @@
 use borrow.Author.Needs.{needs}
 use Rattle.sheet.proofs.row.row_at.Statement.{statement}
 use Rattle.sheet.proofs.row.row_at.Tie as tie
-use Rattle.sheet.proofs.row.row_at.Reads as reads
-use Rattle.sheet.proofs.row.row_at.Lts as lts
-use Rattle.sheet.proofs.words.word.Reads as word-reads
 
--- src/row.rt:38:15
 word-requires : tie.Need-word-requires
 word-requires c κs = search needs
 
--- src/row.rt:39:15
 word-requires-2 : tie.Need-word-requires-2
 word-requires-2 c κs = search needs
 
--- src/row.rt:40:16
 word-requires-3 : tie.Need-word-requires-3
 word-requires-3 c κs = search needs
 
--- src/row.rt:41:15
 word-requires-4 : tie.Need-word-requires-4
 word-requires-4 c κs = search needs
 
--- src/row.rt:42:12
 word-requires-5 : tie.Need-word-requires-5
 word-requires-5 c κs = search needs
 
--- src/row.rt:43:12
 word-requires-6 : tie.Need-word-requires-6
 word-requires-6 c κs = search needs
 
--- src/row.rt:34:1
 returns : tie.Need-returns
 returns c = cc
 

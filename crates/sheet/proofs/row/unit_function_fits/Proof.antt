@@ -2,27 +2,19 @@ use borrow.Author.Tests.{eq-eqb, ne-eqb}
 use borrow.Author.Needs.{needs}
 use Rattle.sheet.proofs.row.unit_function_fits.Statement.{statement}
 use Rattle.sheet.proofs.row.unit_function_fits.Tie as tie
-use Rattle.sheet.proofs.row.unit_function_fits.Reads as reads
-use Rattle.sheet.proofs.row.unit_function_fits.Lts as lts
-use Rattle.sheet.proofs.words.word.Reads as word-reads
 
--- src/row.rt:162:9
 returns : tie.Need-returns
 returns c = rw (ne-eqb _ _ (c .if1 .taken))
 
--- src/row.rt:164:8
 word-requires : tie.Need-word-requires
 word-requires c κs = search needs
 
--- src/row.rt:165:9
 returns-2 : tie.Need-returns-2
 returns-2 c = rw (eq-eqb _ _ (c .before .before .if1 .left), ← c .before .word .ensures, ne-eqb _ _ (c .if2 .taken))
 
--- src/row.rt:167:5
 word-requires-2 : tie.Need-word-requires-2
 word-requires-2 c κs = search needs
 
--- src/row.rt:158:1
 returns-3 : tie.Need-returns-3
 returns-3 c = rw (eq-eqb _ _ (c .before .before .before .if1 .left), ← c .before .before .word .ensures, eq-eqb _ _ (c .before .if2 .left), c .word2 .ensures)
 

@@ -6,26 +6,19 @@ use mathlib.Core.Path.{sym, ap}
 use borrow.Author.Needs.{needs}
 use Rattle.sheet.proofs.tables.may_end.Statement.{statement}
 use Rattle.sheet.proofs.tables.may_end.Tie as tie
-use Rattle.sheet.proofs.tables.may_end.Reads as reads
-use Rattle.sheet.proofs.tables.may_end.Lts as lts
 
--- src/tables.rt:141:19
 mul-row : tie.Need-mul-row
 mul-row c = search needs
 
--- src/tables.rt:141:19
 array-copy-out-row : tie.Need-array-copy-out-row
 array-copy-out-row c = search needs
 
--- src/tables.rt:142:16
 array-read-result : tie.Need-array-read-result
 array-read-result c = search needs
 
--- src/tables.rt:142:9
 returns : tie.Need-returns
 returns c = search needs
 
--- src/tables.rt:137:1
 returns-2 : tie.Need-returns-2
 returns-2 c = sym (ap (λ (x : ℕ). eqb x 1) (no-row stateTable _ 0 (c .if1 .left)))
 

@@ -4,31 +4,22 @@ use mathlib.Core.Path.{sym}
 use borrow.Author.Needs.{needs}
 use Rattle.sheet.proofs.tables.of_kind.Statement.{statement}
 use Rattle.sheet.proofs.tables.of_kind.Tie as tie
-use Rattle.sheet.proofs.tables.of_kind.Reads as reads
-use Rattle.sheet.proofs.tables.of_kind.Lts as lts
-use Rattle.sheet.proofs.tables.wide.Reads as wide-reads
 
--- src/tables.rt:116:19
 mul-row : tie.Need-mul-row
 mul-row c = search needs
 
--- src/tables.rt:116:19
 array-copy-out-row : tie.Need-array-copy-out-row
 array-copy-out-row c = search needs
 
--- src/tables.rt:117:21
 array-read-wide : tie.Need-array-read-wide
 array-read-wide c = search needs
 
--- src/tables.rt:117:9
 wide-requires : tie.Need-wide-requires
 wide-requires c κs = search needs
 
--- src/tables.rt:117:9
 returns : tie.Need-returns
 returns c = search needs
 
--- src/tables.rt:111:1
 returns-2 : tie.Need-returns-2
 returns-2 c = sym (no-row kindTable _ _ (c .if1 .left))
 

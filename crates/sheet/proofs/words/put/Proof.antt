@@ -3,34 +3,25 @@ use mathlib.Core.Path.{sym}
 use borrow.Author.Needs.{needs}
 use Rattle.sheet.proofs.words.put.Statement.{statement}
 use Rattle.sheet.proofs.words.put.Tie as tie
-use Rattle.sheet.proofs.words.put.Reads as reads
-use Rattle.sheet.proofs.words.put.Lts as lts
 
--- src/words.rt:17:13
 mul-i : tie.Need-mul-i
 mul-i c = search needs
 
--- src/words.rt:17:13
 add-i : tie.Need-add-i
 add-i c = search needs
 
--- src/words.rt:19:9
 mul-t : tie.Need-mul-t
 mul-t c = search needs
 
--- src/words.rt:19:9
 slice-write-t : tie.Need-slice-write-t
 slice-write-t c = search needs
 
--- src/words.rt:14:1
 same-length : tie.Need-same-length
 same-length c = search needs
 
--- src/words.rt:14:1
 returns : tie.Need-returns
 returns c = search needs
 
--- src/words.rt:14:1
 returns-2 : tie.Need-returns-2
 returns-2 c = sym (set-out _ _ _ (c .if1 .left))
 

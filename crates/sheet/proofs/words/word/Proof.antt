@@ -3,30 +3,22 @@ use mathlib.Core.Path.{sym}
 use borrow.Author.Needs.{needs}
 use Rattle.sheet.proofs.words.word.Statement.{statement}
 use Rattle.sheet.proofs.words.word.Tie as tie
-use Rattle.sheet.proofs.words.word.Reads as reads
-use Rattle.sheet.proofs.words.word.Lts as lts
 
--- src/words.rt:10:13
 mul-i : tie.Need-mul-i
 mul-i c = search needs
 
--- src/words.rt:10:13
 add-i : tie.Need-add-i
 add-i c = search needs
 
--- src/words.rt:11:22
 mul-result : tie.Need-mul-result
 mul-result c = search needs
 
--- src/words.rt:11:22
 shared-slice-read-result : tie.Need-shared-slice-read-result
 shared-slice-read-result c = search needs
 
--- src/words.rt:7:1
 returns : tie.Need-returns
 returns c = search needs
 
--- src/words.rt:7:1
 returns-2 : tie.Need-returns-2
 returns-2 c = sym (List·getD-eq-default (c .before .args .s .now) 0 (c .if1 .left))
 

@@ -1,0 +1,73 @@
+-- Question 2 part by part, and the fixed names as a list of their own.
+use mathlib.Core.Path.{_≡_, refl, sym, ap, _∙_}
+use mathlib.Core.Bool.{Bool, true, false, _&&_}
+use mathlib.Core.List.{List}
+use Prim.Native.Nat.{ℕ, _<_, _≤_}
+use lib.ListN.{length}
+use borrow.Author.Tests.{le-leb, lt-leb, leb-true}
+use Rattle.definition.specs.Basics.{all, unlike}
+use Rattle.definition.specs.Bytes.{bytes}
+use Rattle.definition.specs.Names.{Name, fixed, listed, sameName, namesFew, namesShort, namesSized, namesEnded, namesUnlike, namesFit}
+use Rattle.definition.proofs.Lists.Tests.{T-true}
+use Rattle.names.specs.Listed.{absent}
+use Rattle.names.proofs.Laws.{and-false}
+use Rattle.names.proofs.Compare.{unlike-append}
+
+-- the bytes of the program's constant
+abbrev pub fixedList : List ℕ
+fixedList =
+    bytes "Int64\nFloat64\nString\nArray\nByteArray\nDict\nUIEvent\nAudioNeeded\nAudioData\nkind\nwindow_id\nkey\nbutton\nx\ny\ndx\ndy\ntext\nnum_samples\nnum_channels\ndevice_id\nnull\ninit\nMAIN_UNIT\n"
+
+pub fixed-listed : listed fixedList ≡ fixed
+fixed-listed = refl
+
+fixed-unlike : unlike sameName fixed ≡ true
+fixed-unlike = refl
+
+-- the fixed names are unlike each other, so what is left is to compare them with the listed ones, and those with each other
+pub fixed-first : (w : List ℕ) {t : Bool} → t ≡ all (absent w) (listed fixedList) → namesUnlike w ≡ (t && unlike sameName (listed w))
+fixed-first w e =
+    unlike-append sameName fixed (listed w)
+    ∙ ap (λ (t : Bool). t && (all (absent w) fixed && unlike sameName (listed w))) fixed-unlike
+    ∙ ap (λ (l : List Name). all (absent w) l && unlike sameName (listed w)) (sym fixed-listed)
+    ∙ ap (λ (t : Bool). t && unlike sameName (listed w)) (sym e)
+
+sizes-no : (f s z e u : Bool) → (f && z) ≡ false → (f && s && z && e && u) ≡ false
+sizes-no false s z e u p = refl
+sizes-no true s z e u p = ap (λ (t : Bool). t && e && u) (and-false s p)
+
+sizes-yes : (f s z e u : Bool) → s ≡ true → e ≡ true → (f && z) ≡ true → (f && s && z && e && u) ≡ u
+sizes-yes true s z e u p q r = rw (p, q, r)
+sizes-yes false s z e u p q r = absurd (T-true false r)
+
+left-true : (f z : Bool) → (f && z) ≡ true → f ≡ true
+left-true true z e = refl
+left-true false z e = e
+
+right-true : (f z : Bool) → (f && z) ≡ true → z ≡ true
+right-true true z e = e
+right-true false z e = absurd (T-true false e)
+
+module _ (w : List ℕ) where
+  pub few-of : (namesFew w && namesSized w) ≡ true → length (listed w) ≤ 1024
+  few-of e = leb-true (length (listed w)) 1024 (left-true (namesFew w) (namesSized w) e)
+
+  pub unfit-long : 32768 < length w → namesFit w ≡ false
+  unfit-long h = ap (λ (t : Bool). t && namesSized w && namesEnded w && namesUnlike w) (and-false (namesFew w) (lt-leb (length w) 32768 h))
+
+  pub unfit-open : namesEnded w ≡ false → namesFit w ≡ false
+  unfit-open e = ap (λ (t : Bool). t && namesUnlike w) (and-false (namesFew w && namesShort w && namesSized w) e)
+
+  pub unfit-sizes : (namesFew w && namesSized w) ≡ false → namesFit w ≡ false
+  unfit-sizes e = sizes-no (namesFew w) (namesShort w) (namesSized w) (namesEnded w) (namesUnlike w) e
+
+  pub fit-rest : length w ≤ 32768 → namesEnded w ≡ true → (namesFew w && namesSized w) ≡ true → namesFit w ≡ namesUnlike w
+  fit-rest h e f = sizes-yes (namesFew w) (namesShort w) (namesSized w) (namesEnded w) (namesUnlike w) (le-leb (length w) 32768 h) e f
+
+  -- what passes question 2 is small
+  pub fit-small : namesFit w ≡ true → (length (listed w) ≤ 1024) × (length w ≤ 32768)
+  fit-small e =
+      let ended = left-true (namesFew w && namesShort w && namesSized w && namesEnded w) (namesUnlike w) e in
+      let all-sized = left-true (namesFew w && namesShort w && namesSized w) (namesEnded w) ended in
+      let short = left-true (namesFew w && namesShort w) (namesSized w) all-sized in
+      (leb-true (length (listed w)) 1024 (left-true (namesFew w) (namesShort w) short), leb-true (length w) 32768 (right-true (namesFew w) (namesShort w) short))

@@ -1,0 +1,257 @@
+// The names of a sheet: a byte list in which byte 10 ends each. Question 2, and the bytes of a name by its number.
+ghost use mathlib.Core.Path.{_≡_};
+ghost use mathlib.Core.Bool.{_&&_};
+ghost use mathlib.Core.List.{[]};
+ghost use Prim.Native.Nat.{_+_, _<_, _≤_};
+ghost use lib.ListN.{length, getD, take, drop};
+ghost use Rattle.definition.specs.Basics.{any, all, unlike};
+ghost use Rattle.definition.specs.Names.{listed, sameName, namesFew, namesSized, namesEnded, namesUnlike, namesFit};
+ghost use Rattle.names.specs.Listed.{nameOf, Ends, starts, absent};
+
+// The byte that ends a name.
+const END: u8 = 10;
+
+// The number of the first listed name. Smaller numbers are fixed.
+const FIRST_LISTED: u32 = 25;
+
+// Limits of question 2: names, bytes of the whole list, bytes of one name.
+const MAX_NAMES: usize = 1024;
+
+const MAX_BYTES: usize = 32768;
+
+const MAX_SIZE: usize = 255;
+
+// The fixed names as a list of their own, in the order of their numbers 1 to 24.
+const FIXED: [u8; 168] =
+    *b"Int64\nFloat64\nString\nArray\nByteArray\nDict\nUIEvent\nAudioNeeded\nAudioData\nkind\nwindow_id\nkey\nbutton\nx\ny\ndx\ndy\ntext\nnum_samples\nnum_channels\ndevice_id\nnull\ninit\nMAIN_UNIT\n";
+
+// Where each of them starts, and the place past the last.
+const FIXED_STARTS: [u32; 25] = [
+    0,
+    6,
+    14,
+    21,
+    27,
+    37,
+    42,
+    50,
+    62,
+    72,
+    77,
+    87,
+    91,
+    98,
+    100,
+    102,
+    105,
+    108,
+    113,
+    125,
+    138,
+    148,
+    153,
+    158,
+    168,
+];
+
+// Are the bytes of two names the same?
+pub fn same_name(a: &[u8], b: &[u8]) -> bool
+    ensures { λ r. ⌜ r ≡ sameName (now (a .entry)) (now (b .entry)) ⌝ }
+{
+    if a.len() != b.len() {
+        return false;
+    }
+    let mut i = 0;
+    while i < a.len() {
+        if a[i] != b[i] {
+            return false;
+        }
+        i += 1;
+    }
+    true
+}
+
+// Where the name that starts at `at` ends: at its end byte, or with the list.
+fn name_end(names: &[u8], at: usize) -> usize
+    requires { ⌜ at < length (now names) ⌝ }
+    ensures { λ r. ⌜ Ends (now (names .entry)) at r ⌝ }
+{
+    let mut i = at;
+    while i < names.len() {
+        if names[i] == END {
+            return i;
+        }
+        i += 1;
+    }
+    i
+}
+
+// How many names are listed. What stands after the last end is one too.
+pub fn count_names(names: &[u8]) -> usize
+    ensures { λ r. ⌜ r ≡ length (listed (now (names .entry))) ⌝ }
+{
+    let mut at = 0;
+    let mut count = 0;
+    while at < names.len() {
+        at = name_end(names, at) + 1;
+        count += 1;
+    }
+    count
+}
+
+// The listed name of a number, without its end, as a part of the list; an empty part where the number names nothing in it.
+pub fn name_bytes(names: &[u8], number: u32) -> &[u8]
+    ensures { λ r. ⌜ now r ≡ nameOf (now (names .entry)) number ⌝ }
+{
+    if number < FIRST_LISTED {
+        return &names[..0];
+    }
+    let mut left = number - FIRST_LISTED;
+    let mut at = 0;
+    while at < names.len() {
+        let end = name_end(names, at);
+        let next = end + 1;
+        if left == 0 {
+            return &names[at..end];
+        }
+        left -= 1;
+        at = next;
+    }
+    &names[..0]
+}
+
+// Are the names few enough, and each neither empty nor too long?
+fn sizes_fit(names: &[u8]) -> bool
+    ensures { λ r. ⌜ r ≡ (namesFew (now (names .entry)) && namesSized (now (names .entry))) ⌝ }
+{
+    let mut at = 0;
+    let mut seen = 0;
+    while at < names.len() {
+        let end = name_end(names, at);
+        if seen == MAX_NAMES {
+            return false;
+        }
+        if end == at {
+            return false;
+        }
+        if end - at > MAX_SIZE {
+            return false;
+        }
+        at = end + 1;
+        seen += 1;
+    }
+    true
+}
+
+// Has the last name its end?
+fn is_ended(names: &[u8]) -> bool
+    ensures { λ r. ⌜ r ≡ namesEnded (now (names .entry)) ⌝ }
+{
+    if names.len() == 0 {
+        return true;
+    }
+    names[names.len() - 1] == END
+}
+
+// Writes where each name starts and then the place past the last, and answers how many names there are.
+fn find_starts(names: &[u8], table: &mut [u32]) -> usize
+    requires { ⌜ (length (now names) ≤ 32768) × (length (listed (now names)) < length (now table)) ⌝ }
+    ensures { λ r. ⌜ (r ≡ length (listed (now (names .entry)))) × (r < length (now (table .entry))) × (take (r + 1) (now (table .exit)) ≡ starts (now (names .entry))) ⌝ }
+{
+    let mut at: usize = 0;
+    let mut k: usize = 0;
+    while at < names.len() {
+        table[k] = at as u32;
+        let end = name_end(names, at);
+        at = end + 1;
+        k += 1;
+    }
+    table[k] = at as u32;
+    k
+}
+
+// The name at place `k` of a list whose starts are in `table`.
+fn name_at<'a>(names: &'a [u8], table: &[u32], k: usize) -> &'a [u8]
+    requires { ⌜ (now table ≡ starts (now names)) × (k + 1 < length (now table)) ⌝ }
+    ensures { λ r. ⌜ now r ≡ getD (listed (now (names .entry))) k [] ⌝ }
+{
+    let start = table[k] as usize;
+    let end = table[k + 1] as usize - 1;
+    &names[start..end]
+}
+
+// Is a name in a list, at place `from` or later? `same_name` looks at the sizes and then the first bytes before all else.
+fn is_among(name: &[u8], names: &[u8], table: &[u32], from: usize) -> bool
+    requires { ⌜ (now table ≡ starts (now names)) × (from < length (now table)) ⌝ }
+    ensures { λ r. ⌜ r ≡ any (sameName (now (name .entry))) (drop from (listed (now (names .entry)))) ⌝ }
+{
+    let mut k = from;
+    while k + 1 < table.len() {
+        if same_name(name, name_at(names, table, k)) {
+            return true;
+        }
+        k += 1;
+    }
+    false
+}
+
+// Is no name of one list in another? `places` has the starts of the one, `table` those of the other.
+fn none_shared(ours: &[u8], places: &[u32], names: &[u8], table: &[u32]) -> bool
+    requires { ⌜ (now places ≡ starts (now ours)) × (now table ≡ starts (now names)) ⌝ }
+    ensures { λ r. ⌜ r ≡ all (absent (now (names .entry))) (listed (now (ours .entry))) ⌝ }
+{
+    let mut i = 0;
+    while i + 1 < places.len() {
+        if is_among(name_at(ours, places, i), names, table, 0) {
+            return false;
+        }
+        i += 1;
+    }
+    true
+}
+
+// Are no two names of a list the same?
+fn none_twice(names: &[u8], table: &[u32]) -> bool
+    requires { ⌜ now table ≡ starts (now names) ⌝ }
+    ensures { λ r. ⌜ r ≡ unlike sameName (listed (now (names .entry))) ⌝ }
+{
+    let mut i = 0;
+    while i + 1 < table.len() {
+        if is_among(name_at(names, table, i), names, table, i + 1) {
+            return false;
+        }
+        i += 1;
+    }
+    true
+}
+
+// Are no two of the fixed and the listed names the same? Question 2 compares names through this routine alone, so that an
+// index of names can take its place.
+fn names_unlike(names: &[u8], table: &[u32]) -> bool
+    requires { ⌜ now table ≡ starts (now names) ⌝ }
+    ensures { λ r. ⌜ r ≡ namesUnlike (now (names .entry)) ⌝ }
+{
+    if !none_shared(&FIXED, &FIXED_STARTS, names, table) {
+        return false;
+    }
+    none_twice(names, table)
+}
+
+// Question 2: may the names stand as they are listed?
+pub fn names_fit(names: &[u8]) -> bool
+    ensures { λ r. ⌜ r ≡ namesFit (now (names .entry)) ⌝ }
+{
+    if names.len() > MAX_BYTES {
+        return false;
+    }
+    if !is_ended(names) {
+        return false;
+    }
+    if !sizes_fit(names) {
+        return false;
+    }
+    // One start for each name, and the place past the last.
+    let mut table = [0u32; 1025];
+    let count = find_starts(names, &mut table);
+    names_unlike(names, &table[..count + 1])
+}

@@ -1,0 +1,5 @@
+-- The laws for callers are in Laws; the rest are steps of the proofs.
+pub mod Laws
+pub mod Lists
+pub mod Reading
+pub mod Writing
