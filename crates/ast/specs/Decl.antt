@@ -7,6 +7,7 @@ use lib.ListN.{getD}
 use Rattle.ast.specs.declared.Decl.{Decl}
 use Rattle.ast.specs.declared.Decl.the-variants.{Fun, Class, Global, Arg, Local, Captured}
 
+-- A test as a number, as answer rows have it.
 abbrev pub bitOf : Bool → ℕ
 bitOf false = 0
 bitOf true = 1
@@ -44,5 +45,6 @@ declOf code x y z =
     (cond (eqb code 4) (Arg x (record { 0 = y }))
     (cond (eqb code 5) (Local x (record { 0 = y }) (eqb z 1)) (Captured x (eqb z 1))))))
 
+-- The same of a list of code and values.
 abbrev pub declIn : List ℕ → Decl
 declIn w = declOf (getD w 0 0) (getD w 1 0) (getD w 2 0) (getD w 3 0)

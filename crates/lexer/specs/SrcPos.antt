@@ -7,6 +7,7 @@ use lib.Dec.{ltb}
 abbrev pub clamped : ℕ → ℕ
 clamped column = min 16383 column
 
+-- p, or zero where a test fails
 abbrev pub orNone : Bool → ℕ → ℕ
 orNone true p = p
 orNone false p = 0
@@ -16,11 +17,14 @@ unfoldable pub packed : ℕ → ℕ → ℕ → ℕ
 packed file line column =
     orNone (ltb file 262144) (file * 2 ^ 46 + line * 2 ^ 14 + clamped column)
 
+-- the file of a position: its highest 18 bits
 unfoldable pub fileOf : ℕ → ℕ
 fileOf p = p / 2 ^ 46
 
+-- the line: the 32 bits below the file
 unfoldable pub lineOf : ℕ → ℕ
 lineOf p = p / 2 ^ 14 % 2 ^ 32
 
+-- the column: the lowest 14 bits
 unfoldable pub columnOf : ℕ → ℕ
 columnOf p = p % 2 ^ 14

@@ -14,7 +14,8 @@ use Rattle.definition.specs.Outcome.{refused, rowsFit, asked, outcome}
 use Rattle.definition.proofs.Lists.Tests.{T-true, T-and}
 use Rattle.sheet.specs.Pass.{rowsNoted, depthOk}
 use Rattle.sheet.specs.Rising.{Rising}
-use Rattle.sheet.specs.Whole.{linksOk, rowsAll, formatQuestion, firstFour}
+use Rattle.sheet.specs.Questions.{formatQuestion, firstFour}
+use Rattle.sheet.specs.Whole.{linksOk, rowsAll}
 use Rattle.sheet.proofs.Question3.{question-3, question-4, links-right}
 
 zero-at : (n i : ℕ) → getD {A = ℕ} (replicate n 0) i 0 ≡ 0

@@ -1,7 +1,7 @@
 -- The two passes over the links: do all rise, and is every row but 0 linked exactly once?
-use mathlib.Core.Path.{_≡_, sym, ap, _∙_, subst}
+use mathlib.Core.Path.{_≡_, refl, sym, ap, _∙_, subst}
 use mathlib.Core.Bool.{Bool, true, false, _&&_, _||_}
-use Prim.Native.Nat.{ℕ, suc, _+_, _*_, _<_, _≤_}
+use Prim.Native.Nat.{ℕ, zero, suc, _+_, _*_, _<_, _≤_}
 use native.Mathlib.Omega.{arith}
 use lib.Dec.{eqb, ltb, T}
 use lib.ListN.{length, getD, set, length-set}
@@ -18,6 +18,7 @@ use borrow.Author.Tests.{eq-eqb, ne-eqb}
 use Rattle.definition.proofs.Lists.Counts.{all-below, pairs-length}
 use Rattle.definition.proofs.Format.Links.{Rises}
 use Rattle.definition.proofs.Format.Facts.{link-rises}
+use Rattle.sheet.specs.Rising.{Counts}
 
 module _ (s : Sheet) (n : ℕ) (size : length s ≡ 8 * n) where
   rows-is : rows s ≡ n
@@ -117,23 +118,33 @@ more-le seen x k l = omega (arith, more-at seen x k l, go (eqb k x))
     go true = omega arith
     go false = omega arith
 
-module _ (s : Sheet) (n : ℕ) (size : length s ≡ 8 * n) (seen : List ℕ) (c : Counted s n n seen) where
-  whole : (k : ℕ) → k < n → getD seen k 0 ≡ count (eqb k) (links s)
-  whole k l =
-      let w : n ≡ rows s = omega arith in
-      c .here k l ∙ ap (λ (m : ℕ). linkedTo s m k) w
+-- all rows are counted
+pub counted-all : (s : Sheet) (n r : ℕ) (seen : List ℕ) → length s ≡ 8 * n → n ≤ r → r ≤ n → Counted s n r seen → Counts s n seen
+counted-all s n r seen size a b c = let w : r ≡ rows s = omega arith in record { links-to = λ k l. c .here k l ∙ ap (λ (m : ℕ). linkedTo s m k) w }
 
-  pub not-once : (k : ℕ) → 0 < k → k < n → (getD seen k 0 ≡ 1 → ⊥) → all (linkedOnce (links s)) (from 0 (rows s)) ≡ false
-  not-once k z l f =
-      all-fails (linkedOnce (links s)) (rows s) k (omega arith)
-      (ap (λ (t : Bool). t || eqb (count (eqb k) (links s)) 1) (ne-eqb k 0 (λ e. omega arith)) ∙ ne-eqb (count (eqb k) (links s)) 1 (λ e. f (whole k l ∙ e)))
+-- is row k linked once, by the counts in seen?
+abbrev onceIn : List ℕ → ℕ → Bool
+onceIn seen k = eqb k 0 || eqb (getD seen k 0) 1
 
-  pub once : (m : ℕ) → n ≤ m → ((k : ℕ) → 0 < k → k < m → getD seen k 0 ≡ 1) → all (linkedOnce (links s)) (from 0 (rows s)) ≡ true
-  once m l f = true-of (all (linkedOnce (links s)) (from 0 (rows s))) (all-of (linkedOnce (links s)) 0 (rows s) (λ k a b. go k (omega arith) (ℕ-trichotomy 0 k)))
-    where
-      go : (k : ℕ) → k < n → (0 < k) ⊎ ((0 ≡ k) ⊎ (k < 0)) → T (linkedOnce (links s) k)
-      go k b (inl z) =
-          T-true (linkedOnce (links s) k)
-          (ap (λ (t : Bool). t || eqb (count (eqb k) (links s)) 1) (ne-eqb k 0 (λ e. omega arith)) ∙ eq-eqb (count (eqb k) (links s)) 1 (sym (whole k b) ∙ f k z (omega arith)))
-      go k b (inr (inl e)) = T-true (linkedOnce (links s) k) (ap (λ (t : Bool). t || eqb (count (eqb k) (links s)) 1) (eq-eqb k 0 (sym e)))
-      go k b (inr (inr e)) = absurd (omega arith)
+pub not-once : (n : ℕ) (seen : List ℕ) (k : ℕ) → 1 ≤ k → k < n → (getD seen k 0 ≡ 1 → ⊥) → false ≡ all (λ k. eqb k 0 || eqb (getD seen k 0) 1) (from 0 n)
+not-once n seen k z l f =
+    sym (all-fails (onceIn seen) n k l (ap (λ (t : Bool). t || eqb (getD seen k 0) 1) (ne-eqb k 0 (λ e. omega arith)) ∙ ne-eqb (getD seen k 0) 1 f))
+
+pub once : (n : ℕ) (seen : List ℕ) (m : ℕ) → n ≤ m → ((k : ℕ) → k < m → 0 < k → getD seen k 0 ≡ 1) → true ≡ all (λ k. eqb k 0 || eqb (getD seen k 0) 1) (from 0 n)
+once n seen m l f = sym (true-of (all (onceIn seen) (from 0 n)) (all-of (onceIn seen) 0 n (λ k a b. go k (omega arith) (ℕ-trichotomy 0 k))))
+  where
+    go : (k : ℕ) → k < n → (0 < k) ⊎ ((0 ≡ k) ⊎ (k < 0)) → T (onceIn seen k)
+    go k b (inl z) = T-true (onceIn seen k) (ap (λ (t : Bool). t || eqb (getD seen k 0) 1) (ne-eqb k 0 (λ e. omega arith)) ∙ eq-eqb (getD seen k 0) 1 (f k (omega arith) z))
+    go k b (inr (inl e)) = T-true (onceIn seen k) (ap (λ (t : Bool). t || eqb (getD seen k 0) 1) (eq-eqb k 0 (sym e)))
+    go k b (inr (inr e)) = absurd (omega arith)
+
+all-same : (p q : ℕ → Bool) (i n : ℕ) → ((k : ℕ) → i ≤ k → k < i + n → p k ≡ q k) → all p (from i n) ≡ all q (from i n)
+all-same p q i zero f = refl
+all-same p q i (suc n) f =
+    ap (λ (t : Bool). t && all p (from (suc i) n)) (f i (omega arith) (omega arith)) ∙ ap (λ (t : Bool). q i && t) (all-same p q (suc i) n (λ k a b. f k (omega arith) (omega arith)))
+
+pub once-linked : (s : Sheet) (n : ℕ) (seen : List ℕ) → length s ≡ 8 * n → Counts s n seen
+    → all (λ k. eqb k 0 || eqb (getD seen k 0) 1) (from 0 n) ≡ all (linkedOnce (links s)) (from 0 (rows s))
+once-linked s n seen size f =
+    let w : n ≡ rows s = omega arith in
+    all-same (onceIn seen) (linkedOnce (links s)) 0 n (λ k a b. ap (λ (c : ℕ). eqb k 0 || eqb c 1) (f .links-to k (omega arith))) ∙ ap (λ (m : ℕ). all (linkedOnce (links s)) (from 0 m)) w

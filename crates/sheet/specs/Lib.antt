@@ -1,3 +1,4 @@
+pub mod Questions
 pub mod States
 pub mod Pass
 pub mod Apart

@@ -66,13 +66,15 @@ unfoldable pub putEntry : List ℕ → ℕ → Entry → List ℕ
 putEntry t r e =
     set (set (set (set (set (set t (8 * r + 0) (e .parent)) (8 * r + 1) (e .depth)) (8 * r + 2) (e .unit)) (8 * r + 3) (e .fun)) (8 * r + 4) (e .class)) (8 * r + 5) (e .state)
 
--- unit and class of a row r of kind k itself, whose entry e has those of its parent, and the function around what it holds
+-- the unit of a row r of kind k itself, whose entry e has that of its parent
 abbrev pub unitHere : ℕ → ℕ → Entry → ℕ
 unitHere r k e = if eqb k 2 then r else e .unit
 
+-- the innermost function around what row r holds
 abbrev pub funInside : ℕ → ℕ → Entry → ℕ
 funInside r k e = if eqb k 6 then r else e .fun
 
+-- the class whose method row r is or lies in, whose entry e has that of its parent
 abbrev pub classHere : Sheet → ℕ → Entry → ℕ
 classHere s k e = if eqb k 6 && eqb (kind s (e .parent)) 4 then e .parent else e .class
 
@@ -112,6 +114,7 @@ noteDeclared r w t = if eqb (w .kind) 30 then set t (8 * w .a + 7) r else t
 unfoldable pub noteAll : Sheet → ℕ → Row → Entry → List ℕ → List ℕ
 noteAll s r w e t = noteDeclared r w (noteOwn s r (w .kind) e (noteChild s r w e (noteNext (w .next) (w .kind) e t)))
 
+-- the same when the pass reaches row r
 abbrev pub noteRow : Sheet → ℕ → List ℕ → List ℕ
 noteRow s r t = noteAll s r (rowIn s r) (entryIn t r) t
 
@@ -125,22 +128,23 @@ unfoldable pub rowsNoted : Sheet → ℕ → ℕ → List ℕ → List ℕ
 rowsNoted s zero r t = t
 rowsNoted s (suc k) r t = rowsNoted s k (suc r) (noteRow s r t)
 
--- What is asked of row r when all entries are known. A literal's class is of its unit;
+-- when all entries are known: is the class of a literal of its own unit?
 unfoldable pub literalOk : Sheet → List ℕ → ℕ → Bool
 literalOk s t r = not (eqb (kind s r) 52) || (eqb (a s r) 0 || eqb (word t (a s r) 2) (word t r 2))
 
--- a class declaration stands in its unit's function;
+-- does a class declaration stand in its unit's function?
 unfoldable pub declarationOk : Sheet → List ℕ → ℕ → Bool
 declarationOk s t r = not (eqb (kind s r) 30) || eqb (word t (word t r 3) 0) (word t (a s r) 0)
 
--- a class is declared;
+-- is a class declared?
 unfoldable pub classOk : Sheet → List ℕ → ℕ → Bool
 classOk s t r = not (eqb (kind s r) 4) || not (eqb (word t r 7) 0)
 
--- a row in a method comes before its class's declaration
+-- does a row in a method come before its class's declaration?
 unfoldable pub methodOk : List ℕ → ℕ → Bool
 methodOk t r = eqb (word t r 4) 0 || ltb r (word t (word t r 4) 7)
 
+-- all that is asked of row r when all entries are known
 unfoldable pub crossOk : Sheet → List ℕ → ℕ → Bool
 crossOk s t r = literalOk s t r && (declarationOk s t r && (classOk s t r && methodOk t r))
 

@@ -134,6 +134,7 @@ states =
     ∷ (one statement ∷ one statement ∷ [])
     ∷ (one statement ∷ []) ∷ []
 
+-- what is left in state i, or what no list fits where there is no such state
 abbrev pub stateAt : ℕ → List Part
 stateAt i = getD states i never
 
@@ -142,5 +143,6 @@ abbrev pub rules : List Column
 rules =
     nought ∷ unread ∷ upTo 1 ∷ name ∷ orZero name ∷ upTo 1000000 ∷ row 2 ∷ row 6 ∷ row 4 ∷ orZero (row 4) ∷ orZero (row 6) ∷ global ∷ mode ∷ []
 
+-- rule i, or that of a column that is 0
 abbrev pub ruleAt : ℕ → Column
 ruleAt i = getD rules i nought

@@ -1,7 +1,7 @@
 // Questions 1 to 4 of document 01 about a sheet and its name list.
 ghost use mathlib.Core.Path.{_≡_};
 ghost use Rattle.definition.specs.Outcome.{rowsFit};
-ghost use Rattle.sheet.specs.Whole.{firstFour};
+ghost use Rattle.sheet.specs.Questions.{firstFour};
 
 mod apart;
 mod format;

@@ -1,248 +1,28 @@
-use mathlib.Core.Path.{_≡_, refl, sym, _∙_, subst}
-use Prim.Native.Nat.{ℕ, _≤_, _<_, _+_, _*_, _-_}
-use native.Mathlib.Omega.{arith}
-use lib.ListN.{length, getD, length-set}
-use Rattle.definition.specs.Sheet.{next, child}
-use borrow.Author.Count.{below-more}
-use Rattle.sheet.proofs.LinkLaws.{Counted, more, counted-none, counted-next, more-le, link-below, linked-le, not-once, once}
+use Rattle.sheet.proofs.LinkLaws.{once-linked}
+use mathlib.Core.Path.{_∙_}
+use borrow.Author.Needs.{needs}
 use Rattle.sheet.proofs.links.linked_once.Statement.{statement}
 use Rattle.sheet.proofs.links.linked_once.Tie as tie
+use Rattle.sheet.proofs.links.linked_once.Reads as reads
+use Rattle.sheet.proofs.links.linked_once.Lts as lts
+use Rattle.sheet.proofs.links.all_once.Reads as all-once-reads
+use Rattle.sheet.proofs.links.count_links.Reads as count-links-reads
 
-abbrev Inv-loop : tie.InvT-loop
-Inv-loop s n seen₀ r₀ seen r = (r ≤ n) × Counted s n r seen × (length seen ≡ length seen₀)
+-- src/links.rt:72:5
+count-links-requires : tie.Need-count-links-requires
+count-links-requires c κs = search needs
 
-abbrev μ-loop : tie.MeasureT-loop
-μ-loop s n seen₀ r₀ seen r = n - r
+-- src/links.rt:73:5
+all-once-requires : tie.Need-all-once-requires
+all-once-requires c κs = search needs
 
-abbrev Inv-loop2 : tie.InvT-loop2
-Inv-loop2 s n seen r k₀ k = (1 ≤ k) × ((j : ℕ) → j < k → 0 < j → getD seen j 0 ≡ 1)
+-- src/links.rt:68:1
+same-length : tie.Need-same-length
+same-length c = search needs
 
-abbrev μ-loop2 : tie.MeasureT-loop2
-μ-loop2 s n seen r k₀ k = n - k
-
-loop-holds : tie.Need-loop-holds Inv-loop μ-loop Inv-loop2 μ-loop2
-loop-holds c = (omega arith, counted-none (c .args .s .now) (c .args .n) (c .args .seen .now) (c .pre .2) (c .pre .4), refl)
-
-mul-next : tie.Need-mul-next Inv-loop μ-loop Inv-loop2 μ-loop2
-mul-next c = omega arith
-
-add-next : tie.Need-add-next Inv-loop μ-loop Inv-loop2 μ-loop2
-add-next c = omega arith
-
-mul-next-2 : tie.Need-mul-next-2 Inv-loop μ-loop Inv-loop2 μ-loop2
-mul-next-2 c = omega arith
-
-shared-slice-read-next : tie.Need-shared-slice-read-next Inv-loop μ-loop Inv-loop2 μ-loop2
-shared-slice-read-next c = omega arith
-
-cast-next : tie.Need-cast-next Inv-loop μ-loop Inv-loop2 μ-loop2
-cast-next c = omega (arith, c .shared-slice-known .given (8 * c .before .before .loop .r + 1))
-
-mul-child : tie.Need-mul-child Inv-loop μ-loop Inv-loop2 μ-loop2
-mul-child c = omega arith
-
-add-child : tie.Need-add-child Inv-loop μ-loop Inv-loop2 μ-loop2
-add-child c = omega arith
-
-mul-child-2 : tie.Need-mul-child-2 Inv-loop μ-loop Inv-loop2 μ-loop2
-mul-child-2 c = omega arith
-
-shared-slice-read-child : tie.Need-shared-slice-read-child Inv-loop μ-loop Inv-loop2 μ-loop2
-shared-slice-read-child c = omega arith
-
-cast-child : tie.Need-cast-child Inv-loop μ-loop Inv-loop2 μ-loop2
-cast-child c = omega (arith, c .shared-slice-known2 .given (8 * c .before .before .before .loop .r + 2))
-
-mul-seen : tie.Need-mul-seen Inv-loop μ-loop Inv-loop2 μ-loop2
-mul-seen c =
-    let z = c .before .before .before in
-    let s = z .before .args .s .now in
-    let n = z .before .args .n in
-    let r = z .loop .r in
-    let seen = z .loop .seen in
-    let b = link-below s n (z .before .pre .0) (z .before .pre .3) r (c .before .before .loop-test .taken) in
-    let d = z .loop .inv .1 in
-    omega (arith, b .0)
-
-slice-read-seen : tie.Need-slice-read-seen Inv-loop μ-loop Inv-loop2 μ-loop2
-slice-read-seen c =
-    let z = c .before .before .before .before in
-    let s = z .before .args .s .now in
-    let n = z .before .args .n in
-    let r = z .loop .r in
-    let seen = z .loop .seen in
-    let b = link-below s n (z .before .pre .0) (z .before .pre .3) r (c .before .before .before .loop-test .taken) in
-    let d = z .loop .inv .1 in
-    omega (arith, b .0, d .size)
-
-add-seen : tie.Need-add-seen Inv-loop μ-loop Inv-loop2 μ-loop2
-add-seen c =
-    let z = c .before .before .before .before in
-    let s = z .before .args .s .now in
-    let n = z .before .args .n in
-    let r = z .loop .r in
-    let seen = z .loop .seen in
-    let b = link-below s n (z .before .pre .0) (z .before .pre .3) r (c .before .before .before .loop-test .taken) in
-    let d = z .loop .inv .1 in
-    omega (arith, d .here (next s r) (b .0), linked-le s r (next s r))
-
-slice-write-seen : tie.Need-slice-write-seen Inv-loop μ-loop Inv-loop2 μ-loop2
-slice-write-seen c =
-    let z = c .before .before .before .before in
-    let s = z .before .args .s .now in
-    let n = z .before .args .n in
-    let r = z .loop .r in
-    let seen = z .loop .seen in
-    let b = link-below s n (z .before .pre .0) (z .before .pre .3) r (c .before .before .before .loop-test .taken) in
-    let d = z .loop .inv .1 in
-    omega (arith, b .0, d .size)
-
-mul-seen-2 : tie.Need-mul-seen-2 Inv-loop μ-loop Inv-loop2 μ-loop2
-mul-seen-2 c =
-    let z = c .before .before .before .before in
-    let s = z .before .args .s .now in
-    let n = z .before .args .n in
-    let r = z .loop .r in
-    let seen = z .loop .seen in
-    let b = link-below s n (z .before .pre .0) (z .before .pre .3) r (c .before .before .before .loop-test .taken) in
-    let d = z .loop .inv .1 in
-    omega (arith, b .1)
-
-slice-read-seen-2 : tie.Need-slice-read-seen-2 Inv-loop μ-loop Inv-loop2 μ-loop2
-slice-read-seen-2 c =
-    let z = c .before .before .before .before .before in
-    let s = z .before .args .s .now in
-    let n = z .before .args .n in
-    let r = z .loop .r in
-    let seen = z .loop .seen in
-    let b = link-below s n (z .before .pre .0) (z .before .pre .3) r (c .before .before .before .before .loop-test .taken) in
-    let d = z .loop .inv .1 in
-    omega (arith, b .1, d .size, length-set seen (next s r) (getD seen (next s r) 0 + 1))
-
-add-seen-2 : tie.Need-add-seen-2 Inv-loop μ-loop Inv-loop2 μ-loop2
-add-seen-2 c =
-    let z = c .before .before .before .before .before in
-    let s = z .before .args .s .now in
-    let n = z .before .args .n in
-    let r = z .loop .r in
-    let seen = z .loop .seen in
-    let b = link-below s n (z .before .pre .0) (z .before .pre .3) r (c .before .before .before .before .loop-test .taken) in
-    let d = z .loop .inv .1 in
-    let l : next s r < length seen = omega (arith, b .0, d .size) in
-    omega (arith, d .here (child s r) (b .1), linked-le s r (child s r), more-le seen (next s r) (child s r) l)
-
-slice-write-seen-2 : tie.Need-slice-write-seen-2 Inv-loop μ-loop Inv-loop2 μ-loop2
-slice-write-seen-2 c =
-    let z = c .before .before .before .before .before in
-    let s = z .before .args .s .now in
-    let n = z .before .args .n in
-    let r = z .loop .r in
-    let seen = z .loop .seen in
-    let b = link-below s n (z .before .pre .0) (z .before .pre .3) r (c .before .before .before .before .loop-test .taken) in
-    let d = z .loop .inv .1 in
-    omega (arith, b .1, d .size, length-set seen (next s r) (getD seen (next s r) 0 + 1))
-
-add-r : tie.Need-add-r Inv-loop μ-loop Inv-loop2 μ-loop2
-add-r c = omega arith
-
-loop-less : tie.Need-loop-less Inv-loop μ-loop Inv-loop2 μ-loop2
-loop-less c = omega arith
-
-loop-again : tie.Need-loop-again Inv-loop μ-loop Inv-loop2 μ-loop2
-loop-again c =
-    let z = c .before .before .before .before .before in
-    let s = z .before .args .s .now in
-    let n = z .before .args .n in
-    let r = z .loop .r in
-    let seen = z .loop .seen in
-    let b = link-below s n (z .before .pre .0) (z .before .pre .3) r (c .before .before .before .before .loop-test .taken) in
-    let d = z .loop .inv .1 in (
-      omega arith,
-      counted-next s n r seen d (b .0) (b .1),
-      length-set (more seen (next s r)) (child s r) (getD (more seen (next s r)) (child s r) 0 + 1) ∙ length-set seen (next s r) (getD seen (next s r) 0 + 1) ∙ z .loop .inv .2,
-    )
-
-loop2-holds : tie.Need-loop2-holds Inv-loop μ-loop Inv-loop2 μ-loop2
-loop2-holds c = (omega arith, λ j l z. absurd (omega arith))
-
-mul-if1 : tie.Need-mul-if1 Inv-loop μ-loop Inv-loop2 μ-loop2
-mul-if1 c = omega arith
-
-slice-read-if1 : tie.Need-slice-read-if1 Inv-loop μ-loop Inv-loop2 μ-loop2
-slice-read-if1 c = omega (arith, c .before .before .before .before .loop .inv .1 .size)
-
-same-length : tie.Need-same-length Inv-loop μ-loop Inv-loop2 μ-loop2
-same-length c = c .before .before .before .before .before .loop .inv .2
-
-returns : tie.Need-returns Inv-loop μ-loop Inv-loop2 μ-loop2
-returns c =
-    let z = c .before .before .before .before .before in
-    let s = z .before .args .s .now in
-    let n = z .before .args .n in
-    let seen = z .loop .seen in
-    let e : z .loop .r ≡ n = omega (arith, z .loop .inv .0, c .before .before .before .before .loop-test .left) in
-    let d : Counted s n n seen = subst (λ (m : ℕ). Counted s n m seen) e (z .loop .inv .1) in
-    sym (not-once s n (z .before .pre .0) seen d (c .before .before .before .loop2 .k) (c .before .before .before .loop2 .inv .0) (c .before .before .loop2-test .taken) (c .if1 .taken))
-
-add-k : tie.Need-add-k Inv-loop μ-loop Inv-loop2 μ-loop2
-add-k c = omega arith
-
-loop2-less : tie.Need-loop2-less Inv-loop μ-loop Inv-loop2 μ-loop2
-loop2-less c = omega arith
-
-loop2-again : tie.Need-loop2-again Inv-loop μ-loop Inv-loop2 μ-loop2
-loop2-again c = (omega arith, below-more _ _ (c .before .before .before .loop2 .inv .1) (λ z. c .if1 .left))
-
-same-length-2 : tie.Need-same-length-2 Inv-loop μ-loop Inv-loop2 μ-loop2
-same-length-2 c = c .before .before .before .loop .inv .2
-
-returns-2 : tie.Need-returns-2 Inv-loop μ-loop Inv-loop2 μ-loop2
-returns-2 c =
-    let z = c .before .before .before in
-    let s = z .before .args .s .now in
-    let n = z .before .args .n in
-    let seen = z .loop .seen in
-    let e : z .loop .r ≡ n = omega (arith, z .loop .inv .0, c .before .before .loop-test .left) in
-    let d : Counted s n n seen = subst (λ (m : ℕ). Counted s n m seen) e (z .loop .inv .1) in
-    sym (once s n (z .before .pre .0) seen d (c .before .loop2 .k) (c .loop2-test .left) (λ k p l. c .before .loop2 .inv .1 k l p))
+-- src/links.rt:68:1
+returns : tie.Need-returns
+returns c = c .all-once .ensures ∙ once-linked (c .before .before .before .before .before .before .before .before .args .s .now) (c .before .before .before .before .before .before .before .before .args .n) _ (c .before .before .before .before .before .before .before .before .pre .0) (c .before .before .before .before .count-links .ensures)
 
 pub linked-once-spec : {M : Type 1} → statement M
-linked-once-spec =
-    tie.close
-    (tie.spec
-    Inv-loop
-    μ-loop
-    Inv-loop2
-    μ-loop2
-    loop-holds
-    mul-next
-    add-next
-    mul-next-2
-    shared-slice-read-next
-    cast-next
-    mul-child
-    add-child
-    mul-child-2
-    shared-slice-read-child
-    cast-child
-    mul-seen
-    slice-read-seen
-    add-seen
-    slice-write-seen
-    mul-seen-2
-    slice-read-seen-2
-    add-seen-2
-    slice-write-seen-2
-    add-r
-    loop-less
-    loop-again
-    loop2-holds
-    mul-if1
-    slice-read-if1
-    same-length
-    returns
-    add-k
-    loop2-less
-    loop2-again
-    same-length-2
-    returns-2)
+linked-once-spec = tie.close (tie.spec count-links-requires all-once-requires same-length returns)
