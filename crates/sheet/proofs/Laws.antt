@@ -2,7 +2,7 @@
 use mathlib.Core.Path.{_≡_, refl, sym, ap, _∙_}
 use mathlib.Core.Bool.{Bool, true, false, _&&_}
 use mathlib.Core.List.{List, []}
-use Prim.Native.Nat.{ℕ, zero, suc, _+_, _-_, _<_, _≤_}
+use Prim.Native.Nat.{ℕ, zero, suc, _+_, _-_, _<_, _≤_, _*_, _/_, _%_}
 use native.Mathlib.Omega.{arith}
 use lib.Dec.{T, leb, leb→le}
 use lib.ListN.{length, getD, List·getD-eq-default}
@@ -24,6 +24,13 @@ short-rows = tt
 
 pub no-class : (q k : ℕ) → q < 26 → 13 ≤ k → entryOf stateTable q (k + 1) ≡ 0
 no-class q k h l = List·getD-eq-default (getD stateTable q []) 0 (omega (arith, leb→le (length (getD stateTable q [])) 14 (all-below (λ i. leb (length (getD stateTable i [])) 14) 26 short-rows q h)))
+
+-- a state and a class out of their key
+pub keyed : (q k : ℕ) → k < 13 → entryOf stateTable ((16 * q + k) / 16) ((16 * q + k) % 16 + 1) ≡ entryOf stateTable q (k + 1)
+keyed q k l =
+    let e : (16 * q + k) / 16 ≡ q = omega arith in
+    let f : (16 * q + k) % 16 + 1 ≡ k + 1 = omega arith in
+    ap (λ (x : ℕ). entryOf stateTable x ((16 * q + k) % 16 + 1)) e ∙ ap (entryOf stateTable q) f
 
 -- a number that is none of the rules 1 to 12
 pub rule-rest : (n : ℕ) → (n ≡ 1 → ⊥) → (n ≡ 2 → ⊥) → (n ≡ 3 → ⊥) → (n ≡ 4 → ⊥) → (n ≡ 5 → ⊥) → (n ≡ 6 → ⊥) → (n ≡ 7 → ⊥) → (n ≡ 8 → ⊥) → (n ≡ 9 → ⊥) → (n ≡ 10 → ⊥) → (n ≡ 11 → ⊥) → (n ≡ 12 → ⊥) → ruleAt n ≡ nought

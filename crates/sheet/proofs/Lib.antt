@@ -1,4 +1,5 @@
 mod Laws
+mod Matching
 mod LinkLaws
 mod ApartLaws
 mod EntryLaws

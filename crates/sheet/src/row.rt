@@ -7,9 +7,12 @@ ghost use Rattle.definition.specs.Sheet.{kind, next, rows, is};
 ghost use Rattle.definition.specs.Shape.{holds as holdsRule};
 ghost use Rattle.sheet.specs.States.{entryOf, kindTable, ruleAt};
 ghost use Rattle.sheet.specs.Pass.{rowIn, entryIn, columnsOk, plainOk, functionOk, stateAfter, endsIn, endsOk, newOk, rowAsked, rowOk, putEntry, noteNext, noteChild, noteOwn, noteDeclared, noteRow, unitHere, funInside, classHere, childEntry, nextEntry};
+use crate::tables::class_of;
 use crate::tables::may_end;
 use crate::tables::next_state;
-use crate::tables::of_kind;
+use crate::tables::rule_a;
+use crate::tables::rule_b;
+use crate::tables::start_of;
 use crate::words::put;
 use crate::words::word;
 
@@ -133,8 +136,8 @@ fn holds(s: &[u32], last: u32, rule: u32, v: u32) -> bool
 fn columns_fit(s: &[u32], last: u32, w: Row) -> bool
     ensures { λ x. ⌜ x ≡ columnsOk (now (s .entry)) last (w .kind) (w .a) (w .b) ⌝ }
 {
-    if holds(s, last, of_kind(w.kind, 2), w.a) {
-        return holds(s, last, of_kind(w.kind, 3), w.b);
+    if holds(s, last, rule_a(w.kind), w.a) {
+        return holds(s, last, rule_b(w.kind), w.b);
     }
     false
 }
@@ -189,7 +192,7 @@ fn function_fits(s: &[u32], w: Row, p: u32) -> bool
 fn state_after(q: u32, kind: u32) -> u32
     ensures { λ x. ⌜ x ≡ stateAfter q kind ⌝ }
 {
-    next_state(q, of_kind(kind, 0))
+    next_state(q, class_of(kind))
 }
 
 // May the list that a row is in, with state `q` before it, end after it if it does? Row 0 is in none.
@@ -212,7 +215,7 @@ fn child_list_ends(w: Row) -> bool
     if w.child != 0 {
         return true;
     }
-    may_end(of_kind(w.kind, 1))
+    may_end(start_of(w.kind))
 }
 
 fn ends_fit(w: Row, r: u32, q: u32) -> bool
@@ -302,7 +305,7 @@ fn child_entry(s: &[u32], r: u32, kind: u32, e: Entry) -> Entry
         unit: unit_here(r, kind, e),
         fun: fun_inside(r, kind, e),
         class: class_here(s, kind, e),
-        state: of_kind(kind, 1),
+        state: start_of(kind),
     }
 }
 

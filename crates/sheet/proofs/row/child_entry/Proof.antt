@@ -14,11 +14,11 @@ fun-inside-requires c κs = search needs
 class-here-requires : tie.Need-class-here-requires
 class-here-requires c κs = search needs
 
-of-kind-requires : tie.Need-of-kind-requires
-of-kind-requires c κs = search needs
+start-of-requires : tie.Need-start-of-requires
+start-of-requires c κs = search needs
 
 returns : tie.Need-returns
-returns c = rw (c .of-kind .ensures, c .before .class-here .ensures, c .before .before .fun-inside .ensures, c .before .before .before .unit-here .ensures, c .before .before .before .before .deeper .ensures)
+returns c = rw (c .start-of .ensures, c .before .class-here .ensures, c .before .before .fun-inside .ensures, c .before .before .before .unit-here .ensures, c .before .before .before .before .deeper .ensures)
 
 pub child-entry-spec : {M : Type 1} → statement M
 child-entry-spec =
@@ -28,5 +28,5 @@ child-entry-spec =
     unit-here-requires
     fun-inside-requires
     class-here-requires
-    of-kind-requires
+    start-of-requires
     returns)

@@ -7,15 +7,15 @@ use Rattle.sheet.proofs.row.child_list_ends.Tie as tie
 returns : tie.Need-returns
 returns c = rw (ne-eqb _ _ (c .if1 .taken))
 
-of-kind-requires : tie.Need-of-kind-requires
-of-kind-requires c κs = search needs
+start-of-requires : tie.Need-start-of-requires
+start-of-requires c κs = search needs
 
 may-end-requires : tie.Need-may-end-requires
 may-end-requires c κs = search needs
 
 returns-2 : tie.Need-returns-2
 unfolding endsIn
-returns-2 c = rw (eq-eqb _ _ (c .before .before .if1 .left), c .may-end .ensures, c .before .of-kind .ensures)
+returns-2 c = rw (eq-eqb _ _ (c .before .before .if1 .left), c .may-end .ensures, c .before .start-of .ensures)
 
 pub child-list-ends-spec : {M : Type 1} → statement M
-child-list-ends-spec = tie.close (tie.spec returns of-kind-requires may-end-requires returns-2)
+child-list-ends-spec = tie.close (tie.spec returns start-of-requires may-end-requires returns-2)
