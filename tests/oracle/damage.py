@@ -7,7 +7,7 @@ import random
 
 from format_check import FIXED, EXPRESSIONS, STATEMENTS
 from sheets import Generator, ORDERS, add_tower
-from tree import A, B, CHILD, FILE, MAX_WORD, NEXT, Node, ordered, positions, rows_of, words_of
+from tree import A, B, CHILD, FILE, MAX_WORD, NEXT, Node, kids_of, ordered, positions, rows_of, words_of
 
 NAME_IN_A = (4, 7, 8, 9, 10, 11, 29, 50, 51, 54, 55)
 ZERO_A = (2, 20, 21, 22, 23, 24, 25, 26, 27, 28, 40, 41, 42, 47, 48, 53, 58, 59)
@@ -409,11 +409,7 @@ class Rows:
         self.count = len(rows)
 
     def kids(self, row):
-        kids, kid = [], self.rows[row][CHILD]
-        while kid:
-            kids.append(kid)
-            kid = self.rows[kid][NEXT]
-        return kids
+        return kids_of(self.rows, row)
 
     def some(self, test):
         found = [row for row in range(1, self.count) if test(row)]

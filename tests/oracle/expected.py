@@ -8,7 +8,7 @@ import subprocess
 import tempfile
 
 from format_check import FIXED, first_no, listed
-from tree import A, B, CHILD, KIND, NEXT, text_of, words_of
+from tree import A, B, KIND, kids_of, text_of, words_of
 
 MAX_COLUMN = 16383
 LENT = 16384
@@ -58,11 +58,7 @@ class Reader:
         self.names = [None] + FIXED + listed(names)
 
     def kids(self, row):
-        kids, kid = [], self.rows[row][CHILD]
-        while kid:
-            kids.append(kid)
-            kid = self.rows[kid][NEXT]
-        return kids
+        return kids_of(self.rows, row)
 
     def kind(self, row):
         return self.rows[row][KIND]

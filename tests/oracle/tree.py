@@ -23,6 +23,15 @@ class Node:
         return nodes
 
 
+def kids_of(rows, row):
+    """The child list of a row."""
+    kids, kid = [], rows[row][CHILD]
+    while kid:
+        kids.append(kid)
+        kid = rows[kid][NEXT]
+    return kids
+
+
 def successors(root, late=()):
     """What must come after each node: its first child, its next sibling, and a class declaration after its methods'
     rows. Pairs in `late` are (class declaration, row): there the declaration must come first."""
