@@ -1,0 +1,63 @@
+-- A sheet past the questions 3 and 4 meets what the refinement needs, with room by the number of its rows.
+use mathlib.Core.Path.{_≡_}
+use mathlib.Core.List.{List, []}
+use mathlib.Core.Bool.{true}
+use Prim.Native.Nat.{ℕ, suc, _+_, _*_, _/_, _<_, _≤_}
+use native.Mathlib.Omega.{arith}
+use lib.ListN.{length, getD}
+use lib.Dec.{T}
+use Rattle.definition.specs.Sheet.{is, Sheet, rows, functionsOf}
+use Rattle.definition.specs.Format.{sheetFits, depthsFit}
+use Rattle.definition.specs.Walk.{walk}
+use Rattle.definition.specs.Scope.{start}
+use Rattle.definition.proofs.Format.Facts.{facts}
+use Rattle.definition.proofs.Walk.Fits.{Fits}
+use Rattle.definition.proofs.Walk.Fitting.{fits}
+use Rattle.definition.proofs.Lists.Tests.{T-true}
+use Rattle.definition.proofs.Walk.Rows.{kind-not-zero}
+use Rattle.definition.proofs.Walk.Once.{declares-once}
+use Rattle.definition.proofs.Walk.Around.{Walks}
+use Rattle.machine.specs.Machine.{startState, runState}
+use Rattle.machine.proofs.Refinement.{Room, Ends}
+use Rattle.machine.proofs.WalkReady.{WalkReady, ready-ends}
+use Rattle.machine.proofs.Entered.{entered-once, entered-rows, pushes-bound}
+use Rattle.machine.proofs.NodeBound.{reached-mem, declared-inside, nodes-bound}
+use Rattle.machine.proofs.GlobalBound.{globals-bound}
+use Rattle.machine.proofs.ImportBound.{walk-shallow}
+use Rattle.machine.proofs.DepthBound.{functions-few}
+
+-- room for a sheet whose last name is n, with at most K functions around an identifier
+pub record EnoughRoom (n K : ℕ) (s : Sheet) (room : Room) : Type 0 where
+  pub for-rows : rows s ≤ room .rows
+  pub for-entries : n + 11 + 3 * rows s < room .entries
+  pub for-words : n + 11 + 3 * rows s < 4294967295
+  pub for-nodes : K * rows s ≤ room .nodes
+
+pub ready-within : (n K : ℕ) (s : Sheet) (room : Room) → 0 < rows s → sheetFits n s ≡ true → 1 ≤ K → ((x : ℕ) → Walks s x → T (is s 50 x) → length (functionsOf s x) ≤ K)
+    → EnoughRoom n K s room → WalkReady s room (suc n)
+ready-within n K s room z h i f y =
+    let ok : Fits s = fits n s z h in
+    record {
+      header = ok .header;
+      once = entered-once ok;
+      are-rows = entered-rows ok (room .rows) (y .for-rows);
+      some-row = omega (arith, y .for-rows);
+      inside-function = declared-inside ok;
+      lets-once = λ r k. declares-once ok r (λ z. kind-not-zero ok 29 r tt (T-true (is s 29 r) k) z);
+      shallow = λ m w. walk-shallow n ok (facts n s h) m (reached-mem w);
+      small-entries = omega (arith, y .for-words, pushes-bound ok);
+      small-globals = omega (arith, y .for-words, globals-bound n ok (facts n s h));
+      enough-entries = omega (arith, y .for-entries, pushes-bound ok);
+      enough-nodes = omega (arith, y .for-nodes, nodes-bound ok K i f);
+    }
+
+-- with depths up to 64 (question 4): at most 21 functions around an identifier, so 21 nodes for each row
+pub ready-deep : (n : ℕ) (s : Sheet) (room : Room) → 0 < rows s → sheetFits n s ≡ true → T (depthsFit s) → EnoughRoom n 21 s room → WalkReady s room (suc n)
+ready-deep n s room z h g y = ready-within n 21 s room z h (omega arith) (functions-few n (fits n s z h) (facts n s h) g) y
+
+-- The walk of a sheet past the questions 3 and 4, with a table of zeros: the machine agrees with the definition, or refuses
+-- with the definition's first no.
+pub fitting-sheet : (n : ℕ) (s : Sheet) (v t q : List ℕ) → ((j : ℕ) → getD t j 0 ≡ 0) → 0 < rows s → sheetFits n s ≡ true → T (depthsFit s)
+    → EnoughRoom n 21 s (record { entries = length v / 5; rows = length t / 8; nodes = length q / 4 })
+    → Ends s (record { entries = length v / 5; rows = length t / 8; nodes = length q / 4 }) [] start (walk s) (runState s (walk s) (startState s v t q))
+fitting-sheet n s v t q c z h g y = ready-ends s (suc n) v t q c (ready-deep n s _ z h g y)

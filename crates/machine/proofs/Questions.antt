@@ -1,0 +1,64 @@
+-- The program asks the definition's questions.
+use mathlib.Core.Path.{_≡_, refl, sym, ap}
+use mathlib.Core.List.{List}
+use mathlib.Core.Bool.{Bool, true, false, _&&_}
+use Prim.Native.Nat.{ℕ, zero, suc, _-_, _<_, _≤_}
+use native.Mathlib.Omega.{arith}
+use lib.Dec.{eqb, leb}
+use Rattle.definition.specs.Basics.{if_then_else_}
+use Rattle.definition.specs.Sheet.{Sheet, is, a, b, child}
+use Rattle.definition.specs.Meaning.{Meaning, classNumber}
+use Rattle.definition.specs.Walk.{Event, enter, leave, loop, declare, bring, visit}
+use Rattle.definition.specs.Scope.{Stack, find, taken, inLoop}
+use Rattle.definition.specs.Slots.{openLocals, topSlot}
+use Rattle.definition.specs.Question.{constructed, receiver, askVisit, askEvent}
+use Rattle.machine.specs.Machine.{entryWord, findName, takenIn, loopIn, slotAt, Scopes, lookupSlot, constructedClass, receiverClass, checkVisit, checkEvent}
+use Rattle.machine.proofs.Entries.{entries, find-is, taken-is, loop-is}
+use Rattle.machine.proofs.ScopesAgree.{ScopesAgree, lookup-is}
+
+-- the slot of what a name means
+if-le : (b : Bool) (x y n : ℕ) → x ≤ n → y ≤ n → (if b then x else y) ≤ n
+if-le true x y n p q = p
+if-le false x y n p q = q
+
+pub find-le : (v : List ℕ) (m n : ℕ) → findName v m n ≤ n
+unfolding findName
+find-le v m zero = omega arith
+find-le v m (suc n) =
+    let h : findName v m n ≤ n = find-le v m n in
+    let g : findName v m n ≤ suc n = omega arith in
+    if-le (leb (entryWord v n 0) 1) _ _ (suc n) g (if-le (eqb (entryWord v n 1) m) _ _ (suc n) (omega arith) g)
+
+slot-of : (s : Sheet) (v : List ℕ) (n k : ℕ) → k ≤ n → ((i : ℕ) → i < n → entryWord v i 4 ≡ openLocals s (entries v i)) → topSlot s (entries v k) ≡ slotAt v k
+unfolding entries slotAt
+slot-of s v n zero h f = refl
+slot-of s v n (suc i) h f = sym (f i (omega arith))
+
+module _ (s : Sheet) (z : Stack) (p : Scopes) (o : ScopesAgree s z p) where
+  pub slot-found : (m : ℕ) → topSlot s (find m z) ≡ lookupSlot p m
+  unfolding lookupSlot
+  slot-found m = rw (← (o .stack-is), find-is) (slot-of s (p .env) (p .count) _ (find-le (p .env) m (p .count)) (o .slots))
+
+  taken-found : (m : ℕ) → taken m z ≡ takenIn (p .env) m (p .count)
+  taken-found m = rw (← (o .stack-is)) (taken-is (p .env) m (p .count))
+
+  loop-found : inLoop s z ≡ loopIn s (p .env) (p .count)
+  loop-found = rw (← (o .stack-is)) (loop-is s (p .env) (p .count))
+
+  pub constructed-is : (r : ℕ) → constructed s r z ≡ constructedClass s r p
+  constructed-is r = ap (λ (d : Meaning). if is s 50 (child s r) then classNumber d else 0) (lookup-is s z p o (a s (child s r)))
+
+  pub receiver-is : (r : ℕ) → receiver s r z ≡ receiverClass s r p
+  receiver-is r = ap (λ (d : Meaning). if is s 54 (child s r) && is s 50 (child s (child s r)) then classNumber d else 0) (lookup-is s z p o (a s (child s (child s r))))
+
+  checkVisit-is : (r : ℕ) → askVisit s r z ≡ checkVisit s r p
+  checkVisit-is r = rw (loop-found, lookup-is s z p o (a s (child s r)), lookup-is s z p o (a s r), lookup-is s z p o (b s (a s r)), lookup-is s z p o (a s (child s (child s r))))
+
+  pub check-is : (e : Event) → askEvent s e z ≡ checkEvent s e p
+  unfolding checkEvent
+  check-is (enter r) = refl
+  check-is leave = refl
+  check-is loop = refl
+  check-is (declare r) = rw (taken-found (a s r))
+  check-is (bring r n d) = rw (taken-found n)
+  check-is (visit r) = checkVisit-is r

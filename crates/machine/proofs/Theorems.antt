@@ -1,0 +1,70 @@
+-- What is proved of the state machine, for readers and for the crates above.
+use mathlib.Core.Path.{_≡_, refl, sym, _∙_}
+use mathlib.Core.List.{List, []}
+use mathlib.Core.Bool.{true}
+use native.Mathlib.Omega.{arith}
+use Prim.Native.Nat.{ℕ, _+_, _*_, _/_, _<_, _≤_}
+use lib.ListN.{length, getD}
+use lib.Dec.{T}
+use Rattle.definition.specs.Sheet.{Sheet, rows, is}
+use Rattle.definition.specs.Walk.{walk}
+use Rattle.definition.specs.Scope.{start, history}
+use Rattle.definition.specs.Format.{sheetFits, depthsFit}
+use Rattle.definition.specs.Outcome.{rowsFit}
+use Rattle.definition.proofs.Lists.Tests.{true-of}
+use Rattle.definition.proofs.Format.Facts.{SheetFacts, facts}
+use Rattle.definition.proofs.Format.Accepted.{some-row}
+use Rattle.definition.proofs.Walk.Fits.{Fits}
+use Rattle.definition.proofs.Walk.Fitting.{fits}
+use Rattle.definition.proofs.Walk.Rows.{kind-not-zero}
+use Rattle.machine.specs.Machine.{State, Store, startState, runState}
+use Rattle.machine.specs.Reads.{StoreReads, Walked}
+use Rattle.machine.proofs.StoreAgrees.{StoreAgrees}
+use Rattle.machine.proofs.Refinement.{Ends}
+use Rattle.machine.proofs.AfterRows.{parent-word}
+use Rattle.machine.proofs.AfterLists.{fields-nodes}
+use Rattle.machine.proofs.AfterCalls.{refused-in-walk, refused-later}
+use Rattle.machine.proofs.SheetRows.{let-rows, identifier-rows, host-rows, instance-rows, literal-rows, member-rows, function-rows}
+use Rattle.machine.proofs.FittingSheet.{fitting-sheet}
+
+-- what the store says after the walk of a sheet past question 3
+pub store-reads : (n : ℕ) {s : Sheet} → Fits s → SheetFacts n s → (o : Store) → StoreAgrees s (history s) o → rows s ≤ length (o .table) / 8 → StoreReads s o
+store-reads n {s} ok fa o k e =
+    record {
+      lets = let-rows n ok fa o k e;
+      hosts = host-rows n ok fa o k e;
+      instances = instance-rows n ok fa o k e;
+      identifiers = identifier-rows n ok fa o k e;
+      members = member-rows n ok fa o k e;
+      literals = literal-rows n ok fa o k e;
+      functions = λ r l t. function-rows n ok fa o k e r l t _ refl;
+      fields = λ c l t. fields-nodes s (history s) o k c (omega arith) (kind-not-zero ok 4 c tt t);
+      parents = λ c l t. sym (parent-word s (ok .header) (history s) o k c (kind-not-zero ok 4 c tt t) (omega arith) (true-of (is s 4 c) t));
+      calls = k .calls-is;
+    }
+
+-- The walk of every sheet past questions 1, 3 and 4, with n names: run over it from a table of zeros, with room for n + 11 + 3 * rows open
+-- entries that a word can count, a table row for each sheet row and 21 nodes for each, the machine refuses with the definition's first no of questions 5 to 17,
+-- or it holds what the definition's answer rows say.
+pub walk-refines : (n : ℕ) (s : Sheet) (v t q : List ℕ) → T (rowsFit s) → T (sheetFits n s) → T (depthsFit s) → ((j : ℕ) → getD t j 0 ≡ 0)
+    → n + 11 + 3 * rows s < length v / 5 → length v / 5 ≤ 4294967295 → rows s ≤ length t / 8 → 21 * rows s ≤ length q / 4
+    → Walked s (runState s (walk s) (startState s v t q))
+walk-refines n s v t q whole fitting deep clear entries words table nodes =
+    ended (fitting-sheet n s v t q clear z h deep (record { for-rows = table; for-entries = entries; for-words = omega arith; for-nodes = nodes }))
+  where
+    z : 0 < rows s
+    z = some-row s whole
+
+    h : sheetFits n s ≡ true
+    h = true-of (sheetFits n s) fitting
+
+    ended : {x : State} → Ends s (record { entries = length v / 5; rows = length t / 8; nodes = length q / 4 }) [] start (walk s) x → Walked s x
+    ended {x} (Ends.accepted e g) =
+        record {
+          refused = λ k. absurd (k e);
+          accepted = λ k. g .agreed;
+          globals = λ k. g .numbered .next-is;
+          store = λ k. store-reads n (fits n s z h) (facts n s h) (x .store) (g .kept) (omega (arith, table, g .rows-are));
+          later = λ k. refused-later s (x .store) (g .kept .calls-is) k;
+        }
+    ended (Ends.refused e i) = record { refused = λ k. i ∙ sym (refused-in-walk s k); accepted = λ k. absurd (e k); globals = λ k. absurd (e k); store = λ k. absurd (e k); later = λ k. absurd (e k) }

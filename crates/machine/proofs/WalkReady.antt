@@ -1,0 +1,128 @@
+-- What must hold of a sheet for the refinement to hold of its walk.
+use mathlib.Core.Path.{_≡_, refl, subst}
+use mathlib.Core.List.{List, [], _∷_}
+use mathlib.Core.Bool.{Bool, true, false, not}
+use Prim.Native.Nat.{ℕ, _+_, _-_, _/_, _<_, _≤_}
+use native.Mathlib.Omega.{arith}
+use lib.ListN.{length, getD}
+use lib.Dec.{eqb, ltb, T}
+use borrow.Author.Tests.{ltb-true}
+use Rattle.definition.specs.Basics.{if_then_else_, count, _∈?_, head}
+use Rattle.definition.specs.Sheet.{Sheet, kind, is, rows}
+use Rattle.definition.specs.Meaning.{Meaning, isVariable, ownerOf}
+use Rattle.definition.specs.Walk.{Event, enter, leave, loop, declare, bring, visit, walk}
+use Rattle.definition.specs.Scope.{Stack, Moment, scope, looping, bound, around, closed, inside, declared, step, start, history, declares}
+use Rattle.definition.specs.Slots.{finalGlobals}
+use Rattle.definition.proofs.Lists.Members.{Every, every-one}
+use Rattle.definition.proofs.Closure.Declared.{Plain, PlainEvent, plain-trace}
+use Rattle.machine.proofs.Stacks.{Proper, p-enter, p-leave, p-loop, p-declare, p-bring, p-visit, Distinct}
+use Rattle.machine.proofs.AfterRows.{All, al-none, al-one}
+use Rattle.machine.proofs.StoreParts.{nodesNeeded}
+use Rattle.machine.specs.Machine.{startState, runState}
+use Rattle.machine.proofs.Refinement.{Room, Runs, Ends}
+use Rattle.machine.proofs.Reached.{Reached, r-here, r-later, runs-reached, functionsEntered, enters-fresh}
+use Rattle.machine.proofs.EntryBound.{ImportShallow, entriesPushed, walk-bound}
+use Rattle.machine.proofs.ImportedMeanings.{NoLet, trace-fixed}
+use Rattle.machine.proofs.Start.{refine-start}
+
+-- nothing imported is a local or argument
+reached-plain : (s : Sheet) {z : Stack} {es : List Event} {m : Moment} → Reached s z es m → Plain es → PlainEvent (m .event)
+reached-plain s r-here (Plain.one e p) = e
+reached-plain s (r-later q w) (Plain.one e p) = reached-plain s w p
+
+reached-no-let : (s : Sheet) {z : Stack} {es : List Event} {m : Moment} → Reached s z es m → Every NoLet es → NoLet (m .event)
+reached-no-let s r-here (every-one h f) = h
+reached-no-let s (r-later q w) (every-one h f) = reached-no-let s w f
+
+not-T : (t : Bool) → T (not t) → t ≡ false
+not-T true h = absurd h
+not-T false h = refl
+
+plain-bring : {r n : ℕ} {d : Meaning} → PlainEvent (bring r n d) → isVariable d ≡ false
+plain-bring {d = d} (PlainEvent.p-bring h) = not-T (isVariable d) h
+
+-- the functions around have been entered
+below-closed : (s : Sheet) (n : ℕ) (st : Stack) → All (λ r. ltb r n) (around s st) → All (λ r. ltb r n) (around s (closed st))
+below-closed s n [] h = h
+below-closed s n (scope r ∷ st) h = by (is s 6 r) h
+  where
+    by : (t : Bool) → All (λ r. ltb r n) (if t then r ∷ around s st else around s st) → All (λ r. ltb r n) (around s st)
+    by true (al-one e q) = q
+    by false q = q
+below-closed s n (looping ∷ st) h = below-closed s n st h
+below-closed s n (bound m d ∷ st) h = below-closed s n st h
+
+entered-tail : (s : Sheet) (n : ℕ) (e : Event) (es : List Event) → All (λ r. ltb r n) (functionsEntered s (e ∷ es)) → All (λ r. ltb r n) (functionsEntered s es)
+entered-tail s n (enter k) es h = by (is s 6 k) h
+  where
+    by : (t : Bool) → All (λ r. ltb r n) (if t then k ∷ functionsEntered s es else functionsEntered s es) → All (λ r. ltb r n) (functionsEntered s es)
+    by true (al-one e q) = q
+    by false q = q
+entered-tail s n leave es h = h
+entered-tail s n loop es h = h
+entered-tail s n (declare k) es h = h
+entered-tail s n (bring k m d) es h = h
+entered-tail s n (visit k) es h = h
+
+below-step : (s : Sheet) (n : ℕ) (z : Stack) (e : Event) (es : List Event) → All (λ r. ltb r n) (functionsEntered s (e ∷ es)) → All (λ r. ltb r n) (around s z) → All (λ r. ltb r n) (around s ((step s z e)))
+below-step s n z (enter k) es h g = by (is s 6 k) h
+  where
+    by : (t : Bool) → All (λ r. ltb r n) (if t then k ∷ functionsEntered s es else functionsEntered s es) → All (λ r. ltb r n) (if t then k ∷ around s z else around s z)
+    by true (al-one e q) = al-one e g
+    by false q = g
+below-step s n z leave es h g = below-closed s n z g
+below-step s n z loop es h g = g
+below-step s n z (declare k) es h g = g
+below-step s n z (bring k m d) es h g = g
+below-step s n z (visit k) es h g = g
+
+around-below : (s : Sheet) (n : ℕ) {z : Stack} {es : List Event} {m : Moment} → Reached s z es m
+    → All (λ r. ltb r n) (functionsEntered s es) → All (λ r. ltb r n) (around s z) → All (λ r. ltb r n) (around s (m .stack))
+around-below s n r-here h g = g
+around-below s n (r-later {z} {e} {es} q w) h g = around-below s n w (entered-tail s n e es h) (below-step s n z e es h g)
+
+head-below : (n : ℕ) (fs : List ℕ) → 0 < n → All (λ r. ltb r n) fs → head fs < n
+head-below n [] z h = z
+head-below n (f ∷ fs) z (al-one e h) = ltb-true f n e
+
+-- Functions are entered once, and are rows; lets are declared once; locals and arguments are declared in functions; imports stand in
+-- a unit's scope, and names are below n; the counters fit words, and there is room.
+pub record WalkReady (s : Sheet) (room : Room) (n : ℕ) : Type 0 where
+  pub header : kind s 0 ≡ 0
+  pub once : Distinct (functionsEntered s (walk s))
+  pub are-rows : All (λ r. ltb r (room .rows)) (functionsEntered s (walk s))
+  pub some-row : 0 < room .rows
+  pub inside-function : (m : Moment) → Reached s start (walk s) m → (r : ℕ) → m .event ≡ declare r
+      → isVariable (declared s r (inside s (m .stack))) ≡ true → (ownerOf (declared s r (inside s (m .stack))) ∈? around s (m .stack)) ≡ true
+  pub lets-once : (r : ℕ) → is s 29 r ≡ true → count (λ e. eqb (declares e) r) (walk s) ≤ 1
+  pub shallow : (m : Moment) → Reached s start (walk s) m → ImportShallow n 10 m
+  pub small-entries : n + 10 + entriesPushed (walk s) < 4294967295
+  pub small-globals : finalGlobals s (history s) < 4294967295
+  pub enough-entries : n + 10 + entriesPushed (walk s) < room .entries
+  pub enough-nodes : nodesNeeded s (history s) ≤ room .nodes
+
+proper-by : (s : Sheet) (room : Room) (n : ℕ) → WalkReady s room n → (m : Moment) → Reached s start (walk s) m → (e : Event) → m .event ≡ e → Proper s (m .stack) e
+proper-by s room n y m w (enter r) q = p-enter (λ h. enters-fresh s m (y .once) w r q h)
+proper-by s room n y m w leave q = p-leave
+proper-by s room n y m w loop q = p-loop
+proper-by s room n y m w (declare r) q = p-declare (y .inside-function m w r q)
+proper-by s room n y m w (bring r k d) q =
+    p-bring (plain-bring (subst PlainEvent q (reached-plain s w (plain-trace (rows s) s 0)))) (subst NoLet q (reached-no-let s w (trace-fixed (rows s) s 0)))
+proper-by s room n y m w (visit r) q = p-visit
+
+pub ready-runs : (s : Sheet) (room : Room) (n : ℕ) → WalkReady s room n → Runs s room [] start (walk s)
+ready-runs s room n y =
+    runs-reached s room [] start (walk s)
+    (λ m w. record {
+      proper = proper-by s room n y m w (m .event) refl;
+      entries-small = omega (arith, walk-bound s n m (y .shallow) w, y .small-entries);
+      entries-left = omega (arith, walk-bound s n m (y .shallow) w, y .enough-entries);
+      row-there = head-below (room .rows) (around s (m .stack)) (y .some-row) (around-below s (room .rows) w (y .are-rows) al-none);
+    })
+    (λ r k. omega (arith, y .lets-once r k)) (y .small-globals) (y .enough-nodes)
+
+-- the walk of such a sheet, with a table of zeros
+pub ready-ends : (s : Sheet) (n : ℕ) (v t q : List ℕ) → ((j : ℕ) → getD t j 0 ≡ 0)
+    → WalkReady s (record { entries = length v / 5; rows = length t / 8; nodes = length q / 4 }) n
+    → Ends s (record { entries = length v / 5; rows = length t / 8; nodes = length q / 4 }) [] start (walk s) (runState s (walk s) (startState s v t q))
+ready-ends s n v t q z y = refine-start s (y .header) v t q (omega (arith, y .enough-entries)) z (ready-runs s _ n y)

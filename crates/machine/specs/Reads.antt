@@ -1,0 +1,107 @@
+-- What the program reads off its state after the walk, and the statements that it is what the definition says.
+use mathlib.Core.Path.{_≡_}
+use mathlib.Core.Bool.{Bool, false, not, _&&_}
+use mathlib.Core.List.{List, [], _∷_, _++_, map}
+use Prim.Native.Nat.{ℕ, suc, _+_, _*_, _<_}
+use lib.ListN.{length}
+use lib.Dec.{eqb, T}
+use Rattle.definition.specs.Basics.{if_then_else_, filter, any, distinct, from, concatMap}
+use Rattle.definition.specs.Sheet.{Sheet, rows, child, a, is, kidsOf}
+use Rattle.definition.specs.Meaning.{Meaning, variable}
+use Rattle.definition.specs.Scope.{Moment, visited, visits, history}
+use Rattle.definition.specs.Slots.{isMutable, finalGlobals}
+use Rattle.definition.specs.Classes.{ownFields, parentOf, methodNamed, methods, className, arity}
+use Rattle.definition.specs.Question.{Refusal, ask, firstNo, askEvent, askClimb, constructed, arguments, refusal}
+use Rattle.definition.specs.Answer.{eight, letRow, identifierRow, hostRow, instanceRow, memberRow, literalRows, functionRows}
+use Rattle.machine.specs.Machine.{Node, Store, State, cell, listAt, chainTo, seenIn, codeOf}
+
+-- code and values of sheet row r in the table
+unfoldable pub rowWords : List ℕ → ℕ → List ℕ
+rowWords t r = cell t r 0 ∷ cell t r 1 ∷ cell t r 2 ∷ cell t r 3 ∷ []
+
+-- the answer row of sheet row r with four words, filled with zeros to eight
+abbrev pub answerRow : ℕ → List ℕ → List ℕ
+answerRow r ws = r ∷ ws ++ 0 ∷ 0 ∷ 0 ∷ []
+
+-- what a capture node stands for
+abbrev pub meaningOfNode : Node → Meaning
+meaningOfNode y = variable (y .key) (y .one)
+
+-- the functions of the literals that stand in function f, as the table says
+abbrev pub literalsIn : Sheet → List ℕ → ℕ → List ℕ
+literalsIn s t f = map (child s) (filter (λ l. is s 52 l && (eqb (cell t l 0) 1 && eqb (cell t l 1) f)) (from 0 (rows s)))
+
+-- is a mutable local of function f in slot k among the capture nodes ys?
+abbrev pub handsOn : Sheet → ℕ → ℕ → List Node → Bool
+handsOn s f k ys = any (λ y. isMutable s (meaningOfNode y) && eqb (y .one) f && eqb (y .two) k) ys
+
+-- the slots of function f that literals in it capture, rising
+abbrev pub escapingSlots : Sheet → Store → ℕ → List ℕ
+escapingSlots s o f = filter (λ j. handsOn s f j (concatMap (λ g. listAt o (8 * g + 6)) (literalsIn s (o .table) f))) (from 0 (cell (o .table) f 5))
+
+-- the fields that the class of row c lists
+abbrev pub listedFields : Sheet → ℕ → List ℕ
+listedFields s c = map (a s) (kidsOf s 10 c)
+
+-- the moments at which a constructor is called
+abbrev pub callsOf : Sheet → List Moment → List Moment
+callsOf s h = filter (λ m. not (eqb (constructed s (visited (m .event)) (m .stack)) 0)) (visits s h 59)
+
+-- the node of a constructor call: its row and its class
+abbrev pub callNode : Sheet → Moment → Node
+callNode s m = record { key = visited (m .event); one = constructed s (visited (m .event)) (m .stack); two = 0 }
+
+-- Of the store o after the walk over sheet s, with all answer rows of a row in the definition's order:
+pub record StoreReads (s : Sheet) (o : Store) : Type 0 where
+  -- a let, a host constant and an instanceof have their words in the table,
+  pub lets : (r : ℕ) → r < rows s → T (is s 29 r) → map (λ vs. eight (r ∷ vs)) (letRow s (history s) r) ≡ answerRow r (rowWords (o .table) r) ∷ []
+  pub hosts : (r : ℕ) → r < rows s → T (is s 51 r) → map (λ vs. eight (r ∷ vs)) (hostRow s (history s) r) ≡ answerRow r (rowWords (o .table) r) ∷ []
+  pub instances : (r : ℕ) → r < rows s → T (is s 55 r) → map (λ vs. eight (r ∷ vs)) (instanceRow s (history s) r) ≡ answerRow r (rowWords (o .table) r) ∷ []
+  -- an identifier too unless it is marked as hidden, and a member if it has a code;
+  pub identifiers : (r : ℕ) → r < rows s → T (is s 50 r)
+      → map (λ vs. eight (r ∷ vs)) (identifierRow s (history s) r) ≡ (if eqb (cell (o .table) r 4) 0 then answerRow r (rowWords (o .table) r) ∷ [] else [])
+  pub members : (r : ℕ) → r < rows s → T (is s 54 r)
+      → map (λ vs. eight (r ∷ vs)) (memberRow s (history s) r) ≡ (if eqb (cell (o .table) r 0) 0 then [] else answerRow r (rowWords (o .table) r) ∷ [])
+  -- a literal has its sources in the capture list of its function, seen from the function in which it stands,
+  pub literals : (r : ℕ) → r < rows s → T (is s 52 r)
+      → literalRows s (history s) r ≡ map (λ y. seenIn s (meaningOfNode y) (y .two) 0 (cell (o .table) r 1) o) (listAt o (8 * child s r + 6))
+  -- and a function its local count, captures and escaping slots;
+  pub functions : (r : ℕ) → r < rows s → T (is s 6 r)
+      → functionRows s (history s) r
+      ≡ (20 ∷ cell (o .table) r 5 ∷ length (listAt o (8 * r + 6)) ∷ length (escapingSlots s o r) ∷ [])
+      ∷ map (λ y. codeOf s (meaningOfNode y) (y .two) 0) (listAt o (8 * r + 6)) ++ map (λ j. 5 ∷ j ∷ r ∷ 1 ∷ []) (escapingSlots s o r)
+  -- a class has its own fields, the listed and then the stored, and its parent, before inheritance;
+  pub fields : (c : ℕ) → c < rows s → T (is s 4 c) → ownFields s (history s) (256 + c) ≡ distinct eqb (listedFields s c) ++ map (λ y. y .key) (listAt o (8 * c + 7))
+  pub parents : (c : ℕ) → c < rows s → T (is s 4 c) → parentOf s (history s) (256 + c) ≡ cell (o .table) c 1
+  -- and the constructor calls are stored in the walk's order.
+  pub calls : chainTo (o .nodes) (o .calls) ≡ map (callNode s) (callsOf s (history s))
+
+-- the questions 20 and 21 on a stored constructor call
+abbrev pub checkCall : Sheet → List Moment → Node → Refusal
+checkCall s h y =
+    let f : ℕ = methodNamed 23 (methods s h (rows s) (y .one)) in
+    if eqb f 0 then ask 20 (child s (y .key)) (className s (y .one)) false
+    else ask 21 (child s (y .key)) (className s (y .one)) (eqb (arguments s (y .key) + 1) (arity s f))
+
+-- the first no of the questions that the walk asks, 5 to 17
+abbrev pub walkRefusal : Sheet → Refusal
+walkRefusal s = firstNo (map (λ m. askEvent s (m .event) (m .stack)) (history s))
+
+-- the first no after the walk: of the classes in row order, then of the stored constructor calls
+abbrev pub laterRefusal : Sheet → Store → Refusal
+laterRefusal s o =
+    firstNo (
+    firstNo (map (λ r. askClimb s (history s) (suc (rows s)) [] (256 + r)) (filter (is s 4) (from 0 (rows s))))
+    ∷ firstNo (map (checkCall s (history s)) (chainTo (o .nodes) (o .calls)))
+    ∷ [])
+
+-- The state x after the walk over sheet s refuses as the definition does, or holds what the definition says.
+pub record Walked (s : Sheet) (x : State) : Type 0 where
+  -- a no of the walk is the definition's first no, and the machine's refusal;
+  pub refused : (walkRefusal s .number ≡ 0 → ⊥) → x .refusal ≡ refusal s (history s)
+  -- otherwise there is no refusal, the globals are counted, the store holds what the answer rows say, and the definition's first no is the
+  -- first no after the walk.
+  pub accepted : walkRefusal s .number ≡ 0 → x .refusal .number ≡ 0
+  pub globals : walkRefusal s .number ≡ 0 → x .scopes .nextGlobal ≡ finalGlobals s (history s)
+  pub store : walkRefusal s .number ≡ 0 → StoreReads s (x .store)
+  pub later : walkRefusal s .number ≡ 0 → refusal s (history s) ≡ laterRefusal s (x .store)
