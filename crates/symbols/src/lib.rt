@@ -1,0 +1,2 @@
+// The walk: names, scopes, captures.
+mod env;
