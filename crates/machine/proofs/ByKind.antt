@@ -12,13 +12,9 @@ use Rattle.definition.specs.Meaning.{Meaning, isVariable, rowOf, ownerOf, class
 use Rattle.definition.specs.Walk.{enter, leave, loop, declare, bring, visit}
 use Rattle.definition.specs.Slots.{isLocal}
 use Rattle.definition.specs.Classes.{classOf, methodNamed, ownMethods}
-use Rattle.machine.specs.Machine.{oneMore, nodeWord, Node, nodeAt, previous, chainBack, reversed, chainTo, hasKey, Store, Scopes, openFunctions, currentFunction, lookupMeaning, lookupSlot, lookupGlobal, newMeaning, codeOf, appendCall, addNew, addCapture, writeRow, markHidden, raiseLocals, seenIn, receiverClass, fieldNode, storeCall, storeField, storeCapture, storeLocal, storeHidden, storeRow, stepStore}
+use Rattle.machine.specs.Machine.{oneMore, nodeWord, Node, nodeAt, previous, chainBack, reversed, chainTo, hasKey, Store, Scopes, openFunctions, currentFunction, lookupMeaning, lookupSlot, lookupGlobal, newMeaning, codeOf, appendCall, addNew, addCapture, writeRow, writeRowAt, markHidden, raiseLocals, seenIn, receiverClass, fieldNode, storeCall, storeField, storeCapture, storeLocal, storeHidden, storeRow, stepStore}
 use Rattle.machine.proofs.Lists.{any-append}
 use Rattle.machine.proofs.Nodes.{chainBack-hit, chainBack-down}
-
--- a row written, unless it is row 0
-abbrev pub writeRowAt : ℕ → List ℕ → Store → Store
-writeRowAt r vs o = if eqb r 0 then o else writeRow r vs o
 
 module _ (s : Sheet) (p : Scopes) (o : Store) where
   pub store-enter : (r : ℕ) → stepStore s (enter r) p o ≡ o

@@ -15,7 +15,7 @@ use Rattle.definition.specs.Meaning.{isVariable}
 use Rattle.definition.specs.Walk.{Event}
 use Rattle.definition.specs.Slots.{isLocal}
 use Rattle.definition.specs.Classes.{classOf}
-use Rattle.machine.specs.Machine.{oneMore, cell, Node, Store, Scopes, openFunctions, currentFunction, lookupMeaning, newMeaning, appendedCall, appendCall, addNew, addCapture, fourWords, withTable, writeRow, markHidden, raiseLocals, visitsKind, declaresLet, eventRow, constructedClass, receiverClass, newField, fieldNode, writtenRow, writtenWords, storeCall, storeField, storeCapture, storeLocal, storeHidden, storeRow}
+use Rattle.machine.specs.Machine.{nodeRoom, oneMore, cell, Node, Store, Scopes, openFunctions, currentFunction, lookupMeaning, newMeaning, appendedCall, appendCall, addNew, addCapture, fourWords, withTable, writeRow, markHidden, raiseLocals, visitsKind, declaresLet, eventRow, constructedClass, receiverClass, newField, fieldNode, writtenRow, writtenWords, storeCall, storeField, storeCapture, storeLocal, storeHidden, storeRow}
 use Rattle.machine.proofs.Words.{sets-in, sets-out}
 use Rattle.machine.specs.Reads.{rowWords}
 use Rattle.machine.proofs.Nodes.{Extends, extends-refl, call-extends, addNew-extends, addNew-word, addCapture-extends, addCapture-word}
@@ -116,7 +116,7 @@ addNew-unchanged r x o =
 
 call-table : (x : Node) (o : Store) → appendCall x o .table ≡ o .table
 unfolding appendCall
-call-table x o = go (ltb (o .used) (length (o .nodes) / 4))
+call-table x o = go (ltb (o .used) (nodeRoom (o .nodes)))
   where
     go : (t : Bool) → (if t then appendedCall x o else o) .table ≡ o .table
     go true = refl

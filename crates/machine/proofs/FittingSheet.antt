@@ -17,7 +17,7 @@ use Rattle.definition.proofs.Lists.Tests.{T-true}
 use Rattle.definition.proofs.Walk.Rows.{kind-not-zero}
 use Rattle.definition.proofs.Walk.Once.{declares-once}
 use Rattle.definition.proofs.Walk.Around.{Walks}
-use Rattle.machine.specs.Machine.{startState, runState}
+use Rattle.machine.specs.Machine.{nodeRoom, entryRoom, startState, runState}
 use Rattle.machine.proofs.Refinement.{Room, Ends}
 use Rattle.machine.proofs.WalkReady.{WalkReady, ready-ends}
 use Rattle.machine.proofs.Entered.{entered-once, entered-rows, pushes-bound}
@@ -58,6 +58,6 @@ ready-deep n s room z h g y = ready-within n 21 s room z h (omega arith) (functi
 -- The walk of a sheet past the questions 3 and 4, with a table of zeros: the machine agrees with the definition, or refuses
 -- with the definition's first no.
 pub fitting-sheet : (n : ℕ) (s : Sheet) (v t q : List ℕ) → ((j : ℕ) → getD t j 0 ≡ 0) → 0 < rows s → sheetFits n s ≡ true → T (depthsFit s)
-    → EnoughRoom n 21 s (record { entries = length v / 5; rows = length t / 8; nodes = length q / 4 })
-    → Ends s (record { entries = length v / 5; rows = length t / 8; nodes = length q / 4 }) [] start (walk s) (runState s (walk s) (startState s v t q))
+    → EnoughRoom n 21 s (record { entries = entryRoom v; rows = length t / 8; nodes = nodeRoom q })
+    → Ends s (record { entries = entryRoom v; rows = length t / 8; nodes = nodeRoom q }) [] start (walk s) (runState s (walk s) (startState s v t q))
 fitting-sheet n s v t q c z h g y = ready-ends s (suc n) v t q c (ready-deep n s _ z h g y)

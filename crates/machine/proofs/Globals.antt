@@ -13,7 +13,7 @@ use Rattle.definition.specs.Walk.{Event, enter, leave, loop, declare, bring, vi
 use Rattle.definition.specs.Scope.{Stack, Moment, inside, declared, newGlobal, declares, declarings, declaration}
 use Rattle.definition.specs.Slots.{globalLets, globalOf, finalGlobals, code}
 use Rattle.definition.proofs.Lists.Members.{filter-append, map-append}
-use Rattle.machine.specs.Machine.{entryWord, tagOf, firstOf, secondOf, meaningOf, findName, meaningAt, globalAt, Scopes, lookupMeaning, lookupGlobal, countPushed, wordsPushed, newMeaning, stepScopes, declaresLet, codeOf, oneMore}
+use Rattle.machine.specs.Machine.{entryRoom, entryWord, tagOf, firstOf, secondOf, meaningOf, findName, meaningAt, globalAt, Scopes, lookupMeaning, lookupGlobal, countPushed, wordsPushed, newMeaning, stepScopes, declaresLet, codeOf, oneMore}
 use Rattle.machine.proofs.Lists.{only, any-append, place-append, filter2-snoc, eqb-self, eqb-same}
 use Rattle.machine.proofs.Entries.{entries-length, mark-le}
 use Rattle.machine.proofs.ScopesAgree.{ScopesAgree, push-below, push-at, push-more, upto, oneMore-is, newMeaning-is}
@@ -132,7 +132,7 @@ unfolding lookupMeaning lookupGlobal
 number-look s h p q m = q .numbers (findName (p .env) m (p .count)) (find-le (p .env) m (p .count))
 
 -- an entry pushed
-pub numbers-push : (s : Sheet) (h : List Moment) (v : List ℕ) (n t m x y w : ℕ) → n < length v / 5
+pub numbers-push : (s : Sheet) (h : List Moment) (v : List ℕ) (n t m x y w : ℕ) → n < entryRoom v
     → ((k : ℕ) → k ≤ n → Known s h (globalAt v k) (meaningAt v k)) → Known s h y (meaningOf t x y)
     → (k : ℕ) → k ≤ countPushed v n → Known s h (globalAt (wordsPushed v n (t ∷ m ∷ x ∷ y ∷ w ∷ [])) k) (meaningAt (wordsPushed v n (t ∷ m ∷ x ∷ y ∷ w ∷ [])) k)
 unfolding globalAt meaningAt
@@ -197,7 +197,7 @@ or-right true e = refl
 or-right false e = e
 
 module _ (s : Sheet) (hd : kind s 0 ≡ 0) (h : List Moment) (z : Stack) (p : Scopes) (op : ScopesAgree s z p) (nm : Numbered s h p) where
-  space : length z < length (p .env) / 5 → p .count < length (p .env) / 5
+  space : length z < entryRoom (p .env) → p .count < entryRoom (p .env)
   space room = omega (arith, ap length (sym (op .stack-is)), entries-length (p .env) (p .count))
 
   -- an event that is no let adds no number
@@ -260,7 +260,7 @@ module _ (s : Sheet) (hd : kind s 0 ≡ 0) (h : List Moment) (z : Stack) (p : Sc
   new-known (visit r) v u = absurd (true≢false (sym v))
 
   -- after an event, where there is room for one entry more
-  pub numbered-step : (e : Event) → length z < length (p .env) / 5 → p .nextGlobal < 4294967295 → Unlisted s h e → Proper s z e → Numbered s (h ++ record { event = e; stack = z } ∷ []) (stepScopes s e p)
+  pub numbered-step : (e : Event) → length z < entryRoom (p .env) → p .nextGlobal < 4294967295 → Unlisted s h e → Proper s z e → Numbered s (h ++ record { event = e; stack = z } ∷ []) (stepScopes s e p)
   unfolding stepScopes
   numbered-step (enter r) room few u pr =
       record { next-is = next-same (enter r) refl; numbers = numbers-push s _ (p .env) (p .count) 1 r (p .fun) 0 (p .slot) (space room) (numbers-on (enter r)) (unnumbered refl) }

@@ -3,14 +3,14 @@ use mathlib.Core.Path.{_≡_, refl, sym, ap, _∙_}
 use mathlib.Core.Logic.{inl}
 use mathlib.Core.List.{List, [], _∷_, _++_}
 use mathlib.Core.Bool.{Bool, true, false, _||_}
-use Prim.Native.Nat.{ℕ, zero, suc, _+_, _-_, _*_, _/_, _<_, _≤_, min}
+use Prim.Native.Nat.{ℕ, zero, suc, _+_, _-_, _*_, _/_, _<_, _≤_, min, min}
 use native.Mathlib.Omega.{arith}
 use lib.ListN.{length, getD, set, length-set}
 use lib.Seq.{sets, getD-set-same, getD-set-other, length-sets}
 use lib.Dec.{eqb, ltb}
 use borrow.Author.Tests.{lt-ltb, ne-eqb, eqb-true, eqb-false, ltb-true}
 use Rattle.definition.specs.Basics.{if_then_else_}
-use Rattle.machine.specs.Machine.{nodeWord, Node, nodeAt, previous, chainBack, reversed, chainTo, Store, listAt, hasKey, appended, appendedCall, appendNode, appendCall, addNew, addCapture}
+use Rattle.machine.specs.Machine.{nodeRoom, nodeWord, Node, nodeAt, previous, chainBack, reversed, chainTo, Store, listAt, hasKey, appended, appendedCall, appendNode, appendCall, addNew, addCapture}
 use Rattle.machine.proofs.Words.{sets-in, sets-out}
 use Rattle.machine.proofs.Lists.{any-append, eqb-self}
 
@@ -44,7 +44,7 @@ chainBack-same q q′ (suc n) h p =
     let ih : (p : ℕ) → chainBack q′ n p ≡ chainBack q n p = chainBack-same q q′ n (λ i l c m. h i (omega arith) c m) in
     rw (g₀, g₁, g₂, g₃, ih p, ih (previous q n))
 
-module _ (q : List ℕ) (n h k x y : ℕ) (room : n < length q / 4) where
+module _ (q : List ℕ) (n h k x y : ℕ) (room : n < nodeRoom q) where
   appended-below : (i : ℕ) → i < n → (c : ℕ) → c < 4 → nodeWord (sets q (4 * n) (h ∷ k ∷ x ∷ y ∷ [])) i c ≡ nodeWord q i c
   appended-below i l c g = sets-out (h ∷ k ∷ x ∷ y ∷ []) q (4 * n) (4 * i + c) (inl (omega arith))
 
@@ -98,14 +98,14 @@ extends-if false o x g = extends-refl o
 
 pub append-extends : (j : ℕ) (x : Node) (o : Store) → Extends o (appendNode j x o)
 unfolding appendNode
-append-extends j x o = go (ltb (o .used) (length (o .nodes) / 4)) refl
+append-extends j x o = go (ltb (o .used) (nodeRoom (o .nodes))) refl
   where
-    go : (t : Bool) → ltb (o .used) (length (o .nodes) / 4) ≡ t
+    go : (t : Bool) → ltb (o .used) (nodeRoom (o .nodes)) ≡ t
         → Extends o (if t then appended j x o else o)
     go true e =
         record {
           used-le = omega arith;
-          kept = λ p l. appended-other (o .nodes) (o .used) (getD (o .table) j 0) (x .key) (x .one) (x .two) (ltb-true (o .used) (length (o .nodes) / 4) e) p l;
+          kept = λ p l. appended-other (o .nodes) (o .used) (getD (o .table) j 0) (x .key) (x .one) (x .two) (ltb-true (o .used) (nodeRoom (o .nodes)) e) p l;
           nodes-length = length-sets (o .nodes) (4 * o .used) (getD (o .table) j 0 ∷ x .key ∷ x .one ∷ x .two ∷ []);
           table-length = length-set (o .table) j (suc (o .used));
         }
@@ -113,40 +113,40 @@ append-extends j x o = go (ltb (o .used) (length (o .nodes) / 4)) refl
 
 pub call-extends : (x : Node) (o : Store) → Extends o (appendCall x o)
 unfolding appendCall
-call-extends x o = go (ltb (o .used) (length (o .nodes) / 4)) refl
+call-extends x o = go (ltb (o .used) (nodeRoom (o .nodes))) refl
   where
-    go : (t : Bool) → ltb (o .used) (length (o .nodes) / 4) ≡ t
+    go : (t : Bool) → ltb (o .used) (nodeRoom (o .nodes)) ≡ t
         → Extends o (if t then appendedCall x o else o)
     go true e =
         record {
           used-le = omega arith;
-          kept = λ p l. appended-other (o .nodes) (o .used) (o .calls) (x .key) (x .one) (x .two) (ltb-true (o .used) (length (o .nodes) / 4) e) p l;
+          kept = λ p l. appended-other (o .nodes) (o .used) (o .calls) (x .key) (x .one) (x .two) (ltb-true (o .used) (nodeRoom (o .nodes)) e) p l;
           nodes-length = length-sets (o .nodes) (4 * o .used) (o .calls ∷ x .key ∷ x .one ∷ x .two ∷ []);
           table-length = refl;
         }
     go false e = extends-refl o
 
 -- A node appended where there is room.
-module _ (j : ℕ) (x : Node) (o : Store) (room : o .used < length (o .nodes) / 4) where
+module _ (j : ℕ) (x : Node) (o : Store) (room : o .used < nodeRoom (o .nodes)) where
   pub append-used : appendNode j x o .used ≡ suc (o .used)
   unfolding appendNode
-  append-used = rw (lt-ltb (o .used) (length (o .nodes) / 4) room)
+  append-used = rw (lt-ltb (o .used) (nodeRoom (o .nodes)) room)
 
   pub append-list : j < length (o .table) → getD (o .table) j 0 ≤ o .used → listAt (appendNode j x o) j ≡ listAt o j ++ x ∷ []
   unfolding appendNode listAt
   append-list h l =
-      rw (lt-ltb (o .used) (length (o .nodes) / 4) room, getD-set-same (o .table) j (suc (o .used)) 0 h)
+      rw (lt-ltb (o .used) (nodeRoom (o .nodes)) room, getD-set-same (o .table) j (suc (o .used)) 0 h)
       (appended-same (o .nodes) (o .used) (getD (o .table) j 0) (x .key) (x .one) (x .two) room l)
 
   pub call-list : o .calls ≤ o .used → chainTo (appendCall x o .nodes) (appendCall x o .calls) ≡ chainTo (o .nodes) (o .calls) ++ x ∷ []
   unfolding appendCall
   call-list l =
-      rw (lt-ltb (o .used) (length (o .nodes) / 4) room)
+      rw (lt-ltb (o .used) (nodeRoom (o .nodes)) room)
       (appended-same (o .nodes) (o .used) (o .calls) (x .key) (x .one) (x .two) room l)
 
 pub append-word : (j : ℕ) (x : Node) (o : Store) (i : ℕ) → (i ≡ j → ⊥) → getD (appendNode j x o .table) i 0 ≡ getD (o .table) i 0
 unfolding appendNode
-append-word j x o i h = go (ltb (o .used) (length (o .nodes) / 4))
+append-word j x o i h = go (ltb (o .used) (nodeRoom (o .nodes)))
   where
     go : (t : Bool) → getD ((if t then appended j x o else o) .table) i 0 ≡ getD (o .table) i 0
     go true = getD-set-other (o .table) j i (suc (o .used)) 0 h
@@ -174,14 +174,14 @@ addNew-word j x o i h = go (hasKey (x .key) (listAt o j))
 
 pub addNew-calls : (j : ℕ) (x : Node) (o : Store) → addNew j x o .calls ≡ o .calls
 unfolding addNew appendNode
-addNew-calls j x o = go (hasKey (x .key) (listAt o j)) (ltb (o .used) (length (o .nodes) / 4))
+addNew-calls j x o = go (hasKey (x .key) (listAt o j)) (ltb (o .used) (nodeRoom (o .nodes)))
   where
     go : (t u : Bool) → (if t then o else if u then appended j x o else o) .calls ≡ o .calls
     go true u = refl
     go false true = refl
     go false false = refl
 
-module _ (j : ℕ) (x : Node) (o : Store) (room : o .used < length (o .nodes) / 4) where
+module _ (j : ℕ) (x : Node) (o : Store) (room : o .used < nodeRoom (o .nodes)) where
   pub addNew-used : addNew j x o .used ≤ suc (o .used)
   unfolding addNew
   addNew-used = go (hasKey (x .key) (listAt o j))
@@ -213,7 +213,7 @@ set-le (y ∷ l) (suc j) v (suc i) n h g = set-le l j v i n h g
 
 pub addNew-low : (j : ℕ) (x : Node) (o : Store) (i : ℕ) → getD (o .table) i 0 ≤ o .used → getD (addNew j x o .table) i 0 ≤ addNew j x o .used
 unfolding addNew appendNode
-addNew-low j x o i l = go (hasKey (x .key) (listAt o j)) (ltb (o .used) (length (o .nodes) / 4))
+addNew-low j x o i l = go (hasKey (x .key) (listAt o j)) (ltb (o .used) (nodeRoom (o .nodes)))
   where
     go : (t u : Bool) → getD ((if t then o else if u then appended j x o else o) .table) i 0 ≤ (if t then o else if u then appended j x o else o) .used
     go true u = l
@@ -276,15 +276,15 @@ addCapture-low (g ∷ gs) x o i l = go (eqb g (x .one)) (addCapture-low gs x (ad
     go true i = l
     go false i = i
 
-pub addCapture-used : (fs : List ℕ) (x : Node) (o : Store) → o .used + length fs ≤ length (o .nodes) / 4 → addCapture fs x o .used ≤ o .used + length fs
+pub addCapture-used : (fs : List ℕ) (x : Node) (o : Store) → o .used + length fs ≤ nodeRoom (o .nodes) → addCapture fs x o .used ≤ o .used + length fs
 unfolding addCapture
 addCapture-used [] x o room = omega arith
 addCapture-used (g ∷ gs) x o room =
-    let r : o .used < length (o .nodes) / 4 = omega arith in
+    let r : o .used < nodeRoom (o .nodes) = omega arith in
     let o′ : Store = addNew (8 * g + 6) x o in
     let u : o′ .used ≤ suc (o .used) = addNew-used (8 * g + 6) x o r in
     let n : length (o′ .nodes) ≡ length (o .nodes) = addNew-extends (8 * g + 6) x o .nodes-length in
-    go (eqb g (x .one)) (addCapture-used gs x o′ (omega (arith, u, ap (λ (k : ℕ). k / 4) n))) u
+    go (eqb g (x .one)) (addCapture-used gs x o′ (omega (arith, u, ap (λ (k : ℕ). min (k / 4) 4294967295) n))) u
   where
     go : (t : Bool) → addCapture gs x (addNew (8 * g + 6) x o) .used ≤ addNew (8 * g + 6) x o .used + length gs → addNew (8 * g + 6) x o .used ≤ suc (o .used)
         → (if t then o else addCapture gs x (addNew (8 * g + 6) x o)) .used ≤ o .used + suc (length gs)
@@ -292,19 +292,19 @@ addCapture-used (g ∷ gs) x o room =
     go false i u = omega arith
 
 -- the list of function f
-pub addCapture-list : (fs : List ℕ) (x : Node) (o : Store) (f : ℕ) → o .used + length fs ≤ length (o .nodes) / 4 → f < length (o .table) / 8
+pub addCapture-list : (fs : List ℕ) (x : Node) (o : Store) (f : ℕ) → o .used + length fs ≤ nodeRoom (o .nodes) → f < length (o .table) / 8
     → ((g : ℕ) → getD (o .table) (8 * g + 6) 0 ≤ o .used)
     → listAt (addCapture fs x o) (8 * f + 6) ≡ (if isBefore (x .one) fs f then addKey x (listAt o (8 * f + 6)) else listAt o (8 * f + 6))
 unfolding addCapture
 addCapture-list [] x o f room h low = refl
 addCapture-list (g ∷ gs) x o f room h low =
-    let r : o .used < length (o .nodes) / 4 = omega arith in
+    let r : o .used < nodeRoom (o .nodes) = omega arith in
     let o′ : Store = addNew (8 * g + 6) x o in
     let u : o′ .used ≤ suc (o .used) = addNew-used (8 * g + 6) x o r in
     let n : length (o′ .nodes) ≡ length (o .nodes) = addNew-extends (8 * g + 6) x o .nodes-length in
     let t : length (o′ .table) ≡ length (o .table) = addNew-extends (8 * g + 6) x o .table-length in
     go (eqb g (x .one)) (eqb g f) refl
-    (addCapture-list gs x o′ f (omega (arith, u, ap (λ (k : ℕ). k / 4) n)) (omega (arith, ap (λ (k : ℕ). k / 8) t)) (λ k. addNew-low (8 * g + 6) x o (8 * k + 6) (low k))) r
+    (addCapture-list gs x o′ f (omega (arith, u, ap (λ (k : ℕ). min (k / 4) 4294967295) n)) (omega (arith, ap (λ (k : ℕ). k / 8) t)) (λ k. addNew-low (8 * g + 6) x o (8 * k + 6) (low k))) r
   where
     fin : (e : Bool) {y z : List Node} → y ≡ (if e then addKey x z else z) → z ≡ addKey x (listAt o (8 * f + 6)) → y ≡ addKey x (listAt o (8 * f + 6))
     fin true p q = p ∙ ap (addKey x) q ∙ add-add x (listAt o (8 * f + 6))
@@ -312,7 +312,7 @@ addCapture-list (g ∷ gs) x o f room h low =
 
     go : (t u : Bool) → eqb g f ≡ u
         → listAt (addCapture gs x (addNew (8 * g + 6) x o)) (8 * f + 6) ≡ (if isBefore (x .one) gs f then addKey x (listAt (addNew (8 * g + 6) x o) (8 * f + 6)) else listAt (addNew (8 * g + 6) x o) (8 * f + 6))
-        → o .used < length (o .nodes) / 4
+        → o .used < nodeRoom (o .nodes)
         → listAt (if t then o else addCapture gs x (addNew (8 * g + 6) x o)) (8 * f + 6)
         ≡ (if (if t then false else (u || isBefore (x .one) gs f)) then addKey x (listAt o (8 * f + 6)) else listAt o (8 * f + 6))
     go true u e i r = refl

@@ -2,7 +2,7 @@
 use mathlib.Core.Path.{_≡_, refl, sym, ap, _∙_, subst}
 use mathlib.Core.List.{List, [], _∷_, _++_, map, append-nil, append-assoc}
 use mathlib.Core.Bool.{Bool, true, false}
-use Prim.Native.Nat.{ℕ, _+_, _-_, _*_, _/_, _<_, _≤_}
+use Prim.Native.Nat.{ℕ, _+_, _-_, _*_, _/_, _<_, _≤_, min}
 use native.Mathlib.Omega.{arith}
 use lib.ListN.{length}
 use lib.Seq.{sets, length-sets}
@@ -14,7 +14,7 @@ use Rattle.definition.specs.Walk.{Event, enter, leave, loop, declare, bring, vi
 use Rattle.definition.specs.Scope.{Stack, Moment, inside, step, run, moments}
 use Rattle.definition.specs.Slots.{finalGlobals}
 use Rattle.definition.specs.Question.{Refusal, firstNo, askEvent}
-use Rattle.machine.specs.Machine.{tagOf, firstOf, secondOf, newMeaning, Scopes, Store, State, wordsPushed, stepScopes, stepStore, checkEvent, stepState, runState}
+use Rattle.machine.specs.Machine.{nodeRoom, entryRoom, tagOf, firstOf, secondOf, newMeaning, Scopes, Store, State, wordsPushed, stepScopes, stepStore, checkEvent, stepState, runState}
 use Rattle.machine.proofs.Nodes.{Extends, extends-trans}
 use Rattle.machine.proofs.ScopesAgree.{slot-small, ScopesAgree, scopes-step}
 use Rattle.machine.proofs.Questions.{check-is}
@@ -36,9 +36,9 @@ pub record StateAgrees (s : Sheet) (room : Room) (h : List Moment) (z : Stack) (
   pub sound : WellFormed s z
   pub kept : StoreAgrees s h (x .store)
   pub agreed : x .refusal .number ≡ 0
-  pub entries-are : length (x .scopes .env) / 5 ≡ room .entries
+  pub entries-are : entryRoom (x .scopes .env) ≡ room .entries
   pub rows-are : length (x .store .table) / 8 ≡ room .rows
-  pub nodes-are : length (x .store .nodes) / 4 ≡ room .nodes
+  pub nodes-are : nodeRoom (x .store .nodes) ≡ room .nodes
 
 -- Events that a walk can have, for which there is room, up to the first no.
 pub data Runs (s : Sheet) (room : Room) : List Moment → Stack → List Event → Type 0 where
@@ -64,7 +64,7 @@ refused-run s (e ∷ es) x n = ap (runState s es) (refused-one s e x n) ∙ refu
 
 -- the lengths of the buffers do not change
 pub pushed-length : (v : List ℕ) (n : ℕ) (ws : List ℕ) → length (wordsPushed v n ws) ≡ length v
-pushed-length v n ws = by (ltb n (length v / 5))
+pushed-length v n ws = by (ltb n (entryRoom v))
   where
     by : (t : Bool) → length (if t then sets v (5 * n) ws else v) ≡ length v
     by true = length-sets v (5 * n) ws
@@ -109,9 +109,9 @@ state-step s hd room h z e x pr un w₁ w₂ r₁ r₂ r₃ y g =
       kept = store-step s hd h z (x .scopes) (g .opened) (g .sound) e (x .store) (λ v. new-known s hd h z (x .scopes) (g .opened) (g .numbered) e v un)
           (λ m. known-on s h (record { event = e; stack = z }) (number-look s h (x .scopes) (g .numbered) m)) (slot-small s z (x .scopes) (g .opened) w₁) (omega (arith, g .nodes-are, r₃)) (omega (arith, g .rows-are, r₂)) (g .kept);
       agreed = g .agreed;
-      entries-are = ap (λ (n : ℕ). n / 5) (move-length s e (x .scopes)) ∙ g .entries-are;
+      entries-are = ap (λ (n : ℕ). min (n / 5) 4294967295) (move-length s e (x .scopes)) ∙ g .entries-are;
       rows-are = ap (λ (n : ℕ). n / 8) (store-extends s e (x .scopes) (x .store) .table-length) ∙ g .rows-are;
-      nodes-are = ap (λ (n : ℕ). n / 4) (store-extends s e (x .scopes) (x .store) .nodes-length) ∙ g .nodes-are;
+      nodes-are = ap (λ (n : ℕ). min (n / 4) 4294967295) (store-extends s e (x .scopes) (x .store) .nodes-length) ∙ g .nodes-are;
     })
 
 -- How a run ends: accepted in agreement with the definition, or refused with its first no.

@@ -14,7 +14,7 @@ use Rattle.definition.specs.Meaning.{Meaning, nothing, function, class, global,
 use Rattle.definition.specs.Walk.{Event, enter, leave, loop, declare, bring, visit}
 use Rattle.definition.specs.Scope.{Entry, scope, looping, bound, Stack, lookup, around, closed, declared, step, inside}
 use Rattle.definition.specs.Slots.{isLocal, openLocals}
-use Rattle.machine.specs.Machine.{entryWord, tagOf, firstOf, secondOf, lastMark, Scopes, lookupMeaning, openFunctions, currentFunction, countPushed, wordsPushed, oneMore, pushName, newMeaning, stepScopes}
+use Rattle.machine.specs.Machine.{entryRoom, entryWord, tagOf, firstOf, secondOf, lastMark, Scopes, lookupMeaning, openFunctions, currentFunction, countPushed, wordsPushed, oneMore, pushName, newMeaning, stepScopes}
 use Rattle.machine.proofs.Words.{sets-in, sets-out}
 use Rattle.machine.proofs.Entries.{entryOf, entries, entries-length, find-is, top-is, around-is, closed-is, mark-le, mark-lt, entries-same}
 
@@ -26,15 +26,15 @@ pub record ScopesAgree (s : Sheet) (z : Stack) (p : Scopes) : Type 0 where
   pub funs-kept : (i : ℕ) → i < p .count → leb (entryWord (p .env) i 0) 1 ≡ true → entryWord (p .env) i 2 ≡ head (around s (entries (p .env) i))
 
 -- An entry pushed.
-module _ (v : List ℕ) (n t m x y k : ℕ) (room : n < length v / 5) where
+module _ (v : List ℕ) (n t m x y k : ℕ) (room : n < entryRoom v) where
   pub push-below : (i : ℕ) → i < n → (c : ℕ) → c < 5 → entryWord (wordsPushed v n (t ∷ m ∷ x ∷ y ∷ k ∷ [])) i c ≡ entryWord v i c
-  push-below i h c g = rw (lt-ltb n (length v / 5) room) (sets-out (t ∷ m ∷ x ∷ y ∷ k ∷ []) v (5 * n) (5 * i + c) (inl (omega arith)))
+  push-below i h c g = rw (lt-ltb n (entryRoom v) room) (sets-out (t ∷ m ∷ x ∷ y ∷ k ∷ []) v (5 * n) (5 * i + c) (inl (omega arith)))
 
   pub push-at : (c : ℕ) → c < 5 → entryWord (wordsPushed v n (t ∷ m ∷ x ∷ y ∷ k ∷ [])) n c ≡ getD (t ∷ m ∷ x ∷ y ∷ k ∷ []) c 0
-  push-at c g = rw (lt-ltb n (length v / 5) room) (sets-in (t ∷ m ∷ x ∷ y ∷ k ∷ []) v (5 * n) c g (omega arith))
+  push-at c g = rw (lt-ltb n (entryRoom v) room) (sets-in (t ∷ m ∷ x ∷ y ∷ k ∷ []) v (5 * n) c g (omega arith))
 
   pub push-more : countPushed v n ≡ suc n
-  push-more = rw (lt-ltb n (length v / 5) room)
+  push-more = rw (lt-ltb n (entryRoom v) room)
 
   push-entries : entries (wordsPushed v n (t ∷ m ∷ x ∷ y ∷ k ∷ [])) (suc n) ≡ entryOf t m x y ∷ entries v n
   unfolding entries
@@ -56,7 +56,7 @@ pub upto : (P : ℕ → Type 0) (n i : ℕ) → P n → ((j : ℕ) → j < n →
 upto P n i last before h = ⊎-elim (λ (e : i ≡ n). subst P (sym e) last) (λ (l : i < n). before i l) (split-lt i n h)
 
 -- the scopes with an entry pushed
-pub scopes-push : (s : Sheet) (z : Stack) (p : Scopes) (e : Entry) (t m x y k′ g f′ : ℕ) → ScopesAgree s z p → length z < length (p .env) / 5
+pub scopes-push : (s : Sheet) (z : Stack) (p : Scopes) (e : Entry) (t m x y k′ g f′ : ℕ) → ScopesAgree s z p → length z < entryRoom (p .env)
     → entryOf t m x y ≡ e → k′ ≡ openLocals s (e ∷ z)
     → f′ ≡ head (around s (e ∷ z)) → (leb t 1 ≡ true → x ≡ p .fun)
     → ScopesAgree s (e ∷ z)
@@ -65,7 +65,7 @@ scopes-push s z p e t m x y k′ g f′ o room ee ek ef ex =
     let v : List ℕ = p .env in
     let n : ℕ = p .count in
     let ln : length z ≡ n = ap length (sym (o .stack-is)) ∙ entries-length v n in
-    let r : n < length v / 5 = omega arith in
+    let r : n < entryRoom v = omega arith in
     let v′ : List ℕ = wordsPushed v n (t ∷ m ∷ x ∷ y ∷ p .slot ∷ []) in
     let same : (i : ℕ) → i < n → (c : ℕ) → c < 5 → entryWord v′ i c ≡ entryWord v i c = push-below v n t m x y (p .slot) r in
     let mo : countPushed v n ≡ suc n = push-more v n t m x y (p .slot) r in
@@ -119,7 +119,7 @@ oneMore-is n h = rw (lt-ltb n 4294967295 h)
 pub slot-small : (s : Sheet) (z : Stack) (p : Scopes) → ScopesAgree s z p → length z < 4294967295 → p .slot < 4294967295
 slot-small s z p o h = omega (arith, o .slot-is, locals-le s z)
 
-pub scopes-name : (s : Sheet) (m : ℕ) (d : Meaning) (z : Stack) (p : Scopes) → length z < length (p .env) / 5 → length z < 4294967295
+pub scopes-name : (s : Sheet) (m : ℕ) (d : Meaning) (z : Stack) (p : Scopes) → length z < entryRoom (p .env) → length z < 4294967295
     → ScopesAgree s z p → ScopesAgree s (bound m d ∷ z) (pushName s m d p)
 scopes-name s m d z p room small o =
     scopes-push s z p (bound m d) (tagOf d) m (firstOf d) (secondOf d (p .nextGlobal)) _ _ (p .fun) o room (coded m (p .nextGlobal) d)
@@ -166,7 +166,7 @@ fun-at s v n h = go (eqb (lastMark v n) 0) refl (mark-lt v n)
     go false e (inr l) = h (lastMark v n) (l .0) (l .1)
 
 -- the entries agree after an event, if there is room for one more
-pub scopes-step : (s : Sheet) (e : Event) (z : Stack) (p : Scopes) → length z < length (p .env) / 5 → length z < 4294967295 → ScopesAgree s z p → ScopesAgree s (step s z e) (stepScopes s e p)
+pub scopes-step : (s : Sheet) (e : Event) (z : Stack) (p : Scopes) → length z < entryRoom (p .env) → length z < 4294967295 → ScopesAgree s z p → ScopesAgree s (step s z e) (stepScopes s e p)
 unfolding stepScopes
 scopes-step s (enter r) z p room small o = scopes-push s z p (scope r) 1 r (p .fun) 0 (p .slot) (p .nextGlobal) (if is s 6 r then r else p .fun) o room refl (o .slot-is) (enter-fun (is s 6 r)) (λ e. refl)
   where

@@ -2,7 +2,7 @@
 use mathlib.Core.Path.{_≡_, refl, sym, ap, _∙_}
 use mathlib.Core.List.{List, [], _∷_, map, append-nil}
 use mathlib.Core.Bool.{Bool, false}
-use Prim.Native.Nat.{ℕ, zero, suc, _+_, _-_, _*_, _/_, _≤_, _<_}
+use Prim.Native.Nat.{ℕ, zero, suc, _+_, _-_, _*_, _/_, _≤_, _<_, min}
 use native.Mathlib.Omega.{arith}
 use lib.ListN.{length, getD}
 use lib.Dec.{eqb}
@@ -12,7 +12,7 @@ use Rattle.definition.specs.Meaning.{Named, isToplevel}
 use Rattle.definition.specs.Outside.{outermost}
 use Rattle.definition.specs.Walk.{walk}
 use Rattle.definition.specs.Scope.{Stack, bound, start}
-use Rattle.machine.specs.Machine.{oneMore, chainTo, chainBack, reversed, listAt, Scopes, globalAt, meaningAt, tagOf, firstOf, secondOf, noScopes, openNames, startState, runState}
+use Rattle.machine.specs.Machine.{nodeRoom, entryRoom, oneMore, chainTo, chainBack, reversed, listAt, Scopes, globalAt, meaningAt, tagOf, firstOf, secondOf, noScopes, openNames, startState, runState}
 use Rattle.machine.specs.Reads.{listedFields, rowWords}
 use Rattle.machine.proofs.Entries.{entries, entries-length}
 use Rattle.machine.proofs.ScopesAgree.{ScopesAgree, scopes-name}
@@ -55,17 +55,17 @@ stack-length : (xs : List Named) → length (stackOf xs) ≡ length xs
 stack-length [] = refl
 stack-length (x ∷ xs) = ap suc (stack-length xs)
 
-opened : (s : Sheet) (v : List ℕ) (xs : List Named) → length xs ≤ length v / 5 → length xs < 4294967295 → ScopesAgree s (stackOf xs) (openNames s xs (noScopes s v))
+opened : (s : Sheet) (v : List ℕ) (xs : List Named) → length xs ≤ entryRoom v → length xs < 4294967295 → ScopesAgree s (stackOf xs) (openNames s xs (noScopes s v))
 opened s v [] h w = noScopes-agree s v
 opened s v (x ∷ xs) h w =
-    scopes-name s (x .name) (x .means) (stackOf xs) (openNames s xs (noScopes s v)) (omega (arith, h, stack-length xs, ap (λ (n : ℕ). n / 5) (openNames-length s xs (noScopes s v)))) (omega (arith, w, stack-length xs)) (opened s v xs (omega arith) (omega arith))
+    scopes-name s (x .name) (x .means) (stackOf xs) (openNames s xs (noScopes s v)) (omega (arith, h, stack-length xs, ap (λ (n : ℕ). min (n / 5) 4294967295) (openNames-length s xs (noScopes s v)))) (omega (arith, w, stack-length xs)) (opened s v xs (omega arith) (omega arith))
 
 -- names none of which is a let of a unit
 data Fixed : List Named → Type 0 where
   f-none : Fixed []
   f-one : {x : Named} {xs : List Named} → isToplevel (x .means) ≡ false → Fixed xs → Fixed (x ∷ xs)
 
-start-numbered : (s : Sheet) (v : List ℕ) {xs : List Named} → Fixed xs → length xs ≤ length v / 5 → length xs < 4294967295 → Numbered s [] (openNames s xs (noScopes s v))
+start-numbered : (s : Sheet) (v : List ℕ) {xs : List Named} → Fixed xs → length xs ≤ entryRoom v → length xs < 4294967295 → Numbered s [] (openNames s xs (noScopes s v))
 unfolding globalAt meaningAt
 start-numbered s v f-none h w = record { next-is = omega arith; numbers = by }
   where
@@ -80,15 +80,15 @@ start-numbered s v (f-one {x} {xs} e f) h w =
     record {
       next-is = ap (λ (t : Bool). if t then oneMore (p .nextGlobal) else p .nextGlobal) e ∙ i .next-is;
       numbers = numbers-push s [] (p .env) (p .count) (tagOf (x .means)) (x .name) (firstOf (x .means)) (secondOf (x .means) (p .nextGlobal)) (p .slot)
-          (omega (arith, h, c, ap (λ (n : ℕ). n / 5) (openNames-length s xs (noScopes s v)))) (i .numbers) (known-stored s [] (x .means) (p .nextGlobal) (unnumbered e));
+          (omega (arith, h, c, ap (λ (n : ℕ). min (n / 5) 4294967295) (openNames-length s xs (noScopes s v)))) (i .numbers) (known-stored s [] (x .means) (p .nextGlobal) (unnumbered e));
     }
 
 outermost-fixed : Fixed outermost
 outermost-fixed = f-one refl (f-one refl (f-one refl (f-one refl (f-one refl (f-one refl (f-one refl (f-one refl (f-one refl f-none))))))))
 
 -- The state before the walk agrees with the definition's, if the table is all zeros and the outermost names have room.
-pub start-agrees : (s : Sheet) (v t q : List ℕ) → 9 ≤ length v / 5 → ((j : ℕ) → getD t j 0 ≡ 0)
-    → StateAgrees s (record { entries = length v / 5; rows = length t / 8; nodes = length q / 4 }) [] start (startState s v t q)
+pub start-agrees : (s : Sheet) (v t q : List ℕ) → 9 ≤ entryRoom v → ((j : ℕ) → getD t j 0 ≡ 0)
+    → StateAgrees s (record { entries = entryRoom v; rows = length t / 8; nodes = nodeRoom q }) [] start (startState s v t q)
 unfolding startState
 start-agrees s v t q h z =
     record {
@@ -97,13 +97,13 @@ start-agrees s v t q h z =
       sound = wellFormed-start s;
       kept = kept-none s t q z;
       agreed = refl;
-      entries-are = ap (λ (n : ℕ). n / 5) (openNames-length s outermost (noScopes s v));
+      entries-are = ap (λ (n : ℕ). min (n / 5) 4294967295) (openNames-length s outermost (noScopes s v));
       rows-are = refl;
       nodes-are = refl;
     }
 
 -- the walk of a sheet from that state
-pub refine-start : (s : Sheet) → kind s 0 ≡ 0 → (v t q : List ℕ) → 9 ≤ length v / 5 → ((j : ℕ) → getD t j 0 ≡ 0)
-    → Runs s (record { entries = length v / 5; rows = length t / 8; nodes = length q / 4 }) [] start (walk s)
-    → Ends s (record { entries = length v / 5; rows = length t / 8; nodes = length q / 4 }) [] start (walk s) (runState s (walk s) (startState s v t q))
+pub refine-start : (s : Sheet) → kind s 0 ≡ 0 → (v t q : List ℕ) → 9 ≤ entryRoom v → ((j : ℕ) → getD t j 0 ≡ 0)
+    → Runs s (record { entries = entryRoom v; rows = length t / 8; nodes = nodeRoom q }) [] start (walk s)
+    → Ends s (record { entries = entryRoom v; rows = length t / 8; nodes = nodeRoom q }) [] start (walk s) (runState s (walk s) (startState s v t q))
 refine-start s hd v t q h z w = refine s hd _ [] start (walk s) (startState s v t q) w (start-agrees s v t q h z)

@@ -2,7 +2,7 @@
 use mathlib.Core.Path.{_≡_, refl, sym, ap, _∙_, subst}
 use mathlib.Core.List.{List, [], _∷_, _++_, map}
 use mathlib.Core.Bool.{Bool, true, false, not, _&&_}
-use Prim.Native.Nat.{ℕ, _+_, _-_, _*_, _/_, _<_, _≤_}
+use Prim.Native.Nat.{ℕ, _+_, _-_, _*_, _/_, _<_, _≤_, min}
 use native.Mathlib.Omega.{arith}
 use lib.ListN.{length, getD}
 use lib.Dec.{eqb, leb, ltb}
@@ -14,7 +14,7 @@ use Rattle.definition.specs.Scope.{Stack, Moment, around, inside, declares}
 use Rattle.definition.specs.Slots.{isLocal, localCount}
 use Rattle.definition.specs.Capture.{captures}
 use Rattle.definition.specs.Classes.{classOf, registered}
-use Rattle.machine.specs.Machine.{cell, Node, chainTo, Store, listAt, Scopes, openFunctions, currentFunction, lookupMeaning, lookupGlobal, newMeaning, appendedCall, appendCall, addNew, addCapture, withTable, writeRow, markHidden, raiseLocals, visitsKind, declaresLet, eventRow, constructedClass, receiverClass, newField, fieldNode, writtenRow, storeCall, storeField, storeCapture, storeLocal, storeHidden, storeRow, stepStore}
+use Rattle.machine.specs.Machine.{nodeRoom, cell, Node, chainTo, Store, listAt, Scopes, openFunctions, currentFunction, lookupMeaning, lookupGlobal, newMeaning, appendedCall, appendCall, addNew, addCapture, withTable, writeRow, markHidden, raiseLocals, visitsKind, declaresLet, eventRow, constructedClass, receiverClass, newField, fieldNode, writtenRow, storeCall, storeField, storeCapture, storeLocal, storeHidden, storeRow, stepStore}
 use Rattle.machine.specs.Reads.{callNode, callsOf, listedFields, rowWords}
 use Rattle.machine.proofs.Nodes.{Extends, extends-trans, addNew-calls, addNew-low, addNew-used, addCapture-calls, addCapture-low, addCapture-used, list-kept}
 use Rattle.machine.proofs.ScopesAgree.{ScopesAgree, functions-is}
@@ -41,9 +41,9 @@ pub record StoreAgrees (s : Sheet) (h : List Moment) (o : Store) : Type 0 where
 
 -- Bounds on the nodes, and the calls, part by part.
 module _ (s : Sheet) (e : Event) (p : Scopes) (o : Store) where
-  call-used : o .used + (if visitsKind s 59 e then 1 else 0) ≤ length (o .nodes) / 4 → storeCall s e p o .used ≤ o .used + (if visitsKind s 59 e then 1 else 0)
+  call-used : o .used + (if visitsKind s 59 e then 1 else 0) ≤ nodeRoom (o .nodes) → storeCall s e p o .used ≤ o .used + (if visitsKind s 59 e then 1 else 0)
   unfolding storeCall appendCall
-  call-used room = go (visitsKind s 59 e) (not (eqb (constructedClass s (eventRow e) p) 0)) (ltb (o .used) (length (o .nodes) / 4))
+  call-used room = go (visitsKind s 59 e) (not (eqb (constructedClass s (eventRow e) p) 0)) (ltb (o .used) (nodeRoom (o .nodes)))
     where
       go : (t u v : Bool) → (if t && u then (if v then appendedCall (record { key = eventRow e; one = constructedClass s (eventRow e) p; two = 0 }) o else o) else o) .used ≤ o .used + (if t then 1 else 0)
       go true true true = omega arith
@@ -53,7 +53,7 @@ module _ (s : Sheet) (e : Event) (p : Scopes) (o : Store) where
 
   call-low : o .calls ≤ o .used → storeCall s e p o .calls ≤ storeCall s e p o .used
   unfolding storeCall appendCall
-  call-low l = go (visitsKind s 59 e && not (eqb (constructedClass s (eventRow e) p) 0)) (ltb (o .used) (length (o .nodes) / 4))
+  call-low l = go (visitsKind s 59 e && not (eqb (constructedClass s (eventRow e) p) 0)) (ltb (o .used) (nodeRoom (o .nodes)))
     where
       go : (t v : Bool) → (if t then (if v then appendedCall (record { key = eventRow e; one = constructedClass s (eventRow e) p; two = 0 }) o else o) else o) .calls
           ≤ (if t then (if v then appendedCall (record { key = eventRow e; one = constructedClass s (eventRow e) p; two = 0 }) o else o) else o) .used
@@ -61,11 +61,11 @@ module _ (s : Sheet) (e : Event) (p : Scopes) (o : Store) where
       go true false = l
       go false v = l
 
-  field-used : o .used + (if visitsKind s 21 e then 1 else 0) ≤ length (o .nodes) / 4 → storeField s e p o .used ≤ o .used + (if visitsKind s 21 e then 1 else 0)
+  field-used : o .used + (if visitsKind s 21 e then 1 else 0) ≤ nodeRoom (o .nodes) → storeField s e p o .used ≤ o .used + (if visitsKind s 21 e then 1 else 0)
   unfolding storeField
   field-used room = go (visitsKind s 21 e) (is s 54 (child s (eventRow e))) (not (eqb (classOf s (currentFunction p)) 0)) _ room
     where
-      go : (t u v w : Bool) → o .used + (if t then 1 else 0) ≤ length (o .nodes) / 4
+      go : (t u v w : Bool) → o .used + (if t then 1 else 0) ≤ nodeRoom (o .nodes)
           → (if t && u && v && w then addNew (8 * classOf s (currentFunction p) + 7) (fieldNode (a s (child s (eventRow e)))) o else o) .used ≤ o .used + (if t then 1 else 0)
       go true true true true r = omega (arith, addNew-used (8 * classOf s (currentFunction p) + 7) (fieldNode (a s (child s (eventRow e)))) o (omega arith))
       go true true true false r = omega arith
@@ -90,11 +90,11 @@ module _ (s : Sheet) (e : Event) (p : Scopes) (o : Store) where
       go true = addNew-low (8 * classOf s (currentFunction p) + 7) (fieldNode (a s (child s (eventRow e)))) o i l
       go false = l
 
-  capture-used : o .used + (if visitsKind s 50 e then length (openFunctions s p) else 0) ≤ length (o .nodes) / 4 → storeCapture s e p o .used ≤ o .used + (if visitsKind s 50 e then length (openFunctions s p) else 0)
+  capture-used : o .used + (if visitsKind s 50 e then length (openFunctions s p) else 0) ≤ nodeRoom (o .nodes) → storeCapture s e p o .used ≤ o .used + (if visitsKind s 50 e then length (openFunctions s p) else 0)
   unfolding storeCapture
   capture-used room = go (visitsKind s 50 e) (isVariable (lookupMeaning p (a s (eventRow e)))) _ room
     where
-      go : (t u : Bool) (x : Node) → o .used + (if t then length (openFunctions s p) else 0) ≤ length (o .nodes) / 4
+      go : (t u : Bool) (x : Node) → o .used + (if t then length (openFunctions s p) else 0) ≤ nodeRoom (o .nodes)
           → (if t && u then addCapture (openFunctions s p) x o else o) .used ≤ o .used + (if t then length (openFunctions s p) else 0)
       go true true x r = addCapture-used (openFunctions s p) x o r
       go true false x r = omega arith
@@ -250,7 +250,7 @@ nodeCost-is s hd e z = rw (visitsKind-is s hd 59 refl e, visitsKind-is s hd 21 r
 pub store-step : (s : Sheet) → kind s 0 ≡ 0 → (h : List Moment) (z : Stack) (p : Scopes) → ScopesAgree s z p → WellFormed s z → (e : Event) (o : Store)
     → (declaresLet s e ≡ true → Known s (h ++ record { event = e; stack = z } ∷ []) (p .nextGlobal) (newMeaning s (declares e) p))
     → ((m : ℕ) → Known s (h ++ record { event = e; stack = z } ∷ []) (lookupGlobal p m) (lookupMeaning p m))
-    → p .slot < 4294967295 → nodesNeeded s (h ++ record { event = e; stack = z } ∷ []) ≤ length (o .nodes) / 4 → inside s z < length (o .table) / 8
+    → p .slot < 4294967295 → nodesNeeded s (h ++ record { event = e; stack = z } ∷ []) ≤ nodeRoom (o .nodes) → inside s z < length (o .table) / 8
     → StoreAgrees s h o → StoreAgrees s (h ++ record { event = e; stack = z } ∷ []) (stepStore s e p o)
 unfolding stepStore
 store-step s hd h z p op snd e o kl ku few room within-table k =
@@ -285,25 +285,25 @@ store-step s hd h z p op snd e o kl ku few room within-table k =
     all : nodesNeeded s h + ((if visitsKind s 59 e then 1 else 0) + (if visitsKind s 21 e then 1 else 0) + (if visitsKind s 50 e then length (around s z) else 0)) ≡ nodesNeeded s (h ++ record { event = e; stack = z } ∷ [])
     all = ap (λ (c : ℕ). nodesNeeded s h + c) (sym (nodeCost-is s hd e z)) ∙ sym (needed-snoc s h (record { event = e; stack = z }))
 
-    r₁ : o .used + (if visitsKind s 59 e then 1 else 0) ≤ length (o .nodes) / 4
+    r₁ : o .used + (if visitsKind s 59 e then 1 else 0) ≤ nodeRoom (o .nodes)
     r₁ = omega (arith, all, k .used-le, room)
 
     u₁ : o₁ .used ≤ o .used + (if visitsKind s 59 e then 1 else 0)
     u₁ = call-used s e p o r₁
 
-    n₁ : length (o .nodes) / 4 ≡ length (o₁ .nodes) / 4
-    n₁ = ap (λ (j : ℕ). j / 4) (sym (storeCall-unchanged s e p o .grows .nodes-length))
+    n₁ : nodeRoom (o .nodes) ≡ nodeRoom (o₁ .nodes)
+    n₁ = ap (λ (j : ℕ). min (j / 4) 4294967295) (sym (storeCall-unchanged s e p o .grows .nodes-length))
 
-    r₂ : o₁ .used + (if visitsKind s 21 e then 1 else 0) ≤ length (o₁ .nodes) / 4
+    r₂ : o₁ .used + (if visitsKind s 21 e then 1 else 0) ≤ nodeRoom (o₁ .nodes)
     r₂ = omega (arith, all, k .used-le, room, u₁, n₁)
 
     u₂ : o₂ .used ≤ o₁ .used + (if visitsKind s 21 e then 1 else 0)
     u₂ = field-used s e p o₁ r₂
 
-    n₂ : length (o₁ .nodes) / 4 ≡ length (o₂ .nodes) / 4
-    n₂ = ap (λ (j : ℕ). j / 4) (sym (storeField-unchanged s e p o₁ .grows .nodes-length))
+    n₂ : nodeRoom (o₁ .nodes) ≡ nodeRoom (o₂ .nodes)
+    n₂ = ap (λ (j : ℕ). min (j / 4) 4294967295) (sym (storeField-unchanged s e p o₁ .grows .nodes-length))
 
-    r₃ : o₂ .used + (if visitsKind s 50 e then length (around s z) else 0) ≤ length (o₂ .nodes) / 4
+    r₃ : o₂ .used + (if visitsKind s 50 e then length (around s z) else 0) ≤ nodeRoom (o₂ .nodes)
     r₃ = omega (arith, all, k .used-le, room, u₁, n₁, u₂, n₂)
 
     fu : length (openFunctions s p) ≡ length (around s z)
@@ -311,7 +311,7 @@ store-step s hd h z p op snd e o kl ku few room within-table k =
 
     u₃ : o₃ .used ≤ o₂ .used + (if visitsKind s 50 e then length (around s z) else 0)
     u₃ = subst (λ (n : ℕ). o₃ .used ≤ o₂ .used + (if visitsKind s 50 e then n else 0)) fu
-        (capture-used s e p o₂ (subst (λ (n : ℕ). o₂ .used + (if visitsKind s 50 e then n else 0) ≤ length (o₂ .nodes) / 4) (sym fu) r₃))
+        (capture-used s e p o₂ (subst (λ (n : ℕ). o₂ .used + (if visitsKind s 50 e then n else 0) ≤ nodeRoom (o₂ .nodes)) (sym fu) r₃))
 
     u₆ : o₆ .used ≤ nodesNeeded s (h ++ record { event = e; stack = z } ∷ [])
     u₆ = omega (arith, all, k .used-le, u₁, u₂, u₃, row-same s e p o₅ .used-is, hidden-same s e p o₄ .used-is, local-same s e p o₃ .used-is)

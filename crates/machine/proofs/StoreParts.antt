@@ -19,7 +19,7 @@ use Rattle.definition.specs.Classes.{classOf, registered}
 use Rattle.definition.specs.Question.{constructed, receiver}
 use Rattle.definition.specs.Answer.{classCalls}
 use Rattle.definition.proofs.Lists.Members.{map-append}
-use Rattle.machine.specs.Machine.{cell, Node, chainTo, Store, listAt, Scopes, openFunctions, currentFunction, lookupMeaning, lookupSlot, newMeaning, hasKey, appendCall, addNew, addCapture, markHidden, raiseLocals, visitsKind, declaresLet, constructedClass, receiverClass, newField, fieldNode, storeCall, storeField, storeCapture, storeLocal, storeHidden}
+use Rattle.machine.specs.Machine.{nodeRoom, cell, Node, chainTo, Store, listAt, Scopes, openFunctions, currentFunction, lookupMeaning, lookupSlot, newMeaning, hasKey, appendCall, addNew, addCapture, markHidden, raiseLocals, visitsKind, declaresLet, constructedClass, receiverClass, newField, fieldNode, storeCall, storeField, storeCapture, storeLocal, storeHidden}
 use Rattle.machine.specs.Reads.{callNode, callsOf, listedFields}
 use Rattle.machine.proofs.Nodes.{addKey, isBefore, call-list, addNew-list, addNew-word, addNew-extends, addCapture-list, list-kept}
 use Rattle.machine.proofs.Lists.{only, any-append, any-map, distinct-key, any-distinct, filter2-snoc, largest-snoc, eqb-same}
@@ -60,7 +60,7 @@ needed-snoc s [] m = omega arith
 needed-snoc s (x ∷ h) m = omega (arith, needed-snoc s h m)
 
 -- Captures.
-part-list : (t : Bool) (fs : List ℕ) (x : Node) (o : Store) (f : ℕ) → (t ≡ true → o .used + length fs ≤ length (o .nodes) / 4) → f < length (o .table) / 8
+part-list : (t : Bool) (fs : List ℕ) (x : Node) (o : Store) (f : ℕ) → (t ≡ true → o .used + length fs ≤ nodeRoom (o .nodes)) → f < length (o .table) / 8
     → ((g : ℕ) → getD (o .table) (8 * g + 6) 0 ≤ o .used)
     → listAt (if t then addCapture fs x o else o) (8 * f + 6) ≡ (if t then (if isBefore (x .one) fs f then addKey x (listAt o (8 * f + 6)) else listAt o (8 * f + 6)) else listAt o (8 * f + 6))
 part-list true fs x o f room h low = addCapture-list fs x o f (room refl) h low
@@ -79,7 +79,7 @@ module _ (s : Sheet) (hd : kind s 0 ≡ 0) (h : List Moment) (z : Stack) (p : Sc
   captures-same e v f = keys-snoc s h (record { event = e; stack = z }) snd f ∙ rw (visitsKind-is s hd 50 refl e ∙ v)
 
   pub capture-part : (e : Event) (o : Store) (f : ℕ)
-      → o .used + (if visitsKind s 50 e then length (around s z) else 0) ≤ length (o .nodes) / 4 → f < length (o .table) / 8
+      → o .used + (if visitsKind s 50 e then length (around s z) else 0) ≤ nodeRoom (o .nodes) → f < length (o .table) / 8
       → ((g : ℕ) → getD (o .table) (8 * g + 6) 0 ≤ o .used)
       → listAt o (8 * f + 6) ≡ map nodeOf (captures s h f)
       → listAt (storeCapture s e p o) (8 * f + 6) ≡ map nodeOf (captures s (h ++ record { event = e; stack = z } ∷ []) f)
@@ -219,7 +219,7 @@ calls-snoc s h m =
     go true = refl
     go false = append-nil (map (callNode s) (callsOf s h))
 
-call-if : (t : Bool) (x : Node) (o : Store) → (t ≡ true → o .used < length (o .nodes) / 4) → o .calls ≤ o .used
+call-if : (t : Bool) (x : Node) (o : Store) → (t ≡ true → o .used < nodeRoom (o .nodes)) → o .calls ≤ o .used
     → chainTo ((if t then appendCall x o else o) .nodes) ((if t then appendCall x o else o) .calls) ≡ (if t then chainTo (o .nodes) (o .calls) ++ x ∷ [] else chainTo (o .nodes) (o .calls))
 call-if true x o room l = call-list 0 x o (room refl) l
 call-if false x o room l = refl
@@ -269,7 +269,7 @@ own-snoc xs rs ys n true e =
         append-assoc (distinct eqb xs) (map (λ y. y .key) ys) (n ∷ [])
         ∙ ap (λ (l : List ℕ). distinct eqb xs ++ l) (sym (map-append (λ (y : Node). y .key) ys (fieldNode n ∷ [])))
 
-field-list : (s : Sheet) (t u : Bool) (d c n : ℕ) (o : Store) → (t ≡ true → o .used < length (o .nodes) / 4) → c < length (o .table) / 8 → (c ≡ 0 → ⊥)
+field-list : (s : Sheet) (t u : Bool) (d c n : ℕ) (o : Store) → (t ≡ true → o .used < nodeRoom (o .nodes)) → c < length (o .table) / 8 → (c ≡ 0 → ⊥)
     → getD (o .table) (8 * c + 7) 0 ≤ o .used
     → listAt (if t && u && not (eqb d 0) && not (n ∈? listedFields s d) then addNew (8 * d + 7) (fieldNode n) o else o) (8 * c + 7)
     ≡ (if t && (u && eqb d c) then (if n ∈? listedFields s c then listAt o (8 * c + 7) else addKey (fieldNode n) (listAt o (8 * c + 7))) else listAt o (8 * c + 7))
@@ -298,7 +298,7 @@ module _ (s : Sheet) (hd : kind s 0 ≡ 0) (h : List Moment) (z : Stack) (p : Sc
   calls-same : (e : Event) → visitsKind s 59 e ≡ false → map (callNode s) (callsOf s (h ++ record { event = e; stack = z } ∷ [])) ≡ map (callNode s) (callsOf s h)
   calls-same e v = calls-snoc s h (record { event = e; stack = z }) ∙ rw (visitsKind-is s hd 59 refl e ∙ v)
 
-  pub call-part : (e : Event) (o : Store) → o .used + (if visitsKind s 59 e then 1 else 0) ≤ length (o .nodes) / 4 → o .calls ≤ o .used
+  pub call-part : (e : Event) (o : Store) → o .used + (if visitsKind s 59 e then 1 else 0) ≤ nodeRoom (o .nodes) → o .calls ≤ o .used
       → chainTo (o .nodes) (o .calls) ≡ map (callNode s) (callsOf s h)
       → chainTo (storeCall s e p o .nodes) (storeCall s e p o .calls) ≡ map (callNode s) (callsOf s (h ++ record { event = e; stack = z } ∷ []))
   unfolding storeCall
@@ -314,7 +314,7 @@ module _ (s : Sheet) (hd : kind s 0 ≡ 0) (h : List Moment) (z : Stack) (p : Sc
   fields-same : (e : Event) → visitsKind s 21 e ≡ false → (c : ℕ) → registered s (h ++ record { event = e; stack = z } ∷ []) c ≡ registered s h c
   fields-same e v c = registered-snoc s h (record { event = e; stack = z }) c ∙ rw (visitsKind-is s hd 21 refl e ∙ v) (append-nil (registered s h c))
 
-  pub field-part : (e : Event) (o : Store) (c : ℕ) → o .used + (if visitsKind s 21 e then 1 else 0) ≤ length (o .nodes) / 4
+  pub field-part : (e : Event) (o : Store) (c : ℕ) → o .used + (if visitsKind s 21 e then 1 else 0) ≤ nodeRoom (o .nodes)
       → c < length (o .table) / 8 → (c ≡ 0 → ⊥) → getD (o .table) (8 * c + 7) 0 ≤ o .used
       → distinct eqb (listedFields s c ++ registered s h c) ≡ distinct eqb (listedFields s c) ++ map (λ y. y .key) (listAt o (8 * c + 7))
       → distinct eqb (listedFields s c ++ registered s (h ++ record { event = e; stack = z } ∷ []) c) ≡ distinct eqb (listedFields s c) ++ map (λ y. y .key) (listAt (storeField s e p o) (8 * c + 7))

@@ -1,24 +1,24 @@
 -- What is proved of the state machine, for readers and for the crates above.
 use mathlib.Core.Path.{_≡_, refl, sym, _∙_}
 use mathlib.Core.List.{List, []}
-use mathlib.Core.Bool.{true}
+use mathlib.Core.Bool.{true, _&&_}
 use native.Mathlib.Omega.{arith}
 use Prim.Native.Nat.{ℕ, _+_, _*_, _/_, _<_, _≤_}
 use lib.ListN.{length, getD}
-use lib.Dec.{T}
+use lib.Dec.{T, eqb, leb, leb→le}
 use Rattle.definition.specs.Sheet.{Sheet, rows, is}
 use Rattle.definition.specs.Walk.{walk}
 use Rattle.definition.specs.Scope.{start, history}
-use Rattle.definition.specs.Format.{sheetFits, depthsFit}
+use Rattle.definition.specs.Format.{sheetFits}
 use Rattle.definition.specs.Outcome.{rowsFit}
-use Rattle.definition.proofs.Lists.Tests.{true-of}
+use Rattle.definition.proofs.Lists.Tests.{true-of, and-right}
 use Rattle.definition.proofs.Format.Facts.{SheetFacts, facts}
 use Rattle.definition.proofs.Format.Accepted.{some-row}
 use Rattle.definition.proofs.Walk.Fits.{Fits}
 use Rattle.definition.proofs.Walk.Fitting.{fits}
 use Rattle.definition.proofs.Walk.Rows.{kind-not-zero}
-use Rattle.machine.specs.Machine.{State, Store, startState, runState}
-use Rattle.machine.specs.Reads.{StoreReads, Walked}
+use Rattle.machine.specs.Machine.{entryRoom, nodeRoom, State, Store, startState, runState}
+use Rattle.machine.specs.Reads.{StoreReads, Walked, PastFour}
 use Rattle.machine.proofs.StoreAgrees.{StoreAgrees}
 use Rattle.machine.proofs.Refinement.{Ends}
 use Rattle.machine.proofs.AfterRows.{parent-word}
@@ -43,22 +43,32 @@ store-reads n {s} ok fa o k e =
       calls = k .calls-is;
     }
 
--- The walk of every sheet past questions 1, 3 and 4, with n names: run over it from a table of zeros, with room for n + 11 + 3 * rows open
--- entries that a word can count, a table row for each sheet row and 21 nodes for each, the machine refuses with the definition's first no of questions 5 to 17,
+-- rows of a sheet past question 1
+pub rows-few : (s : Sheet) → T (rowsFit s) → rows s ≤ 2048
+rows-few s h = leb→le (rows s) 2048 (and-right (eqb (8 * rows s) (length s) && leb 1 (rows s)) (leb (rows s) 2048) h)
+
+-- The walk of every sheet past the first four questions: run over it from a table of zeros, with room for 1,059 open entries and three for each row,
+-- a table row for each sheet row and 21 nodes for each, the machine refuses with the definition's first no of questions 5 to 17,
 -- or it holds what the definition's answer rows say.
-pub walk-refines : (n : ℕ) (s : Sheet) (v t q : List ℕ) → T (rowsFit s) → T (sheetFits n s) → T (depthsFit s) → ((j : ℕ) → getD t j 0 ≡ 0)
-    → n + 11 + 3 * rows s < length v / 5 → length v / 5 ≤ 4294967295 → rows s ≤ length t / 8 → 21 * rows s ≤ length q / 4
+pub walk-refines : (s : Sheet) (v t q : List ℕ) → PastFour s → ((j : ℕ) → getD t j 0 ≡ 0)
+    → 1059 + 3 * rows s < length v / 5 → rows s ≤ length t / 8 → 21 * rows s ≤ length q / 4
     → Walked s (runState s (walk s) (startState s v t q))
-walk-refines n s v t q whole fitting deep clear entries words table nodes =
-    ended (fitting-sheet n s v t q clear z h deep (record { for-rows = table; for-entries = entries; for-words = omega arith; for-nodes = nodes }))
+walk-refines s v t q ok clear entries table nodes =
+    ended (fitting-sheet n s v t q clear z h (ok .shallow) (record { for-rows = table; for-entries = omega (arith, m, ok .few); for-words = omega (arith, m, ok .few); for-nodes = omega (arith, m) }))
   where
+    n : ℕ
+    n = ok .names
+
+    m : rows s ≤ 2048
+    m = rows-few s (ok .whole)
+
     z : 0 < rows s
-    z = some-row s whole
+    z = some-row s (ok .whole)
 
     h : sheetFits n s ≡ true
-    h = true-of (sheetFits n s) fitting
+    h = true-of (sheetFits n s) (ok .fitting)
 
-    ended : {x : State} → Ends s (record { entries = length v / 5; rows = length t / 8; nodes = length q / 4 }) [] start (walk s) x → Walked s x
+    ended : {x : State} → Ends s (record { entries = entryRoom v; rows = length t / 8; nodes = nodeRoom q }) [] start (walk s) x → Walked s x
     ended {x} (Ends.accepted e g) =
         record {
           refused = λ k. absurd (k e);

@@ -18,7 +18,7 @@ use Rattle.definition.proofs.Closure.Declared.{Plain, PlainEvent, plain-trace}
 use Rattle.machine.proofs.Stacks.{Proper, p-enter, p-leave, p-loop, p-declare, p-bring, p-visit, Distinct}
 use Rattle.machine.proofs.AfterRows.{All, al-none, al-one}
 use Rattle.machine.proofs.StoreParts.{nodesNeeded}
-use Rattle.machine.specs.Machine.{startState, runState}
+use Rattle.machine.specs.Machine.{nodeRoom, entryRoom, startState, runState}
 use Rattle.machine.proofs.Refinement.{Room, Runs, Ends}
 use Rattle.machine.proofs.Reached.{Reached, r-here, r-later, runs-reached, functionsEntered, enters-fresh}
 use Rattle.machine.proofs.EntryBound.{ImportShallow, entriesPushed, walk-bound}
@@ -123,6 +123,6 @@ ready-runs s room n y =
 
 -- the walk of such a sheet, with a table of zeros
 pub ready-ends : (s : Sheet) (n : ℕ) (v t q : List ℕ) → ((j : ℕ) → getD t j 0 ≡ 0)
-    → WalkReady s (record { entries = length v / 5; rows = length t / 8; nodes = length q / 4 }) n
-    → Ends s (record { entries = length v / 5; rows = length t / 8; nodes = length q / 4 }) [] start (walk s) (runState s (walk s) (startState s v t q))
+    → WalkReady s (record { entries = entryRoom v; rows = length t / 8; nodes = nodeRoom q }) n
+    → Ends s (record { entries = entryRoom v; rows = length t / 8; nodes = nodeRoom q }) [] start (walk s) (runState s (walk s) (startState s v t q))
 ready-ends s n v t q z y = refine-start s (y .header) v t q (omega (arith, y .enough-entries)) z (ready-runs s _ n y)

@@ -152,13 +152,17 @@ openFunctions s p = functionMarks s (p .env) (p .count)
 unfoldable pub currentFunction : Scopes → ℕ
 currentFunction p = p .fun
 
+-- how many entries fit a buffer and a word's count
+abbrev pub entryRoom : List ℕ → ℕ
+entryRoom v = min (length v / 5) 4294967295
+
 -- the number of entries after one more is pushed, if there is room
 abbrev pub countPushed : List ℕ → ℕ → ℕ
-countPushed v n = if ltb n (length v / 5) then suc n else n
+countPushed v n = if ltb n (entryRoom v) then suc n else n
 
 -- the entries' words after one more is pushed, if there is room
 abbrev pub wordsPushed : List ℕ → ℕ → List ℕ → List ℕ
-wordsPushed v n ws = if ltb n (length v / 5) then sets v (5 * n) ws else v
+wordsPushed v n ws = if ltb n (entryRoom v) then sets v (5 * n) ws else v
 
 -- one more, unless that would not fit a word: so a routine's sum fits with no fact about the sheet
 abbrev pub oneMore : ℕ → ℕ
@@ -263,13 +267,17 @@ appendedCall x o =
       nodes = sets (o .nodes) (4 * o .used) (o .calls ∷ x .key ∷ x .one ∷ x .two ∷ []);
     }
 
+-- how many nodes fit a buffer and a word's count
+abbrev pub nodeRoom : List ℕ → ℕ
+nodeRoom q = min (length q / 4) 4294967295
+
 -- a node appended to the list of word j of the table, if there is room
 unfoldable pub appendNode : ℕ → Node → Store → Store
-appendNode j x o = if ltb (o .used) (length (o .nodes) / 4) then appended j x o else o
+appendNode j x o = if ltb (o .used) (nodeRoom (o .nodes)) then appended j x o else o
 
 -- a constructor call appended, if there is room
 unfoldable pub appendCall : Node → Store → Store
-appendCall x o = if ltb (o .used) (length (o .nodes) / 4) then appendedCall x o else o
+appendCall x o = if ltb (o .used) (nodeRoom (o .nodes)) then appendedCall x o else o
 
 -- a node appended to the list of word j of the table, unless its key is in that list
 unfoldable pub addNew : ℕ → Node → Store → Store
@@ -291,6 +299,10 @@ withTable t o = record { used = o .used; calls = o .calls; table = t; nodes = o 
 -- code and values of sheet row r written to the table
 unfoldable pub writeRow : ℕ → List ℕ → Store → Store
 writeRow r vs o = if ltb r (length (o .table) / 8) then withTable (sets (o .table) (8 * r) (fourWords vs)) o else o
+
+-- the same, unless it is row 0
+abbrev pub writeRowAt : ℕ → List ℕ → Store → Store
+writeRowAt r vs o = if eqb r 0 then o else writeRow r vs o
 
 -- the identifier of row r marked as hidden
 unfoldable pub markHidden : ℕ → Store → Store
@@ -408,7 +420,7 @@ writtenWords s e p o =
 
 -- an event's code and values written
 unfoldable pub storeRow : Sheet → Event → Scopes → Store → Store
-storeRow s e p o = if eqb (writtenRow s e p) 0 then o else writeRow (writtenRow s e p) (writtenWords s e p o) o
+storeRow s e p o = writeRowAt (writtenRow s e p) (writtenWords s e p o) o
 
 -- the store after an event, with the scopes before it; captures come before the row that counts them
 unfoldable pub stepStore : Sheet → Event → Scopes → Store → Store

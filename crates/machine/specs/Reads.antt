@@ -2,7 +2,7 @@
 use mathlib.Core.Path.{_≡_}
 use mathlib.Core.Bool.{Bool, false, not, _&&_}
 use mathlib.Core.List.{List, [], _∷_, _++_, map}
-use Prim.Native.Nat.{ℕ, suc, _+_, _*_, _<_}
+use Prim.Native.Nat.{ℕ, suc, _+_, _*_, _<_, _≤_}
 use lib.ListN.{length}
 use lib.Dec.{eqb, T}
 use Rattle.definition.specs.Basics.{if_then_else_, filter, any, distinct, from, concatMap}
@@ -12,6 +12,8 @@ use Rattle.definition.specs.Scope.{Moment, visited, visits, history}
 use Rattle.definition.specs.Slots.{isMutable, finalGlobals}
 use Rattle.definition.specs.Classes.{ownFields, parentOf, methodNamed, methods, className, arity}
 use Rattle.definition.specs.Question.{Refusal, ask, firstNo, askEvent, askClimb, constructed, arguments, refusal}
+use Rattle.definition.specs.Format.{sheetFits, depthsFit}
+use Rattle.definition.specs.Outcome.{rowsFit}
 use Rattle.definition.specs.Answer.{eight, letRow, identifierRow, hostRow, instanceRow, memberRow, literalRows, functionRows}
 use Rattle.machine.specs.Machine.{Node, Store, State, cell, listAt, chainTo, seenIn, codeOf}
 
@@ -75,6 +77,14 @@ pub record StoreReads (s : Sheet) (o : Store) : Type 0 where
   pub parents : (c : ℕ) → c < rows s → T (is s 4 c) → parentOf s (history s) (256 + c) ≡ cell (o .table) c 1
   -- and the constructor calls are stored in the walk's order.
   pub calls : chainTo (o .nodes) (o .calls) ≡ map (callNode s) (callsOf s (history s))
+
+-- A sheet past questions 1, 3 and 4, with a number of names that question 2 allows.
+pub record PastFour (s : Sheet) : Type 0 where
+  pub names : ℕ
+  pub few : names ≤ 1048
+  pub whole : T (rowsFit s)
+  pub fitting : T (sheetFits names s)
+  pub shallow : T (depthsFit s)
 
 -- the questions 20 and 21 on a stored constructor call
 abbrev pub checkCall : Sheet → List Moment → Node → Refusal

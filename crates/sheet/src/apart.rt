@@ -8,7 +8,7 @@ ghost use Rattle.definition.specs.Sheet.{rows, kids};
 ghost use Rattle.definition.specs.Format.{linksRise};
 ghost use Rattle.sheet.specs.Apart.{childUnmarked, childMarked, unmarked, marked, stamp, unitUnmarked, unitMarked, classUnmarked, classMarked, rowUnmarked, rowMarked, allUnmarked};
 ghost use Rattle.sheet.specs.Rising.{Rising};
-use crate::words::word;
+use tree::words::word;
 
 fn mark_of(m: &[u32], i: u32) -> u32
     ensures { λ x. ⌜ x ≡ getD (now (m .entry)) i 0 ⌝ }

@@ -15,7 +15,7 @@ use crate::links::links_rise;
 use crate::pass::all_cross;
 use crate::pass::all_depths;
 use crate::pass::fill;
-use crate::words::word;
+use tree::words::word;
 
 // Row 0 is the header.
 fn header_first(s: &[u32]) -> bool

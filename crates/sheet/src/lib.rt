@@ -9,7 +9,6 @@ mod links;
 mod pass;
 mod row;
 mod tables;
-mod words;
 
 use crate::format::format_question;
 

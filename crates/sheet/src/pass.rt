@@ -5,7 +5,7 @@ ghost use Rattle.definition.specs.Basics.{all, from};
 ghost use Rattle.sheet.specs.Pass.{rowsOk, rowsNoted, literalOk, declarationOk, classOk, methodOk, crossOk, depthOk};
 use crate::row::note_row;
 use crate::row::row_fits;
-use crate::words::word;
+use tree::words::word;
 
 // Do the rows fit as they are reached, in rising order? Each tells the table what it knows of its next row and first child.
 pub fn fill(s: &[u32], n: u32, last: u32, t: &mut [u32]) -> bool

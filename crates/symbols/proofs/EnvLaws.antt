@@ -12,7 +12,7 @@ use borrow.Author.Tests.{le-leb, lt-leb, lt-ltb, le-ltb, eq-eqb, ne-eqb}
 use Rattle.definition.specs.Basics.{if_then_else_}
 use Rattle.definition.specs.Sheet.{Sheet, is, kind}
 use Rattle.definition.proofs.Lists.Tests.{ℕ-trichotomy}
-use Rattle.machine.specs.Machine.{entryWord, findName, takenIn, loopIn, lastMark, countPushed, wordsPushed, Scopes, pushMark, stepScopes}
+use Rattle.machine.specs.Machine.{entryWord, entryRoom, findName, takenIn, loopIn, lastMark, countPushed, wordsPushed, Scopes, pushMark, stepScopes}
 use Rattle.definition.specs.Walk.{enter, leave, loop}
 use Rattle.machine.proofs.CodeSteps.{five-stores}
 
@@ -119,19 +119,19 @@ unfolding lastMark
 last-none v i l = sym (ap (lastMark v) (end i l))
 
 -- an entry pushed where there is room, and where there is none
-pub pushed-count : (v : List ℕ) (n : ℕ) → n < length v / 5 → n + 1 ≡ countPushed v n
-pushed-count v n l = let e : n + 1 ≡ suc n = omega arith in e ∙ sym (ap (λ (t : Bool). if t then suc n else n) (lt-ltb n (length v / 5) l))
+pub pushed-count : (v : List ℕ) (n : ℕ) → n < entryRoom v → n + 1 ≡ countPushed v n
+pushed-count v n l = let e : n + 1 ≡ suc n = omega arith in e ∙ sym (ap (λ (t : Bool). if t then suc n else n) (lt-ltb n (entryRoom v) l))
 
-pub pushed-words : (v : List ℕ) (n t m x y k : ℕ) → n < length v / 5
+pub pushed-words : (v : List ℕ) (n t m x y k : ℕ) → n < entryRoom v
     → set (set (set (set (set v (5 * n) t) (5 * n + 1) m) (5 * n + 2) x) (5 * n + 3) y) (5 * n + 4) k ≡ wordsPushed v n (t ∷ m ∷ x ∷ y ∷ k ∷ [])
 pushed-words v n t m x y k l =
-    five-stores v (5 * n) t m x y k ∙ sym (ap (λ (b : Bool). if b then sets v (5 * n) (t ∷ m ∷ x ∷ y ∷ k ∷ []) else v) (lt-ltb n (length v / 5) l))
+    five-stores v (5 * n) t m x y k ∙ sym (ap (λ (b : Bool). if b then sets v (5 * n) (t ∷ m ∷ x ∷ y ∷ k ∷ []) else v) (lt-ltb n (entryRoom v) l))
 
-pub full-count : (v : List ℕ) (n : ℕ) → length v / 5 ≤ n → n ≡ countPushed v n
-full-count v n l = sym (ap (λ (t : Bool). if t then suc n else n) (le-ltb n (length v / 5) l))
+pub full-count : (v : List ℕ) (n : ℕ) → entryRoom v ≤ n → n ≡ countPushed v n
+full-count v n l = sym (ap (λ (t : Bool). if t then suc n else n) (le-ltb n (entryRoom v) l))
 
-pub full-words : (v : List ℕ) (n : ℕ) (ws : List ℕ) → length v / 5 ≤ n → v ≡ wordsPushed v n ws
-full-words v n ws l = sym (ap (λ (b : Bool). if b then sets v (5 * n) ws else v) (le-ltb n (length v / 5) l))
+pub full-words : (v : List ℕ) (n : ℕ) (ws : List ℕ) → entryRoom v ≤ n → v ≡ wordsPushed v n ws
+full-words v n ws l = sym (ap (λ (b : Bool). if b then sets v (5 * n) ws else v) (le-ltb n (entryRoom v) l))
 
 -- the open scopes of four counters and a buffer
 abbrev scopes : ℕ → ℕ → ℕ → ℕ → List ℕ → Scopes

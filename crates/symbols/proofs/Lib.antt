@@ -1,1 +1,2 @@
 mod EnvLaws
+mod DeclLaws

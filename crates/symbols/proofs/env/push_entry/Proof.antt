@@ -70,10 +70,13 @@ same-length : tie.Need-same-length
 same-length c = search needs
 
 returns : tie.Need-returns
-returns c = let a = c .before .args in (pushed-count (a .v .now) (a .n) (c .if1 .taken), pushed-words (a .v .now) (a .n) (a .tag) (a .name) (a .x) (a .y) (a .slot) (c .if1 .taken))
+returns c = let a = c .before .before .args in (pushed-count (a .v .now) (a .n) (omega (arith, c .before .if1 .taken, c .if2 .taken)), pushed-words (a .v .now) (a .n) (a .tag) (a .name) (a .x) (a .y) (a .slot) (omega (arith, c .before .if1 .taken, c .if2 .taken)))
 
 returns-2 : tie.Need-returns-2
-returns-2 c = let a = c .before .args in (full-count (a .v .now) (a .n) (c .if1 .left), full-words (a .v .now) (a .n) (a .tag ∷ a .name ∷ a .x ∷ a .y ∷ a .slot ∷ []) (c .if1 .left))
+returns-2 c = let a = c .before .before .args in (full-count (a .v .now) (a .n) (omega (arith, c .if2 .left)), full-words (a .v .now) (a .n) (a .tag ∷ a .name ∷ a .x ∷ a .y ∷ a .slot ∷ []) (omega (arith, c .if2 .left)))
+
+returns-3 : tie.Need-returns-3
+returns-3 c = let a = c .before .args in (full-count (a .v .now) (a .n) (omega (arith, c .if1 .left)), full-words (a .v .now) (a .n) (a .tag ∷ a .name ∷ a .x ∷ a .y ∷ a .slot ∷ []) (omega (arith, c .if1 .left)))
 
 pub push-entry-spec : {M : Type 1} → statement M
 push-entry-spec =
@@ -101,4 +104,5 @@ push-entry-spec =
     add-result
     same-length
     returns
-    returns-2)
+    returns-2
+    returns-3)

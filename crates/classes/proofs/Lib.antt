@@ -1,0 +1,3 @@
+-- Entries written by links; the table after each row of the pass.
+mod Links
+mod Filling

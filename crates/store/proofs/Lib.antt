@@ -1,0 +1,3 @@
+mod ListLaws
+mod StoreLaws
+mod TableLaws

@@ -1,0 +1,210 @@
+// Declarations in the open scopes: found by name, made from a row, and pushed.
+ghost use mathlib.Core.Path.{_≡_};
+ghost use mathlib.Core.List.{List};
+ghost use Prim.Native.Nat.{ℕ, _≤_};
+ghost use lib.ListN.{length};
+ghost use Rattle.definition.specs.Basics.{if_then_else_};
+ghost use Rattle.definition.specs.Sheet.{word as wordAt};
+ghost use Rattle.definition.specs.Meaning.{Meaning, classNumber, isDeclared, isToplevel};
+ghost use Rattle.definition.specs.Slots.{isLocal, isMutable};
+ghost use Rattle.machine.specs.Machine.{oneMore, lookupMeaning, lookupSlot, lookupGlobal, newMeaning, pushName};
+ghost use Rattle.symbols.specs.OpenScopes.{scopesOf};
+ghost use Rattle.symbols.specs.OpenDecls.{means, entryFor};
+
+use ast::ClassId;
+use crate::env::Env;
+use crate::env::entry_word;
+use crate::env::find_name;
+use crate::env::push_entry;
+use tree::words::word;
+
+// A declaration as an open entry holds it. Tags: 2 none, 3 function, 4 class, 5 global known before the walk (its number; 1 if
+// mutable), 6 local or argument (its row; its function), 7 let of a unit (its row; its global number). The slot is that of a local.
+pub struct OpenDecl {
+    pub tag: u32,
+    pub first: u32,
+    pub second: u32,
+    pub slot: u32,
+}
+
+// What name `m` means: the innermost open declaration of it.
+pub fn lookup(e: Env, v: &[u32], m: u32) -> OpenDecl
+    ensures { λ x. ⌜ (means x ≡ lookupMeaning (scopesOf e (now (v .entry))) m)
+        × (x .slot ≡ lookupSlot (scopesOf e (now (v .entry))) m)
+        × (x .second ≡ lookupGlobal (scopesOf e (now (v .entry))) m) ⌝ }
+{
+    let k = find_name(v, m, e.count);
+    if k == 0 {
+        return OpenDecl {
+            tag: 2,
+            first: 0,
+            second: 0,
+            slot: 0,
+        };
+    }
+    let i = k - 1;
+    OpenDecl {
+        tag: entry_word(v, i, 0),
+        first: entry_word(v, i, 2),
+        second: entry_word(v, i, 3),
+        slot: entry_word(v, i, 4),
+    }
+}
+
+// Is something declared?
+pub fn is_declared(d: OpenDecl) -> bool
+    ensures { λ x. ⌜ x ≡ isDeclared (means d) ⌝ }
+{
+    let tag = d.tag;
+    match tag {
+        3 => true,
+        4 => true,
+        5 => true,
+        6 => true,
+        7 => true,
+        _ => false,
+    }
+}
+
+// The number of a class; 0 of anything else.
+pub fn class_number(d: OpenDecl) -> ClassId
+    ensures { λ x. ⌜ x .0 ≡ classNumber (means d) ⌝ }
+{
+    if d.tag == 4 { ClassId(d.first) } else { ClassId(0) }
+}
+
+// Is it a local, and no argument?
+pub fn is_local(s: &[u32], d: OpenDecl) -> bool
+    ensures { λ x. ⌜ x ≡ isLocal (now (s .entry)) (means d) ⌝ }
+{
+    if d.tag == 6 {
+        word(s, d.first, 0) == 29
+    } else {
+        false
+    }
+}
+
+// May it be assigned to?
+pub fn is_mutable(s: &[u32], d: OpenDecl) -> bool
+    ensures { λ x. ⌜ x ≡ isMutable (now (s .entry)) (means d) ⌝ }
+{
+    if d.tag == 5 {
+        return d.second == 1;
+    }
+    if d.tag == 7 {
+        return word(s, d.first, 7) == 1;
+    }
+    if is_local(s, d) {
+        return word(s, d.first, 7) == 1;
+    }
+    false
+}
+
+// What a let declares: its constant's global; in a unit function the function of a hoisted immutable literal, or else a new global; a
+// local in any other.
+fn declared_let(s: &[u32], r: u32, e: Env) -> OpenDecl
+    requires { ⌜ wordAt (now s) r 0 ≡ 29 ⌝ }
+    ensures { λ x. ⌜ ((v : List ℕ) → x ≡ entryFor (newMeaning (now (s .entry)) r (scopesOf e v)) (scopesOf e v)) ⌝ }
+{
+    let slot = e.slot;
+    let fun = e.fun;
+    let b = word(s, r, 7);
+    if 1 < b {
+        return OpenDecl {
+            tag: 5,
+            first: b - 2,
+            second: 0,
+            slot: slot,
+        };
+    }
+    if word(s, fun.0, 7) != 1 {
+        return OpenDecl {
+            tag: 6,
+            first: r,
+            second: fun.0,
+            slot: slot,
+        };
+    }
+    let value = word(s, r, 2);
+    if b == 0 {
+        if word(s, value, 0) == 52 {
+            return OpenDecl {
+                tag: 3,
+                first: word(s, value, 2),
+                second: 0,
+                slot: slot,
+            };
+        }
+    }
+    OpenDecl {
+        tag: 7,
+        first: r,
+        second: e.globals,
+        slot: slot,
+    }
+}
+
+// What a class, parameter or let row declares in the innermost function.
+pub fn declared_by(s: &[u32], r: u32, e: Env) -> OpenDecl
+    requires { ⌜ length (now s) ≤ 16384 ⌝ }
+    ensures { λ x. ⌜ ((v : List ℕ) → x ≡ entryFor (newMeaning (now (s .entry)) r (scopesOf e v)) (scopesOf e v)) ⌝ }
+{
+    let kind = word(s, r, 0);
+    if kind == 29 {
+        return declared_let(s, r, e);
+    }
+    let slot = e.slot;
+    let fun = e.fun;
+    if kind == 4 {
+        return OpenDecl {
+            tag: 4,
+            first: 256 + r,
+            second: 0,
+            slot: slot,
+        };
+    }
+    OpenDecl {
+        tag: 6,
+        first: r,
+        second: fun.0,
+        slot: slot,
+    }
+}
+
+// One more, unless that would not fit a word.
+pub fn one_more(n: u32) -> u32
+    ensures { λ x. ⌜ x ≡ oneMore n ⌝ }
+{
+    if n < 4294967295 { n + 1 } else { n }
+}
+
+// The next slot after `d` is declared: a local takes one.
+fn slot_after(s: &[u32], d: OpenDecl, n: u32) -> u32
+    ensures { λ x. ⌜ x ≡ (if isLocal (now (s .entry)) (means d) then oneMore n else n) ⌝ }
+{
+    if is_local(s, d) { one_more(n) } else { n }
+}
+
+// The next global number after `d` is declared: a let of a unit takes one.
+fn global_after(d: OpenDecl, n: u32) -> u32
+    ensures { λ x. ⌜ x ≡ (if isToplevel (means d) then oneMore n else n) ⌝ }
+{
+    if d.tag == 7 { one_more(n) } else { n }
+}
+
+// Declares name `m` as `d`.
+pub fn define(s: &[u32], m: u32, d: OpenDecl, e: Env, v: &mut [u32]) -> Env
+    ensures { λ x. ⌜ ((k : Meaning) → d ≡ entryFor k (scopesOf e (now (v .entry)))
+        → scopesOf x (now (v .exit)) ≡ pushName (now (s .entry)) m k (scopesOf e (now (v .entry)))) ⌝ }
+{
+    let fun = e.fun;
+    let slot = slot_after(s, d, e.slot);
+    let globals = global_after(d, e.globals);
+    let count = push_entry(v, e.count, d.tag, m, d.first, d.second, e.slot);
+    Env {
+        count: count,
+        slot: slot,
+        fun: fun,
+        globals: globals,
+    }
+}

@@ -1,0 +1,5 @@
+mod StepLaws
+mod CodeLaws
+mod VisitLaws
+mod CallLaws
+mod RunLaws
