@@ -1,2 +1,2 @@
 mod EnvLaws
-mod DeclLaws
+pub mod DeclLaws

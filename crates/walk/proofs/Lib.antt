@@ -2,4 +2,6 @@ mod StepLaws
 mod CodeLaws
 mod VisitLaws
 mod CallLaws
-mod RunLaws
+pub mod RunLaws
+mod DeclareLaws
+mod ImportLaws

@@ -1,21 +1,20 @@
 -- What a visit does, by the kind of its row: equations with a step of the machine.
 use mathlib.Core.Path.{_≡_, refl, sym, ap, _∙_}
 use mathlib.Core.Bool.{Bool, true, false, not, _&&_, _||_}
-use mathlib.Core.List.{List, [], _∷_, _++_, map}
-use Prim.Native.Nat.{ℕ, suc, _+_, _-_, _*_}
+use mathlib.Core.List.{List, [], _∷_, map}
+use Prim.Native.Nat.{ℕ, _+_, _*_}
 use native.Mathlib.Omega.{arith}
 use lib.Dec.{eqb}
-use borrow.Author.Tests.{eq-eqb, ne-eqb, eqb-true, eqb-false}
+use borrow.Author.Tests.{ne-eqb, eqb-true, eqb-false}
 use Rattle.definition.specs.Basics.{if_then_else_, _∈?_}
 use Rattle.definition.specs.Sheet.{Sheet, kind, is, a, b, child, kidsOf}
-use Rattle.definition.specs.Meaning.{Meaning, isDeclared, isVariable, rowOf, ownerOf, classNumber, isClass}
-use Rattle.definition.specs.Walk.{Event, visit}
+use Rattle.definition.specs.Meaning.{Meaning, isDeclared, isVariable, rowOf, ownerOf, classNumber}
+use Rattle.definition.specs.Walk.{visit}
 use Rattle.definition.specs.Slots.{isMutable}
-use Rattle.definition.specs.Question.{Refusal, none, ask, arguments}
-use Rattle.definition.specs.Classes.{hasRecord, methodNamed, ownMethods, arity, classOf}
-use Rattle.machine.specs.Machine.{State, Scopes, Store, loopIn, lookupMeaning, lookupSlot, lookupGlobal, openFunctions, currentFunction, fourWords, seenIn, addCapture, addNew, fieldNode, appendCall, markHidden, writeRow, constructedClass, receiverClass, stepScopes, stepStore, checkCallee, checkVisit, checkEvent, stepState, storeCall, storeField, storeCapture, storeLocal, storeHidden, storeRow}
+use Rattle.definition.specs.Classes.{classOf}
+use Rattle.machine.specs.Machine.{State, Scopes, Store, loopIn, lookupMeaning, lookupSlot, lookupGlobal, openFunctions, currentFunction, fourWords, seenIn, addCapture, addNew, fieldNode, writeRow, stepScopes, stepStore, checkVisit, checkEvent, stepState, storeCall, storeField, storeCapture, storeLocal, storeHidden, storeRow}
 use Rattle.machine.specs.Machine.{writeRowAt}
-use Rattle.machine.proofs.ByKind.{store-identifier, store-host, store-literal, store-instance, store-assign, store-class, store-construct, store-method}
+use Rattle.machine.proofs.ByKind.{store-identifier, store-host, store-literal, store-instance, store-assign, store-class}
 use Rattle.walk.specs.WalkState.{refusedBy}
 use Rattle.walk.proofs.StepLaws.{idle, stepped, refused}
 

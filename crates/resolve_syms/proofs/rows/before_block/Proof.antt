@@ -1,0 +1,27 @@
+use Rattle.definition.specs.Walk.{enter}
+use Rattle.walk.specs.WalkState.{stateOf}
+use Rattle.walk.proofs.RunLaws.{run-first}
+use Rattle.resolve_syms.proofs.RowLaws.{before-block}
+use borrow.Author.Needs.{needs}
+use Rattle.resolve_syms.proofs.rows.before_block.Statement.{statement}
+use Rattle.resolve_syms.proofs.rows.before_block.Tie as tie
+
+open-scope-requires : tie.Need-open-scope-requires
+open-scope-requires c κs = search needs
+
+hoist-literals-requires : tie.Need-hoist-literals-requires
+hoist-literals-requires c κs = search needs
+
+same-length : tie.Need-same-length
+same-length c = search needs
+
+same-length-2 : tie.Need-same-length-2
+same-length-2 c = search needs
+
+returns : tie.Need-returns
+returns c = λ q. rw (before-block (c .before .before .before .before .before .before .before .before .before .before .before .before .before .before .args .s .now) (c .before .before .before .before .before .before .before .before .before .before .before .before .before .before .args .r) (c .before .before .before .before .before .before .before .before .before .before .before .before .before .before .pre .1)) (run-first (c .before .before .before .before .before .before .before .before .before .before .before .before .before .before .args .s .now) (enter (c .before .before .before .before .before .before .before .before .before .before .before .before .before .before .args .r)) _ (stateOf (c .before .before .before .before .before .before .before .before .before .before .before .before .before .before .args .w) (c .before .before .before .before .before .before .before .before .before .before .before .before .before .before .args .v .now) (c .before .before .before .before .before .before .before .before .before .before .before .before .before .before .args .t .now) q) (c .before .before .before .before .before .before .before .before .before .open-scope .ensures _ q) (c .before .before .before .before .hoist-literals .ensures q))
+
+pub before-block-spec : {M : Type 1} → statement M
+before-block-spec =
+    tie.close
+    (tie.spec open-scope-requires hoist-literals-requires same-length same-length-2 returns)

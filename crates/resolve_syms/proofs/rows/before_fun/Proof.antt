@@ -1,0 +1,27 @@
+use Rattle.definition.specs.Walk.{enter}
+use Rattle.walk.specs.WalkState.{stateOf}
+use Rattle.walk.proofs.RunLaws.{run-first}
+use Rattle.resolve_syms.proofs.RowLaws.{before-fun}
+use borrow.Author.Needs.{needs}
+use Rattle.resolve_syms.proofs.rows.before_fun.Statement.{statement}
+use Rattle.resolve_syms.proofs.rows.before_fun.Tie as tie
+
+open-scope-requires : tie.Need-open-scope-requires
+open-scope-requires c κs = search needs
+
+declare-kind-requires : tie.Need-declare-kind-requires
+declare-kind-requires c κs = search needs
+
+same-length : tie.Need-same-length
+same-length c = search needs
+
+same-length-2 : tie.Need-same-length-2
+same-length-2 c = search needs
+
+returns : tie.Need-returns
+returns c = λ q. rw (before-fun (c .before .before .before .before .before .before .before .before .before .before .before .before .before .before .args .s .now) (c .before .before .before .before .before .before .before .before .before .before .before .before .before .before .args .r) (c .before .before .before .before .before .before .before .before .before .before .before .before .before .before .pre .1)) (run-first (c .before .before .before .before .before .before .before .before .before .before .before .before .before .before .args .s .now) (enter (c .before .before .before .before .before .before .before .before .before .before .before .before .before .before .args .r)) _ (stateOf (c .before .before .before .before .before .before .before .before .before .before .before .before .before .before .args .w) (c .before .before .before .before .before .before .before .before .before .before .before .before .before .before .args .v .now) (c .before .before .before .before .before .before .before .before .before .before .before .before .before .before .args .t .now) q) (c .before .before .before .before .before .before .before .before .before .open-scope .ensures _ q) (c .before .before .before .before .declare-kind .ensures q))
+
+pub before-fun-spec : {M : Type 1} → statement M
+before-fun-spec =
+    tie.close
+    (tie.spec open-scope-requires declare-kind-requires same-length same-length-2 returns)

@@ -1,0 +1,30 @@
+use Rattle.walk.proofs.ImportLaws.{all-brought}
+use Rattle.walk.specs.WalkState.{stateOf}
+use borrow.Author.Needs.{needs}
+use Rattle.walk.proofs.imports.import_all.Statement.{statement}
+use Rattle.walk.proofs.imports.import_all.Tie as tie
+
+import-kind-requires : tie.Need-import-kind-requires
+import-kind-requires c κs = search needs
+
+import-kind-requires-2 : tie.Need-import-kind-requires-2
+import-kind-requires-2 c κs = search needs
+
+import-kind-requires-3 : tie.Need-import-kind-requires-3
+import-kind-requires-3 c κs = search needs
+
+same-length : tie.Need-same-length
+same-length c = search needs
+
+returns : tie.Need-returns
+returns c = λ t q. all-brought (c .before .before .before .before .before .before .before .before .before .before .before .before .before .before .args .s .now) (c .before .before .before .before .before .before .before .before .before .before .before .before .before .before .args .i) (c .before .before .before .before .before .before .before .before .before .before .before .before .before .before .args .u) (stateOf (c .before .before .before .before .before .before .before .before .before .before .before .before .before .before .args .w) (c .before .before .before .before .before .before .before .before .before .before .before .before .before .before .args .v .now) t q) (c .before .before .before .before .before .before .before .before .before .before .import-kind .ensures t q) (c .before .before .before .before .before .before .import-kind2 .ensures t q) (c .before .before .import-kind3 .ensures t q)
+
+pub import-all-spec : {M : Type 1} → statement M
+import-all-spec =
+    tie.close
+    (tie.spec
+    import-kind-requires
+    import-kind-requires-2
+    import-kind-requires-3
+    same-length
+    returns)

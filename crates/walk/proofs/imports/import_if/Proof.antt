@@ -1,0 +1,24 @@
+use Rattle.walk.proofs.ImportLaws.{import-no, import-yes}
+use Rattle.walk.specs.WalkState.{stateOf}
+use borrow.Author.Needs.{needs}
+use Rattle.walk.proofs.imports.import_if.Statement.{statement}
+use Rattle.walk.proofs.imports.import_if.Tie as tie
+
+word-requires : tie.Need-word-requires
+word-requires c κs = search needs
+
+returns : tie.Need-returns
+returns c = λ t q. import-no (c .before .before .before .before .args .s .now) (c .before .before .before .before .args .k) (stateOf (c .before .before .before .before .args .w) (c .before .before .before .before .args .v .now) t q) (c .before .word .ensures) (c .before .before .before .before .args .u) (c .if1 .taken)
+
+import-one-requires : tie.Need-import-one-requires
+import-one-requires c κs = search needs
+
+same-length : tie.Need-same-length
+same-length c = search needs
+
+returns-2 : tie.Need-returns-2
+returns-2 c = λ t q. import-yes (c .before .before .before .before .before .before .before .before .args .s .now) (c .before .before .before .before .before .before .before .before .args .k) (stateOf (c .before .before .before .before .before .before .before .before .args .w) (c .before .before .before .before .before .before .before .before .args .v .now) t q) (c .before .before .before .before .before .word .ensures) (c .before .before .before .before .before .before .before .before .args .u) (c .before .before .before .before .if1 .left) (c .before .before .import-one .ensures t q)
+
+pub import-if-spec : {M : Type 1} → statement M
+import-if-spec =
+    tie.close (tie.spec word-requires returns import-one-requires same-length returns-2)

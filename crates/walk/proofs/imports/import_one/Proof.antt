@@ -1,0 +1,21 @@
+use Rattle.walk.proofs.ImportLaws.{seen-listed}
+use Rattle.walk.specs.WalkState.{stateOf}
+use borrow.Author.Needs.{needs}
+use Rattle.walk.proofs.imports.import_one.Statement.{statement}
+use Rattle.walk.proofs.imports.import_one.Tie as tie
+
+import-seen-requires : tie.Need-import-seen-requires
+import-seen-requires c κs = search needs
+
+import-listed-requires : tie.Need-import-listed-requires
+import-listed-requires c κs = search needs
+
+same-length : tie.Need-same-length
+same-length c = search needs
+
+returns : tie.Need-returns
+returns c = λ t q. seen-listed (c .before .before .before .before .before .before .before .before .before .before .args .s .now) (c .before .before .before .before .before .before .before .before .before .before .args .u) (c .before .before .before .before .before .before .before .before .before .before .args .i) (stateOf (c .before .before .before .before .before .before .before .before .before .before .args .w) (c .before .before .before .before .before .before .before .before .before .before .args .v .now) t q) (c .before .before .before .before .before .before .import-seen .ensures t q) (c .before .before .import-listed .ensures t q)
+
+pub import-one-spec : {M : Type 1} → statement M
+import-one-spec =
+    tie.close (tie.spec import-seen-requires import-listed-requires same-length returns)
