@@ -78,12 +78,13 @@ some-rows s ok = some-row s (ok .whole)
 pub core-none : (m : ℕ) → (m ≡ 1 → ⊥) → (m ≡ 2 → ⊥) → (m ≡ 3 → ⊥) → (m ≡ 4 → ⊥) → (m ≡ 5 → ⊥) → (m ≡ 6 → ⊥) → (m ≡ 7 → ⊥) → (m ≡ 8 → ⊥) → (m ≡ 9 → ⊥) → 0 ≡ coreClass m
 core-none m f₁ f₂ f₃ f₄ f₅ f₆ f₇ f₈ f₉ =
     rw (
-    ne-eqb 1 m (λ e. f₁ (sym e)),
-    ne-eqb 2 m (λ e. f₂ (sym e)),
-    ne-eqb 3 m (λ e. f₃ (sym e)),
-    ne-eqb 4 m (λ e. f₄ (sym e)),
-    ne-eqb 5 m (λ e. f₅ (sym e)),
-    ne-eqb 6 m (λ e. f₆ (sym e)),
-    ne-eqb 7 m (λ e. f₇ (sym e)),
-    ne-eqb 8 m (λ e. f₈ (sym e)),
-    ne-eqb 9 m (λ e. f₉ (sym e)))
+      ne-eqb 1 m (λ e. f₁ (sym e)),
+      ne-eqb 2 m (λ e. f₂ (sym e)),
+      ne-eqb 3 m (λ e. f₃ (sym e)),
+      ne-eqb 4 m (λ e. f₄ (sym e)),
+      ne-eqb 5 m (λ e. f₅ (sym e)),
+      ne-eqb 6 m (λ e. f₆ (sym e)),
+      ne-eqb 7 m (λ e. f₇ (sym e)),
+      ne-eqb 8 m (λ e. f₈ (sym e)),
+      ne-eqb 9 m (λ e. f₉ (sym e)),
+    )

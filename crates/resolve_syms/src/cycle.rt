@@ -10,7 +10,6 @@ ghost use Rattle.definition.specs.Walk.{isPart};
 ghost use Rattle.walk.specs.WalkState.{stateOf};
 ghost use Rattle.resolve_syms.specs.Prepared.{Prepared};
 ghost use Rattle.resolve_syms.specs.Walked.{walked, partsWalked, partWalked};
-
 use crate::rows::after_expr;
 use crate::rows::after_part;
 use crate::rows::after_stmt;
@@ -32,7 +31,16 @@ fn place_after(s: &[u32], k: u32, i: usize) -> usize
 }
 
 // A unit: its imports and classes in a scope of their own, and its function.
-fn resolve_unit(s: &[u32], classes: &[u32], row: u32, left: usize, w: Walk, v: &mut [u32], t: &mut [u32], q: &mut [u32]) -> Walk
+fn resolve_unit(
+    s: &[u32],
+    classes: &[u32],
+    row: u32,
+    left: usize,
+    w: Walk,
+    v: &mut [u32],
+    t: &mut [u32],
+    q: &mut [u32],
+) -> Walk
     requires { ⌜ (Prepared (now s) (now classes)) × (kind (now s) row ≡ 2) ⌝ }
     ensures { λ x. ⌜ stateOf x (now (v .exit)) (now (t .exit)) (now (q .exit)) ≡ walked left (now (s .entry)) row (stateOf w (now (v .entry)) (now (t .entry)) (now (q .entry))) ⌝ }
 {
@@ -45,7 +53,16 @@ fn resolve_unit(s: &[u32], classes: &[u32], row: u32, left: usize, w: Walk, v: &
 }
 
 // A function: its parameters and its body.
-fn resolve_fun(s: &[u32], classes: &[u32], row: u32, left: usize, w: Walk, v: &mut [u32], t: &mut [u32], q: &mut [u32]) -> Walk
+fn resolve_fun(
+    s: &[u32],
+    classes: &[u32],
+    row: u32,
+    left: usize,
+    w: Walk,
+    v: &mut [u32],
+    t: &mut [u32],
+    q: &mut [u32],
+) -> Walk
     requires { ⌜ (Prepared (now s) (now classes)) × (kind (now s) row ≡ 6) ⌝ }
     ensures { λ x. ⌜ stateOf x (now (v .exit)) (now (t .exit)) (now (q .exit)) ≡ walked left (now (s .entry)) row (stateOf w (now (v .entry)) (now (t .entry)) (now (q .entry))) ⌝ }
 {
@@ -58,7 +75,16 @@ fn resolve_fun(s: &[u32], classes: &[u32], row: u32, left: usize, w: Walk, v: &m
 }
 
 // A statement: its parts left to right, then the check on it.
-fn resolve_stmt(s: &[u32], classes: &[u32], row: u32, left: usize, w: Walk, v: &mut [u32], t: &mut [u32], q: &mut [u32]) -> Walk
+fn resolve_stmt(
+    s: &[u32],
+    classes: &[u32],
+    row: u32,
+    left: usize,
+    w: Walk,
+    v: &mut [u32],
+    t: &mut [u32],
+    q: &mut [u32],
+) -> Walk
     requires { ⌜ (Prepared (now s) (now classes)) × (7 < kind (now s) row) × (kind (now s) row < 40) ⌝ }
     ensures { λ x. ⌜ stateOf x (now (v .exit)) (now (t .exit)) (now (q .exit)) ≡ walked left (now (s .entry)) row (stateOf w (now (v .entry)) (now (t .entry)) (now (q .entry))) ⌝ }
 {
@@ -71,7 +97,16 @@ fn resolve_stmt(s: &[u32], classes: &[u32], row: u32, left: usize, w: Walk, v: &
 }
 
 // An expression: its parts left to right, then what it means.
-fn resolve_expr(s: &[u32], classes: &[u32], row: u32, left: usize, w: Walk, v: &mut [u32], t: &mut [u32], q: &mut [u32]) -> Walk
+fn resolve_expr(
+    s: &[u32],
+    classes: &[u32],
+    row: u32,
+    left: usize,
+    w: Walk,
+    v: &mut [u32],
+    t: &mut [u32],
+    q: &mut [u32],
+) -> Walk
     requires { ⌜ (Prepared (now s) (now classes)) × (39 < kind (now s) row) ⌝ }
     ensures { λ x. ⌜ stateOf x (now (v .exit)) (now (t .exit)) (now (q .exit)) ≡ walked left (now (s .entry)) row (stateOf w (now (v .entry)) (now (t .entry)) (now (q .entry))) ⌝ }
 {
@@ -83,7 +118,16 @@ fn resolve_expr(s: &[u32], classes: &[u32], row: u32, left: usize, w: Walk, v: &
 }
 
 // A row that is walked as a part, by its kind.
-fn resolve_any(s: &[u32], classes: &[u32], row: u32, left: usize, w: Walk, v: &mut [u32], t: &mut [u32], q: &mut [u32]) -> Walk
+fn resolve_any(
+    s: &[u32],
+    classes: &[u32],
+    row: u32,
+    left: usize,
+    w: Walk,
+    v: &mut [u32],
+    t: &mut [u32],
+    q: &mut [u32],
+) -> Walk
     requires { ⌜ (Prepared (now s) (now classes)) × (isPart (now s) row ≡ true) ⌝ }
     ensures { λ x. ⌜ stateOf x (now (v .exit)) (now (t .exit)) (now (q .exit)) ≡ walked left (now (s .entry)) row (stateOf w (now (v .entry)) (now (t .entry)) (now (q .entry))) ⌝ }
 {
@@ -101,7 +145,18 @@ fn resolve_any(s: &[u32], classes: &[u32], row: u32, left: usize, w: Walk, v: &m
 }
 
 // Row `k` of a part list of row `row`, as its part `i` if it is one.
-fn resolve_part(s: &[u32], classes: &[u32], row: u32, i: usize, k: u32, left: usize, w: Walk, v: &mut [u32], t: &mut [u32], q: &mut [u32]) -> Walk
+fn resolve_part(
+    s: &[u32],
+    classes: &[u32],
+    row: u32,
+    i: usize,
+    k: u32,
+    left: usize,
+    w: Walk,
+    v: &mut [u32],
+    t: &mut [u32],
+    q: &mut [u32],
+) -> Walk
     requires { ⌜ Prepared (now s) (now classes) ⌝ }
     ensures { λ x. ⌜ stateOf x (now (v .exit)) (now (t .exit)) (now (q .exit)) ≡ partWalked left (now (s .entry)) row i k (stateOf w (now (v .entry)) (now (t .entry)) (now (q .entry))) ⌝ }
 {
@@ -113,7 +168,16 @@ fn resolve_part(s: &[u32], classes: &[u32], row: u32, i: usize, k: u32, left: us
 }
 
 // The parts of row `row`, left to right. A refused walk returns at once.
-pub fn resolve_parts(s: &[u32], classes: &[u32], row: u32, left: usize, w: Walk, v: &mut [u32], t: &mut [u32], q: &mut [u32]) -> Walk
+pub fn resolve_parts(
+    s: &[u32],
+    classes: &[u32],
+    row: u32,
+    left: usize,
+    w: Walk,
+    v: &mut [u32],
+    t: &mut [u32],
+    q: &mut [u32],
+) -> Walk
     requires { ⌜ Prepared (now s) (now classes) ⌝ }
     ensures { λ x. ⌜ stateOf x (now (v .exit)) (now (t .exit)) (now (q .exit)) ≡ partsWalked left (now (s .entry)) row (stateOf w (now (v .entry)) (now (t .entry)) (now (q .entry))) ⌝ }
 {

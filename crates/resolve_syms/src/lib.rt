@@ -10,6 +10,7 @@ ghost use Rattle.resolve_syms.specs.Prepared.{Lent, coreClass};
 mod cycle;
 mod rows;
 
+use crate::cycle::resolve_parts;
 use ast::ARRAY_ID;
 use ast::AUDIO_DATA_ID;
 use ast::AUDIO_NEEDED_ID;
@@ -22,7 +23,6 @@ use ast::INT64_ID;
 use ast::STRING_ID;
 use ast::UIEVENT_ID;
 use classes::class_table;
-use crate::cycle::resolve_parts;
 use store::nodes::Store;
 use symbols::decl::OpenDecl;
 use symbols::decl::define;
@@ -76,16 +76,19 @@ fn open_core(s: &[u32], v: &mut [u32]) -> Env
 
 // The units of a sheet resolved, over a table of classes, open entries, a table of results and nodes: refused with the first no of
 // questions 5 to 17, or the buffers hold what the definition's answer rows say.
-pub fn resolve_units(s: &[u32], classes: &mut [u32], v: &mut [u32], t: &mut [u32], q: &mut [u32]) -> Walk
+pub fn resolve_units(
+    s: &[u32],
+    classes: &mut [u32],
+    v: &mut [u32],
+    t: &mut [u32],
+    q: &mut [u32],
+) -> Walk
     requires { ⌜ (PastFour (now s)) × (Lent (now s) (now classes) (now v) (now t) (now q)) ⌝ }
     ensures { λ x. ⌜ Walked (now (s .entry)) (stateOf x (now (v .exit)) (now (t .exit)) (now (q .exit))) ⌝ }
 {
     class_table(s, classes);
     let env = open_core(s, v);
-    let store = Store {
-        used: 0,
-        calls: 0,
-    };
+    let store = Store { used: 0, calls: 0 };
     let w = Walk {
         env: env,
         store: store,

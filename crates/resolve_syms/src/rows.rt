@@ -11,14 +11,13 @@ ghost use Rattle.machine.specs.Machine.{runState};
 ghost use Rattle.classes.specs.Table.{ClassTable};
 ghost use Rattle.walk.specs.WalkState.{stateOf};
 ghost use Rattle.resolve_syms.specs.Prepared.{Prepared};
-
-use walk::declare::declare;
-use walk::declare::declare_kind;
-use walk::imports::define_imports;
-use walk::declare::hoist_literals;
 use tree::words::word;
 use walk::assign::check_assign;
 use walk::calls::check_callee;
+use walk::declare::declare;
+use walk::declare::declare_kind;
+use walk::declare::hoist_literals;
+use walk::imports::define_imports;
 use walk::scopes::begin_loop;
 use walk::scopes::close_scope;
 use walk::scopes::open_scope;
@@ -84,7 +83,15 @@ fn after_let(s: &[u32], r: u32, w: Walk, v: &mut [u32], t: &mut [u32]) -> Walk
 }
 
 // A block or `for` closes its scope; a let declares its name; an assignment, break or continue is asked about.
-pub fn after_stmt(s: &[u32], classes: &[u32], r: u32, w: Walk, v: &mut [u32], t: &mut [u32], q: &mut [u32]) -> Walk
+pub fn after_stmt(
+    s: &[u32],
+    classes: &[u32],
+    r: u32,
+    w: Walk,
+    v: &mut [u32],
+    t: &mut [u32],
+    q: &mut [u32],
+) -> Walk
     requires { ⌜ (Prepared (now s) (now classes)) × (7 < kind (now s) r) × (kind (now s) r < 40) ⌝ }
     ensures { λ x. ⌜ stateOf x (now (v .exit)) (now (t .exit)) (now (q .exit)) ≡ runState (now (s .entry)) (after (now (s .entry)) r) (stateOf w (now (v .entry)) (now (t .entry)) (now (q .entry))) ⌝ }
 {
@@ -116,7 +123,15 @@ pub fn after_expr(s: &[u32], r: u32, w: Walk, v: &[u32], t: &mut [u32], q: &mut 
 }
 
 // After part `i` of row `r`: the checks on a call's callee; a `for` comes to its loop after init and test.
-pub fn after_part(s: &[u32], r: u32, i: usize, w: Walk, v: &mut [u32], t: &mut [u32], q: &mut [u32]) -> Walk
+pub fn after_part(
+    s: &[u32],
+    r: u32,
+    i: usize,
+    w: Walk,
+    v: &mut [u32],
+    t: &mut [u32],
+    q: &mut [u32],
+) -> Walk
     ensures { λ x. ⌜ stateOf x (now (v .exit)) (now (t .exit)) (now (q .exit)) ≡ runState (now (s .entry)) (afterPart (now (s .entry)) r i) (stateOf w (now (v .entry)) (now (t .entry)) (now (q .entry))) ⌝ }
 {
     let kind = word(s, r, 0);
@@ -127,7 +142,15 @@ pub fn after_part(s: &[u32], r: u32, i: usize, w: Walk, v: &mut [u32], t: &mut [
     }
 }
 
-fn after_callee(s: &[u32], r: u32, i: usize, w: Walk, v: &[u32], t: &mut [u32], q: &mut [u32]) -> Walk
+fn after_callee(
+    s: &[u32],
+    r: u32,
+    i: usize,
+    w: Walk,
+    v: &[u32],
+    t: &mut [u32],
+    q: &mut [u32],
+) -> Walk
     requires { ⌜ kind (now s) r ≡ 59 ⌝ }
     ensures { λ x. ⌜ stateOf x (now (v .entry)) (now (t .exit)) (now (q .exit)) ≡ runState (now (s .entry)) (afterPart (now (s .entry)) r i) (stateOf w (now (v .entry)) (now (t .entry)) (now (q .entry))) ⌝ }
 {

@@ -10,12 +10,11 @@ ghost use Rattle.definition.specs.Slots.{isLocal, isMutable};
 ghost use Rattle.machine.specs.Machine.{oneMore, lookupMeaning, lookupSlot, lookupGlobal, newMeaning, pushName};
 ghost use Rattle.symbols.specs.OpenScopes.{scopesOf};
 ghost use Rattle.symbols.specs.OpenDecls.{means, entryFor};
-
-use ast::ClassId;
 use crate::env::Env;
 use crate::env::entry_word;
 use crate::env::find_name;
 use crate::env::push_entry;
+use ast::ClassId;
 use tree::words::word;
 
 // A declaration as an open entry holds it. Tags: 2 none, 3 function, 4 class, 5 global known before the walk (its number; 1 if
@@ -70,7 +69,11 @@ pub fn is_declared(d: OpenDecl) -> bool
 pub fn class_number(d: OpenDecl) -> ClassId
     ensures { λ x. ⌜ x .0 ≡ classNumber (means d) ⌝ }
 {
-    if d.tag == 4 { ClassId(d.first) } else { ClassId(0) }
+    if d.tag == 4 {
+        ClassId(d.first)
+    } else {
+        ClassId(0)
+    }
 }
 
 // Is it a local, and no argument?

@@ -6,7 +6,6 @@ ghost use Rattle.definition.specs.Basics.{if_then_else_};
 ghost use Rattle.definition.specs.Sheet.{Sheet, is};
 ghost use Rattle.machine.specs.Machine.{entryWord, findName, takenIn, loopIn, lastMark, countPushed, wordsPushed, stepScopes};
 ghost use Rattle.symbols.specs.OpenScopes.{scopesOf};
-
 use ast::FunId;
 use tree::words::word;
 

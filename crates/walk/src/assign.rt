@@ -7,10 +7,9 @@ ghost use Rattle.definition.specs.Walk.{visit};
 ghost use Rattle.machine.specs.Machine.{stepState};
 ghost use Rattle.classes.specs.Table.{ClassTable};
 ghost use Rattle.walk.specs.WalkState.{stateOf};
-
-use classes::entry_at;
 use crate::state::Walk;
 use crate::state::refuse;
+use classes::entry_at;
 use store::nodes::reg_field;
 use symbols::decl::is_mutable;
 use symbols::decl::lookup;
@@ -62,7 +61,15 @@ fn assign_member(s: &[u32], classes: &[u32], r: u32, w: Walk, t: &mut [u32], q: 
 }
 
 // An assignment, after its sides are resolved.
-pub fn check_assign(s: &[u32], classes: &[u32], r: u32, w: Walk, v: &[u32], t: &mut [u32], q: &mut [u32]) -> Walk
+pub fn check_assign(
+    s: &[u32],
+    classes: &[u32],
+    r: u32,
+    w: Walk,
+    v: &[u32],
+    t: &mut [u32],
+    q: &mut [u32],
+) -> Walk
     requires { ⌜ (ClassTable (now s) (now classes)) × (kind (now s) r ≡ 21) ⌝ }
     ensures { λ x. ⌜ stateOf x (now (v .entry)) (now (t .exit)) (now (q .exit)) ≡ stepState (now (s .entry)) (visit r) (stateOf w (now (v .entry)) (now (t .entry)) (now (q .entry))) ⌝ }
 {

@@ -9,16 +9,15 @@ ghost use Rattle.machine.specs.Machine.{constructedClass, receiverClass, stepSt
 ghost use Rattle.symbols.specs.OpenScopes.{scopesOf};
 ghost use Rattle.walk.specs.Callee.{methodQuestion};
 ghost use Rattle.walk.specs.WalkState.{stateOf};
-
-use ast::ClassId;
-use ast::FunId;
 use crate::state::Walk;
 use crate::state::refuse;
+use ast::ClassId;
+use ast::FunId;
+use store::nodes::Node;
 use store::nodes::append_call;
+use store::table::RowWords;
 use store::table::mark_hidden;
 use store::table::write_row;
-use store::nodes::Node;
-use store::table::RowWords;
 use symbols::decl::class_number;
 use symbols::decl::lookup;
 use symbols::env::Env;

@@ -6,7 +6,6 @@ ghost use Rattle.definition.specs.Sheet.{Sheet};
 ghost use Rattle.definition.specs.Walk.{enter, leave, loop};
 ghost use Rattle.machine.specs.Machine.{stepState};
 ghost use Rattle.walk.specs.WalkState.{stateOf};
-
 use crate::state::Walk;
 use symbols::env::pop_scope;
 use symbols::env::push_loop;

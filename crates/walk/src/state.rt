@@ -3,7 +3,6 @@ ghost use mathlib.Core.Path.{_≡_};
 ghost use mathlib.Core.List.{List};
 ghost use Prim.Native.Nat.{ℕ};
 ghost use Rattle.walk.specs.WalkState.{stateOf, refusedBy};
-
 use store::nodes::Store;
 use symbols::env::Env;
 

@@ -15,17 +15,16 @@ ghost use Rattle.symbols.specs.OpenScopes.{scopesOf};
 ghost use Rattle.symbols.specs.OpenDecls.{means};
 ghost use Rattle.store.specs.Stored.{storeOf};
 ghost use Rattle.walk.specs.WalkState.{stateOf};
-
-use ast::ClassId;
-use ast::FunId;
 use crate::code::seen_in;
 use crate::state::Walk;
 use crate::state::refuse;
-use store::nodes::reg_captured;
-use store::table::write_row;
+use ast::ClassId;
+use ast::FunId;
 use store::nodes::Node;
 use store::nodes::Store;
+use store::nodes::reg_captured;
 use store::table::RowWords;
+use store::table::write_row;
 use symbols::decl::OpenDecl;
 use symbols::decl::class_number;
 use symbols::decl::is_declared;
@@ -57,7 +56,15 @@ fn undeclared(m: u32) -> u32
 }
 
 // A local or argument that is used is captured by every function around, out to its own.
-fn capture(s: &[u32], v: &[u32], e: Env, d: OpenDecl, o: Store, t: &mut [u32], q: &mut [u32]) -> Store
+fn capture(
+    s: &[u32],
+    v: &[u32],
+    e: Env,
+    d: OpenDecl,
+    o: Store,
+    t: &mut [u32],
+    q: &mut [u32],
+) -> Store
     ensures { λ x. ⌜ storeOf x (now (t .exit)) (now (q .exit))
         ≡ (if isVariable (means d)
         then addCapture (openFunctions (now (s .entry)) (scopesOf e (now (v .entry)))) (record { key = rowOf (means d); one = ownerOf (means d); two = d .slot }) (storeOf o (now (t .entry)) (now (q .entry)))

@@ -368,9 +368,13 @@ resolve-parts-loop-less : (t : ℕ) → resolve-parts-lts.Need-loop-less (resolv
 resolve-parts-loop-less t c = omega (arith, c .before .before .before .before .before .before .before .before .before .before .before .before .before .before .before .loop-test .taken)
 
 resolve-parts-loop-again : (t : ℕ) → resolve-parts-lts.Need-loop-again (resolve-parts-claims t) (resolve-parts-at t) resolve-parts.Post resolve-parts-Inv-loop resolve-parts-μ-loop
-resolve-parts-loop-again t c = (list-more _ (c .before .before .before .before .before .before .before .before .before .before .before .before .before .before .before .before .before .before .before .before .before .before .before .args .s .now) (c .before .before .before .before .before .before .before .before .before .before .before .before .before .before .before .before .before .before .before .before .before .before .before .args .row) _ _ _ _ _ (stateOf (c .before .before .before .before .before .before .before .before .before .before .before .before .before .before .before .before .loop .a) (c .before .before .before .before .before .before .before .before .before .before .before .before .before .before .before .before .loop .v) (c .before .before .before .before .before .before .before .before .before .before .before .before .before .before .before .before .loop .t) (c .before .before .before .before .before .before .before .before .before .before .before .before .before .before .before .before .loop .q)) (c .before .before .before .before .before .before .before .before .before .before .before .before .before .before .before .loop-test .taken) (c .before .before .before .before .before .before .before .before .before .before .before .before .before .before .if1 .left) (c .before .before .before .before .before .before .before .before .resolve-part .ensures) (c .before .place-after .ensures) (c .word .ensures) ∙ c .before .before .before .before .before .before .before .before .before .before .before .before .before .before .before .before .loop .inv .0,
-    place-bound (isPart (c .before .before .before .before .before .before .before .before .before .before .before .before .before .before .before .before .before .before .before .before .before .before .before .args .s .now) (c .before .before .before .before .before .before .before .before .before .before .before .before .before .before .before .before .loop .k)) (c .before .before .before .before .before .before .before .before .before .before .before .before .before .before .before .before .loop .i) _ (c .before .before .before .before .before .before .before .before .before .before .before .before .before .before .before .before .loop .n) _ (c .before .place-after .ensures) (c .before .before .before .before .before .before .before .before .before .before .before .before .before .before .before .loop-test .taken) (c .before .before .before .before .before .before .before .before .before .before .before .before .before .before .before .before .loop .inv .1),
-    search needs, search needs, search needs)
+resolve-parts-loop-again t c = (
+  list-more _ (c .before .before .before .before .before .before .before .before .before .before .before .before .before .before .before .before .before .before .before .before .before .before .before .args .s .now) (c .before .before .before .before .before .before .before .before .before .before .before .before .before .before .before .before .before .before .before .before .before .before .before .args .row) _ _ _ _ _ (stateOf (c .before .before .before .before .before .before .before .before .before .before .before .before .before .before .before .before .loop .a) (c .before .before .before .before .before .before .before .before .before .before .before .before .before .before .before .before .loop .v) (c .before .before .before .before .before .before .before .before .before .before .before .before .before .before .before .before .loop .t) (c .before .before .before .before .before .before .before .before .before .before .before .before .before .before .before .before .loop .q)) (c .before .before .before .before .before .before .before .before .before .before .before .before .before .before .before .loop-test .taken) (c .before .before .before .before .before .before .before .before .before .before .before .before .before .before .if1 .left) (c .before .before .before .before .before .before .before .before .resolve-part .ensures) (c .before .place-after .ensures) (c .word .ensures) ∙ c .before .before .before .before .before .before .before .before .before .before .before .before .before .before .before .before .loop .inv .0,
+  place-bound (isPart (c .before .before .before .before .before .before .before .before .before .before .before .before .before .before .before .before .before .before .before .before .before .before .before .args .s .now) (c .before .before .before .before .before .before .before .before .before .before .before .before .before .before .before .before .loop .k)) (c .before .before .before .before .before .before .before .before .before .before .before .before .before .before .before .before .loop .i) _ (c .before .before .before .before .before .before .before .before .before .before .before .before .before .before .before .before .loop .n) _ (c .before .place-after .ensures) (c .before .before .before .before .before .before .before .before .before .before .before .before .before .before .before .loop-test .taken) (c .before .before .before .before .before .before .before .before .before .before .before .before .before .before .before .before .loop .inv .1),
+  search needs,
+  search needs,
+  search needs,
+)
 
 resolve-parts-same-length-7 : (t : ℕ) → resolve-parts-lts.Need-same-length-7 (resolve-parts-claims t) (resolve-parts-at t) resolve-parts.Post resolve-parts-Inv-loop resolve-parts-μ-loop
 resolve-parts-same-length-7 t c = c .before .loop .inv .2
