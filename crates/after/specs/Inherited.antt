@@ -40,6 +40,13 @@ methodsIn s o (suc n) c =
     let up : List Method = methodsIn s o n (parentIn s o c) in
     if eqb (parentIn s o c) 0 then ownMethods s c else mergeMethods up (ownMethods s c)
 
+-- the names of these methods, in their order
+unfoldable pub methodNamesIn : Sheet → Store → ℕ → ℕ → List ℕ
+methodNamesIn s o zero c = []
+methodNamesIn s o (suc n) c =
+    let up : List ℕ = methodNamesIn s o n (parentIn s o c) in
+    if eqb (parentIn s o c) 0 then map (λ m. m .name) (ownMethods s c) else mergeFields up (map (λ m. m .name) (ownMethods s c))
+
 -- the own fields of class c, by slot: the listed, then the stored; of a class from outside those of its record
 unfoldable pub ownFieldsIn : Sheet → Store → ℕ → List ℕ
 ownFieldsIn s o c = if isClassRow s c then listedFields s (c - 256) ++ map (λ y. y .key) (listAt o (8 * (c - 256) + 7)) else recordOf c .fields

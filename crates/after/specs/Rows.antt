@@ -7,10 +7,11 @@ use lib.Dec.{eqb}
 use Rattle.definition.specs.Basics.{if_then_else_, bit, concatMap, from}
 use Rattle.definition.specs.Sheet.{Sheet, child, rows, is}
 use Rattle.definition.specs.Outside.{Method}
+use Rattle.definition.specs.Classes.{methodNamed}
 use Rattle.definition.specs.Answer.{eight, numbered}
 use Rattle.machine.specs.Machine.{Store, Node, cell, listAt, seenIn, codeOf}
 use Rattle.machine.specs.Reads.{rowWords, answerRow, meaningOfNode, escapingSlots}
-use Rattle.after.specs.Inherited.{parentIn, fieldsIn, methodsIn, hasChildrenIn}
+use Rattle.after.specs.Inherited.{parentIn, fieldsIn, methodsIn, methodNamesIn, hasChildrenIn}
 
 -- a literal: a row for each source
 unfoldable pub literalRowsIn : Sheet → Store → ℕ → List (List ℕ)
@@ -29,6 +30,14 @@ classRowsIn s o r =
     let ms : List Method = methodsIn s o (rows s) (256 + r) in
     (22 ∷ parentIn s o (256 + r) ∷ bit (hasChildrenIn s o (256 + r)) ∷ length fs ∷ length ms ∷ [])
     ∷ numbered s [] 0 fs ++ map (λ m. 24 ∷ m .name ∷ m .fun ∷ []) ms
+
+-- the same, with each method told by its name and then looked for
+unfoldable pub classRowsNamed : Sheet → Store → ℕ → List (List ℕ)
+classRowsNamed s o r =
+    let fs : List ℕ = fieldsIn s o (rows s) (256 + r) in
+    let ns : List ℕ = methodNamesIn s o (rows s) (256 + r) in
+    (22 ∷ parentIn s o (256 + r) ∷ bit (hasChildrenIn s o (256 + r)) ∷ length fs ∷ length ns ∷ [])
+    ∷ numbered s [] 0 fs ++ map (λ n. 24 ∷ n ∷ methodNamed n (methodsIn s o (rows s) (256 + r)) ∷ []) ns
 
 -- the answer rows of sheet row r
 unfoldable pub rowsIn : Sheet → Store → ℕ → List (List ℕ)
