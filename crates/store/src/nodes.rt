@@ -36,7 +36,7 @@ pub fn node_word(q: &[u32], i: u32, c: u32) -> u32
 }
 
 // One more than the place of the node before node `i` in its list, or 0.
-fn node_before(q: &[u32], i: u32) -> u32
+pub fn node_before(q: &[u32], i: u32) -> u32
     ensures { λ x. ⌜ x ≡ previous (now (q .entry)) i ⌝ }
 {
     let before = node_word(q, i, 0);

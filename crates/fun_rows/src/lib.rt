@@ -1,0 +1,111 @@
+// The answer rows of functions, of their literals, and of single rows.
+ghost use mathlib.Core.Path.{_≡_};
+ghost use mathlib.Core.Bool.{_&&_};
+ghost use mathlib.Core.List.{List, [], _∷_, map};
+ghost use Prim.Native.Nat.{ℕ, _+_, _*_, _≤_};
+ghost use lib.Dec.{eqb};
+ghost use lib.ListN.{length, getD};
+ghost use Rattle.definition.specs.Basics.{concatMap, filter, from};
+ghost use Rattle.definition.specs.Sheet.{child};
+ghost use Rattle.definition.specs.Answer.{eight};
+ghost use Rattle.machine.specs.Machine.{cell, chainTo, codeOf, seenIn, listAt, nodeWord};
+ghost use Rattle.machine.specs.Reads.{rowWords, answerRow, meaningOfNode, handsOn, escapingSlots};
+ghost use Rattle.after.specs.Rows.{literalRowsIn, functionRowsIn};
+ghost use Rattle.store.specs.Stored.{storeOf};
+ghost use Rattle.sink.specs.Sink.{sink, emit as emitted, emitAll};
+ghost use Rattle.fun_rows.specs.Literals.{LiteralChains, literalChain};
+
+use ast::FunId;
+use classes::entry_at;
+use sink::AnswerRow;
+use sink::emit;
+use store::nodes::Store;
+use store::nodes::count_nodes;
+use store::nodes::node_before;
+use store::nodes::node_word;
+use store::table::RowWords;
+use symbols::decl::OpenDecl;
+use tree::words::word;
+use walk::code::code_of;
+use walk::code::seen_in;
+
+// The row of sheet row `r` with a code and three values.
+fn emit_words(r: u32, x: RowWords, k: usize, out: &mut [u32]) -> usize
+    ensures { λ n. ⌜ sink n (now (out .exit)) ≡ emitted (answerRow r (x .code ∷ x .one ∷ x .two ∷ x .three ∷ [])) (sink k (now (out .entry))) ⌝ }
+{
+    let row = AnswerRow {
+        row: r,
+        code: x.code,
+        one: x.one,
+        two: x.two,
+        three: x.three,
+        four: 0,
+    };
+    emit(out, k, row)
+}
+
+// The row of a let, identifier, host constant, instanceof or member, as the table has it.
+pub fn emit_row(t: &[u32], r: u32, k: usize, out: &mut [u32]) -> usize
+    ensures { λ n. ⌜ sink n (now (out .exit)) ≡ emitted (answerRow r (rowWords (now (t .entry)) r)) (sink k (now (out .entry))) ⌝ }
+{
+    let x = RowWords {
+        code: word(t, r, 0),
+        one: word(t, r, 1),
+        two: word(t, r, 2),
+        three: word(t, r, 3),
+    };
+    emit_words(r, x, k, out)
+}
+
+// The local or argument that node `i` of a capture list stands for.
+fn captured_at(q: &[u32], i: u32) -> OpenDecl
+    ensures { λ x. ⌜ x ≡ record { tag = 6; first = nodeWord (now (q .entry)) i 1; second = nodeWord (now (q .entry)) i 2; slot = nodeWord (now (q .entry)) i 3 } ⌝ }
+{
+    OpenDecl {
+        tag: 6,
+        first: node_word(q, i, 1),
+        second: node_word(q, i, 2),
+        slot: node_word(q, i, 3),
+    }
+}
+
+// What a function captures, by rising index: the list whose last node is node `p - 1`.
+fn emit_captured(s: &[u32], q: &[u32], r: u32, p: u32, k: usize, out: &mut [u32]) -> usize
+    requires { ⌜ length (now s) ≤ 16384 ⌝ }
+    ensures { λ n. ⌜ sink n (now (out .exit))
+        ≡ emitAll (map (λ y. eight (r ∷ codeOf (now (s .entry)) (meaningOfNode y) (y .two) 0)) (chainTo (now (q .entry)) p)) (sink k (now (out .entry))) ⌝ }
+{
+    if p == 0 {
+        return k;
+    }
+    let i = p - 1;
+    let n = emit_captured(s, q, r, node_before(q, i), k, out);
+    let x = code_of(s, captured_at(q, i));
+    emit_words(r, x, n, out)
+}
+
+// What a literal that stands in function `fun` hands on, in the same order.
+fn emit_sources(s: &[u32], t: &[u32], q: &[u32], r: u32, fun: FunId, p: u32, k: usize, out: &mut [u32]) -> usize
+    requires { ⌜ length (now s) ≤ 16384 ⌝ }
+    ensures { λ n. ⌜ ((o : Store) → sink n (now (out .exit))
+        ≡ emitAll (map (λ y. eight (r ∷ seenIn (now (s .entry)) (meaningOfNode y) (y .two) 0 (fun .0) (storeOf o (now (t .entry)) (now (q .entry))))) (chainTo (now (q .entry)) p)) (sink k (now (out .entry)))) ⌝ }
+{
+    if p == 0 {
+        return k;
+    }
+    let i = p - 1;
+    let n = emit_sources(s, t, q, r, fun, node_before(q, i), k, out);
+    let x = seen_in(s, captured_at(q, i), fun, t, q);
+    emit_words(r, x, n, out)
+}
+
+// The rows of literal `r`: one for each source.
+pub fn emit_literal(s: &[u32], t: &[u32], q: &[u32], r: u32, k: usize, out: &mut [u32]) -> usize
+    requires { ⌜ length (now s) ≤ 16384 ⌝ }
+    ensures { λ n. ⌜ ((o : Store) → sink n (now (out .exit))
+        ≡ emitAll (map (λ vs. eight (r ∷ vs)) (literalRowsIn (now (s .entry)) (storeOf o (now (t .entry)) (now (q .entry))) r)) (sink k (now (out .entry)))) ⌝ }
+{
+    let fun = FunId(word(t, r, 1));
+    let last = word(t, word(s, r, 2), 6);
+    emit_sources(s, t, q, r, fun, last, k, out)
+}
