@@ -8,13 +8,15 @@ use lib.ListN.{length, length-append, length-map}
 use lib.Dec.{eqb, leb}
 use Rattle.definition.specs.Basics.{if_then_else_, filter, distinct, count, _∈?_}
 use Rattle.definition.specs.Sheet.{Sheet, next, child, a, rows, chain, kids, is, kidsOf}
-use Rattle.definition.specs.Outside.{recordOf}
+use Rattle.definition.specs.Outside.{Method, recordOf}
 use Rattle.definition.specs.Walk.{Event, enter, leave, loop, declare, bring, visit, walk}
 use Rattle.definition.specs.Scope.{Stack, Moment, step, moments, start, history, visited, visits, within}
-use Rattle.definition.specs.Classes.{classOf, registered, ownFields, mergeFields, parentOf, fields}
+use Rattle.definition.specs.Classes.{ownMethods, classOf, registered, ownFields, mergeFields, parentOf, fields}
 use Rattle.definition.specs.Bounds.{isVisit}
 use Rattle.definition.proofs.Walk.Bounds.{visits-bound}
+use Rattle.machine.specs.Machine.{Store}
 use Rattle.machine.specs.Reads.{PastFour}
+use Rattle.after.specs.Inherited.{parentIn, methodNamesIn}
 use Rattle.machine.proofs.Theorems.{rows-few}
 use Rattle.after.proofs.Ranges.{past-fits}
 
@@ -113,3 +115,41 @@ module _ {s : Sheet} (ok : PastFour s) where
 
   pub fields-few : (c : ℕ) → length (fields s (history s) (rows s) c) ≤ 16777216
   fields-few c = omega (arith, fields-length (rows s) c, rows-few s (ok .whole))
+
+-- methods: at most one for each row and ancestor
+methods-outside : (c : ℕ) → length (recordOf c .methods) ≤ 0
+methods-outside c = go (eqb 100 c) (eqb 101 c) (eqb 102 c)
+  where
+    go : (t u v : Bool) → length ((if t then recordOf 100 else if u then recordOf 101 else if v then recordOf 102 else recordOf 0) .methods) ≤ 0
+    go true u v = omega arith
+    go false true v = omega arith
+    go false false true = omega arith
+    go false false false = omega arith
+
+own-methods-length : (s : Sheet) (c : ℕ) → length (map (λ m. m .name) (ownMethods s c)) ≤ rows s
+own-methods-length s c = omega (arith, length-map (ownMethods s c) (λ m. m .name), go (leb 256 c))
+  where
+    fs : List ℕ
+    fs = kidsOf s 6 (c - 256)
+
+    go : (t : Bool) → length (if t then map (λ f. record { name = a s f; fun = f }) fs else recordOf c .methods) ≤ rows s
+    go true = omega (arith, length-map {B = Method} fs (λ f. record { name = a s f; fun = f }), filter-length (is s 6) (kids s (c - 256)), chain-length (rows s) s (child s (c - 256)))
+    go false = omega (arith, methods-outside c)
+
+methods-length : (s : Sheet) (o : Store) → rows s ≤ 2048 → (n c : ℕ) → length (methodNamesIn s o n c) ≤ n * 2048
+unfolding methodNamesIn
+methods-length s o l zero c = omega arith
+methods-length s o l (suc n) c = go (eqb (parentIn s o c) 0) (methods-length s o l n (parentIn s o c))
+  where
+    up : List ℕ
+    up = methodNamesIn s o n (parentIn s o c)
+
+    own : List ℕ
+    own = map (λ m. m .name) (ownMethods s c)
+
+    go : (t : Bool) → length up ≤ n * 2048 → length (if t then own else mergeFields up own) ≤ suc n * 2048
+    go true h = omega (arith, own-methods-length s c)
+    go false h = omega (arith, own-methods-length s c, length-append up (filter (λ j. not (j ∈? up)) own), filter-length (λ j. not (j ∈? up)) own)
+
+pub methods-few : {s : Sheet} → PastFour s → (o : Store) (c : ℕ) → length (methodNamesIn s o (rows s) c) ≤ 16777216
+methods-few {s} ok o c = omega (arith, methods-length s o (rows-few s (ok .whole)) (rows s) c, rows-few s (ok .whole))

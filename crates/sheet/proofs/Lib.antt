@@ -10,4 +10,4 @@ mod Clauses
 mod Declaring
 mod Unlike
 mod Question3
-mod Asking
+pub mod Asking

@@ -65,7 +65,7 @@ fn rows_fit(s: &[u32], last: u32, t: &mut [u32], marks: &mut [u32]) -> bool
     all_cross(s, n, t)
 }
 
-// The first of questions 3 and 4 that gets a no, or 0, with scratch space of zeros; `last` is the last name, or 0.
+// The first of questions 3 and 4 that gets a no, or 0, with scratch space of zeros; `last` is the number of the last name.
 fn ask(s: &[u32], last: u32, seen: &mut [u32], t: &mut [u32], marks: &mut [u32]) -> u32
     requires { ⌜ (length (now s) ≡ 8 * rows (now s)) × (0 < rows (now s)) × (rows (now s) ≤ 2048) × (last < 1049) ⌝ }
     requires { ⌜ (now seen ≡ replicate 2048 0) × (now t ≡ replicate 16384 0) × (now marks ≡ replicate 1049 0) ⌝ }

@@ -115,7 +115,7 @@ fn lines_to_read(bytes: usize, lent: usize) -> usize
     n
 }
 
-fn clear(words: &mut [u32])
+pub fn clear(words: &mut [u32])
     ensures { λ r. ⌜ now (words .exit) ≡ replicate (length (now (words .entry))) 0 ⌝ }
 {
     let mut i: usize = 0;

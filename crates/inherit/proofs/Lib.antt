@@ -1,0 +1,5 @@
+-- Classes, their parents and names; the climb through parents; methods after inheritance; constructor calls.
+mod ClassLaws
+mod ClimbLaws
+mod MethodLaws
+mod CallLaws

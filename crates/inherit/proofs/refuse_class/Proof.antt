@@ -1,0 +1,15 @@
+use mathlib.Core.Path.{ap}
+use Prim.Native.Nat.{ℕ}
+use borrow.Author.Needs.{needs}
+use Rattle.definition.specs.Question.{Refusal}
+use Rattle.inherit.proofs.refuse_class.Statement.{statement}
+use Rattle.inherit.proofs.refuse_class.Tie as tie
+
+word-requires : tie.Need-word-requires
+word-requires c κs = search needs
+
+returns : tie.Need-returns
+returns c = ap {B = Refusal} (λ (n : ℕ). record { number = c .before .before .args .number; at = c .before .before .args .r; name = n }) (c .word .ensures)
+
+pub refuse-class-spec : {M : Type 1} → statement M
+refuse-class-spec = tie.close (tie.spec word-requires returns)

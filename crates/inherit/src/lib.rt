@@ -1,0 +1,233 @@
+// The questions that follow the walk: 18 and 19 on the parents of classes, 20 and 21 on constructor calls.
+ghost use mathlib.Core.Path.{_≡_};
+ghost use mathlib.Core.Bool.{false, not, _&&_};
+ghost use mathlib.Core.List.{List, [], _∷_};
+ghost use Prim.Native.Nat.{ℕ, suc, _+_, _*_, _≤_};
+ghost use lib.Dec.{eqb};
+ghost use lib.ListN.{length};
+ghost use Rattle.definition.specs.Sheet.{a, rows};
+ghost use Rattle.definition.specs.Classes.{hasRecord, className, methodNamed};
+ghost use Rattle.definition.specs.Question.{ask, firstNo};
+ghost use Rattle.machine.specs.Machine.{previous};
+ghost use Rattle.store.specs.Stored.{storeOf};
+ghost use Rattle.after.specs.Inherited.{isClassRow, parentIn, climbIn, classesRefusal, methodsIn, checkCallIn, callsRefusal};
+ghost use Rattle.inherit.specs.Answered.{refusalOf, Marked};
+use ast::ClassId;
+use ast::FunId;
+use store::nodes::Store;
+use store::nodes::node_before;
+use store::nodes::node_word;
+use tree::lists::arguments;
+use tree::lists::arity;
+use tree::lists::has_record;
+use tree::lists::method_named;
+use tree::words::word;
+
+// The number of the class of row 0. The classes of a sheet are numbered from here on.
+const FIRST_CLASS: u32 = 256;
+
+// The name of a constructor.
+const INIT: u32 = 23;
+
+// A question answered no: its number, the row of its position, the name asked about. Number 0: none.
+pub struct Refusal {
+    pub number: u32,
+    pub at: u32,
+    pub name: u32,
+}
+
+// Is `c` the number of a class row?
+fn is_class_row(s: &[u32], c: u32) -> bool
+    ensures { λ x. ⌜ x ≡ isClassRow (now (s .entry)) c ⌝ }
+{
+    if c >= FIRST_CLASS {
+        return word(s, c - FIRST_CLASS, 0) == 4;
+    }
+    false
+}
+
+// The parent of a class as the walk stored it, or class 0.
+pub fn parent_of(s: &[u32], t: &[u32], c: ClassId) -> ClassId
+    ensures { λ x. ⌜ ((o : Store) (q : List ℕ) → x .0 ≡ parentIn (now (s .entry)) (storeOf o (now (t .entry)) q) (c .0)) ⌝ }
+{
+    if is_class_row(s, c.0) {
+        return ClassId(word(t, c.0 - FIRST_CLASS, 1));
+    }
+    ClassId(0)
+}
+
+// Is a parent a class without a record? Class 0 is no parent.
+fn lacks_record(c: ClassId) -> bool
+    ensures { λ x. ⌜ x ≡ (not (eqb (c .0) 0) && not (hasRecord (c .0))) ⌝ }
+{
+    if c.0 != 0 {
+        return !has_record(c);
+    }
+    false
+}
+
+// A question on the class of row `r`, answered no.
+fn refuse_class(s: &[u32], number: u32, r: u32) -> Refusal
+    ensures { λ x. ⌜ refusalOf x ≡ ask number r (a (now (s .entry)) r) false ⌝ }
+{
+    Refusal {
+        number: number,
+        at: r,
+        name: word(s, r, 6),
+    }
+}
+
+// The questions 18 and 19 on the class of row `r` and then on its ancestors. A class climbed through is marked with `r + 1`; the
+// marks of earlier climbs are less.
+fn climb(s: &[u32], t: &[u32], marks: &mut [u32], r: u32) -> Refusal
+    requires { ⌜ (length (now s) ≤ 8 * length (now marks)) × (r ≤ 2048) × (Marked r (now marks)) ⌝ }
+    ensures { λ x. ⌜ ((o : Store) (q : List ℕ) → refusalOf x ≡ climbIn (now (s .entry)) (storeOf o (now (t .entry)) q) (suc (rows (now (s .entry)))) [] (256 + r)) × (Marked (r + 1) (now (marks .exit))) ⌝ }
+{
+    let mut left = s.len() / 8 + 1;
+    let mut c = FIRST_CLASS + r;
+    while 0 < left {
+        if !is_class_row(s, c) {
+            return Refusal {
+                number: 0,
+                at: 0,
+                name: 0,
+            };
+        }
+        let row = c - FIRST_CLASS;
+        if marks[row as usize] == r + 1 {
+            return refuse_class(s, 18, row);
+        }
+        let up = parent_of(s, t, ClassId(c));
+        if lacks_record(up) {
+            return refuse_class(s, 19, row);
+        }
+        marks[row as usize] = r + 1;
+        c = up.0;
+        left -= 1;
+    }
+    Refusal {
+        number: 0,
+        at: 0,
+        name: 0,
+    }
+}
+
+// The first no of the questions 18 and 19, classes in row order.
+pub fn check_classes(s: &[u32], t: &[u32], marks: &mut [u32]) -> Refusal
+    requires { ⌜ (length (now s) ≤ 16384) × (length (now s) ≤ 8 * length (now marks)) × (Marked 0 (now marks)) ⌝ }
+    ensures { λ x. ⌜ ((o : Store) (q : List ℕ) → refusalOf x ≡ classesRefusal (now (s .entry)) (storeOf o (now (t .entry)) q)) ⌝ }
+{
+    let mut r: u32 = 0;
+    while (r as usize) < s.len() / 8 {
+        if word(s, r, 0) == 4 {
+            let x = climb(s, t, marks, r);
+            if x.number != 0 {
+                return x;
+            }
+        }
+        r += 1;
+    }
+    Refusal {
+        number: 0,
+        at: 0,
+        name: 0,
+    }
+}
+
+// The method of name `n` that a class has, its own or inherited, or function 0.
+pub fn find_method(s: &[u32], t: &[u32], c: ClassId, n: u32) -> FunId
+    ensures { λ x. ⌜ ((o : Store) (q : List ℕ) → x .0 ≡ methodNamed n (methodsIn (now (s .entry)) (storeOf o (now (t .entry)) q) (rows (now (s .entry))) (c .0))) ⌝ }
+{
+    let mut left = s.len() / 8;
+    let mut at = c.0;
+    while 0 < left {
+        let own = method_named(s, ClassId(at), n);
+        if own.0 != 0 {
+            return own;
+        }
+        let up = parent_of(s, t, ClassId(at));
+        if up.0 == 0 {
+            return FunId(0);
+        }
+        at = up.0;
+        left -= 1;
+    }
+    FunId(0)
+}
+
+// The name of a class that has a record.
+fn class_name(s: &[u32], c: ClassId) -> u32
+    ensures { λ x. ⌜ x ≡ className (now (s .entry)) (c .0) ⌝ }
+{
+    let n = c.0;
+    if n >= FIRST_CLASS {
+        return word(s, n - FIRST_CLASS, 6);
+    }
+    match n {
+        100 => 7,
+        101 => 8,
+        102 => 9,
+        _ => 0,
+    }
+}
+
+// The questions 20 and 21 on constructor call `r` of a class. The constructor also takes the new object.
+fn check_call(s: &[u32], t: &[u32], r: u32, c: ClassId) -> Refusal
+    ensures { λ x. ⌜ ((o : Store) (q : List ℕ) (two : ℕ) → refusalOf x ≡ checkCallIn (now (s .entry)) (storeOf o (now (t .entry)) q) (record { key = r; one = c .0; two = two })) ⌝ }
+{
+    let init = find_method(s, t, c, INIT);
+    let at = word(s, r, 2);
+    let name = class_name(s, c);
+    if init.0 == 0 {
+        return Refusal {
+            number: 20,
+            at: at,
+            name: name,
+        };
+    }
+    if arguments(s, r) + 1 == arity(s, init) {
+        return Refusal {
+            number: 0,
+            at: 0,
+            name: 0,
+        };
+    }
+    Refusal {
+        number: 21,
+        at: at,
+        name: name,
+    }
+}
+
+// The first no of the questions 20 and 21. The list is walked from the last call back, so that an earlier no replaces a later one.
+pub fn check_ctor_calls(s: &[u32], t: &[u32], q: &[u32], calls: u32) -> Refusal
+    ensures { λ x. ⌜ ((o : Store) → o .calls ≡ calls → refusalOf x ≡ callsRefusal (now (s .entry)) (storeOf o (now (t .entry)) (now (q .entry)))) ⌝ }
+{
+    let mut x = Refusal {
+        number: 0,
+        at: 0,
+        name: 0,
+    };
+    let mut i = calls;
+    while 0 < i {
+        i -= 1;
+        let y = check_call(s, t, node_word(q, i, 1), ClassId(node_word(q, i, 2)));
+        i = node_before(q, i);
+        if y.number != 0 {
+            x = y;
+        }
+    }
+    x
+}
+
+// The first no of the questions that follow the walk.
+pub fn later_refusal(s: &[u32], t: &[u32], q: &[u32], marks: &mut [u32], calls: u32) -> Refusal
+    requires { ⌜ (length (now s) ≤ 16384) × (length (now s) ≤ 8 * length (now marks)) × (Marked 0 (now marks)) ⌝ }
+    ensures { λ x. ⌜ ((o : Store) → o .calls ≡ calls → refusalOf x ≡ firstNo (classesRefusal (now (s .entry)) (storeOf o (now (t .entry)) (now (q .entry))) ∷ callsRefusal (now (s .entry)) (storeOf o (now (t .entry)) (now (q .entry))) ∷ [])) ⌝ }
+{
+    let x = check_classes(s, t, marks);
+    if x.number != 0 {
+        return x;
+    }
+    check_ctor_calls(s, t, q, calls)
+}

@@ -1,0 +1,2 @@
+mod BufferLaws
+mod OutcomeLaws
