@@ -1,0 +1,120 @@
+-- The rows of a class: its first row, then the rows that tell its names.
+use mathlib.Core.Path.{_≡_, refl, sym, ap, _∙_}
+use mathlib.Core.Bool.{not}
+use mathlib.Core.List.{List, [], _∷_, _++_, map}
+use Prim.Native.Nat.{ℕ, suc, _+_, _<_, _≤_, min}
+use native.Mathlib.Omega.{arith}
+use lib.Dec.{eqb}
+use lib.ListN.{length, getD}
+use borrow.Author.Tests.{eq-eqb, ne-eqb, lt-ltb}
+use Rattle.definition.specs.Basics.{bit}
+use Rattle.definition.specs.Sheet.{Sheet, rows}
+use Rattle.definition.specs.Classes.{methodNamed}
+use Rattle.definition.specs.Answer.{eight, numbered}
+use Rattle.machine.specs.Machine.{Store as Stored, oneMore}
+use Rattle.after.specs.Inherited.{parentIn, fieldsIn, methodsIn, methodNamesIn}
+use Rattle.after.specs.Rows.{classRowsNamed}
+use Rattle.sink.specs.Sink.{Sink, emit, emitAll}
+use Rattle.sink.proofs.SinkLaws.{emit-first, emit-both}
+use Rattle.store.specs.Stored.{storeOf}
+use Rattle.store.specs.declared.nodes.Store.{Store}
+use Rattle.class_rows.specs.Names.{namesIn, ClassReady, headWords}
+use Rattle.class_rows.specs.Put.{Filled, Wants, nameRow, put, putAll}
+use Rattle.class_rows.specs.declared.put.Wanted.{Wanted}
+use Rattle.class_rows.proofs.NameLaws.{names-fields, names-methods}
+use Rattle.class_rows.proofs.PutLaws.{slot-counts}
+
+pub bit-clear : (x : ℕ) → x ≡ 0 → 0 ≡ bit (not (eqb x 0))
+bit-clear x e = rw (eq-eqb x 0 e)
+
+pub bit-set : (x : ℕ) → (x ≡ 0 → ⊥) → 1 ≡ bit (not (eqb x 0))
+bit-set x f = rw (ne-eqb x 0 f)
+
+-- The number of the names, as the slot counts them from 0 on.
+pub names-counted : (f : ℕ → ℕ → List ℕ) (ms : List ℕ) (k : Filled) {x : Filled} → k .slot ≡ 0 → x ≡ putAll f ms k → x .slot ≡ min (length ms) 4294967295
+names-counted f ms k z e = ap (λ (y : Filled). y .slot) e ∙ slot-counts f ms k (omega arith) ∙ omega arith
+
+-- The first row.
+module _ (s t q marks : List ℕ) (r : ℕ) (h : ClassReady s t q marks r) (o : Store) where
+  abbrev st : Stored
+  st = storeOf o t q
+
+  pub head-row : {p b f m i j : ℕ} → p ≡ parentIn s st (256 + r) → b ≡ bit (not (eqb (getD marks r 0) 0))
+      → i ≡ 10 → f ≡ min (length (namesIn s st i (rows s) (256 + r))) 4294967295
+      → j ≡ 6 → m ≡ min (length (namesIn s st j (rows s) (256 + r))) 4294967295
+      → r ∷ 22 ∷ p ∷ b ∷ f ∷ m ∷ 0 ∷ 0 ∷ [] ≡ eight (r ∷ headWords s st r)
+  unfolding headWords
+  head-row {p} {b} {f} {m} {i} {j} d e x u y v = rw (d, e ∙ ap bit (h .marked .told o q r (h .row)), fields-equal, methods-equal)
+    where
+      fields-equal : f ≡ length (fieldsIn s st (rows s) (256 + r))
+      fields-equal = omega (arith, u, ap length (ap (λ (z : ℕ). namesIn s st z (rows s) (256 + r)) x ∙ names-fields s st (rows s) (256 + r)), h .fields o)
+
+      methods-equal : m ≡ length (methodNamesIn s st (rows s) (256 + r))
+      methods-equal = omega (arith, v, ap length (ap (λ (z : ℕ). namesIn s st z (rows s) (256 + r)) y ∙ names-methods s st (rows s) (256 + r)), h .methods o)
+
+-- The rows of the fields and of the methods.
+module _ (f : ℕ → ℕ → List ℕ) (s : Sheet) (r : ℕ) where
+  field-rows : ((m i : ℕ) → f m i ≡ eight (r ∷ 23 ∷ i ∷ m ∷ [])) → (ms : List ℕ) (k : Filled) → k .slot + length ms ≤ 4294967295
+      → putAll f ms k .done ≡ emitAll (map (λ vs. eight (r ∷ vs)) (numbered s [] (k .slot) ms)) (k .done)
+  unfolding putAll put emitAll
+  field-rows g [] k l = refl
+  field-rows g (m ∷ ms) k l =
+      let b : k .slot < 4294967295 = omega arith in
+      let e : oneMore (k .slot) ≡ suc (k .slot) = rw (lt-ltb (k .slot) 4294967295 b) in
+      let h : oneMore (k .slot) + length ms ≤ 4294967295 = omega arith in
+      field-rows g ms (put f m k) h ∙ rw (e, g m (k .slot))
+
+  method-rows : (g : ℕ → ℕ) → ((m i : ℕ) → f m i ≡ eight (r ∷ 24 ∷ m ∷ g m ∷ [])) → (ms : List ℕ) (k : Filled)
+      → putAll f ms k .done ≡ emitAll (map (λ vs. eight (r ∷ vs)) (map (λ n. 24 ∷ n ∷ g n ∷ []) ms)) (k .done)
+  unfolding putAll put emitAll
+  method-rows g h [] k = refl
+  method-rows g h (m ∷ ms) k = method-rows g h ms (put f m k) ∙ rw (h m (k .slot))
+
+module _ (s : Sheet) (o : Stored) (r : ℕ) (w : Wanted) (k : Filled) where
+  field-row : Wants r 10 w → (m i : ℕ) → nameRow s o w m i ≡ eight (r ∷ 23 ∷ i ∷ m ∷ [])
+  unfolding nameRow
+  field-row h m i = rw (h .kindIs, h .rowIs)
+
+  method-row : Wants r 6 w → (m i : ℕ) → nameRow s o w m i ≡ eight (r ∷ 24 ∷ m ∷ methodNamed m (methodsIn s o (rows s) (256 + r)) ∷ [])
+  unfolding nameRow
+  method-row h m i = rw (h .kindIs, h .rowIs, h .wholeIs)
+
+  pub fields-told : {x : Filled} → Wants r 10 w → length (fieldsIn s o (rows s) (256 + r)) ≤ 4294967295 → k .slot ≡ 0
+      → x ≡ putAll (nameRow s o w) (namesIn s o (w .kind) (rows s) (256 + r)) k
+      → x .done ≡ emitAll (map (λ vs. eight (r ∷ vs)) (numbered s [] 0 (fieldsIn s o (rows s) (256 + r)))) (k .done)
+  fields-told h l z e =
+      ap (λ (y : Filled). y .done) (e ∙ ap (λ (ms : List ℕ). putAll (nameRow s o w) ms k) names)
+      ∙ field-rows (nameRow s o w) s r (field-row h) (fieldsIn s o (rows s) (256 + r)) k (omega arith)
+      ∙ ap (λ (i : ℕ). emitAll (map (λ vs. eight (r ∷ vs)) (numbered s [] i (fieldsIn s o (rows s) (256 + r)))) (k .done)) z
+    where
+      names : namesIn s o (w .kind) (rows s) (256 + r) ≡ fieldsIn s o (rows s) (256 + r)
+      names = ap (λ (j : ℕ). namesIn s o j (rows s) (256 + r)) (h .kindIs) ∙ names-fields s o (rows s) (256 + r)
+
+  pub methods-told : {x : Filled} → Wants r 6 w → x ≡ putAll (nameRow s o w) (namesIn s o (w .kind) (rows s) (256 + r)) k
+      → x .done ≡ emitAll (map (λ vs. eight (r ∷ vs)) (map (λ n. 24 ∷ n ∷ methodNamed n (methodsIn s o (rows s) (256 + r)) ∷ []) (methodNamesIn s o (rows s) (256 + r)))) (k .done)
+  methods-told h e =
+      ap (λ (y : Filled). y .done) (e ∙ ap (λ (ms : List ℕ). putAll (nameRow s o w) ms k) names)
+      ∙ method-rows (nameRow s o w) s r (λ n. methodNamed n (methodsIn s o (rows s) (256 + r))) (method-row h) (methodNamesIn s o (rows s) (256 + r)) k
+    where
+      names : namesIn s o (w .kind) (rows s) (256 + r) ≡ methodNamesIn s o (rows s) (256 + r)
+      names = ap (λ (j : ℕ). namesIn s o j (rows s) (256 + r)) (h .kindIs) ∙ names-methods s o (rows s) (256 + r)
+
+-- All rows of a class.
+pub class-rows : (s : Sheet) (o : Stored) (r : ℕ) (k : Sink) {ws : List ℕ} {h x y : Sink} → ws ≡ eight (r ∷ headWords s o r) → h ≡ emit ws k
+    → x ≡ emitAll (map (λ vs. eight (r ∷ vs)) (numbered s [] 0 (fieldsIn s o (rows s) (256 + r)))) h
+    → y ≡ emitAll (map (λ vs. eight (r ∷ vs)) (map (λ n. 24 ∷ n ∷ methodNamed n (methodsIn s o (rows s) (256 + r)) ∷ []) (methodNamesIn s o (rows s) (256 + r)))) x
+    → y ≡ emitAll (map (λ vs. eight (r ∷ vs)) (classRowsNamed s o r)) k
+unfolding classRowsNamed headWords
+class-rows s o r k {ws} {h} {x} {y} e f u v =
+    emit-first (eight (r ∷ headWords s o r)) (map (λ vs. eight (r ∷ vs)) (fs ++ ms)) k (f ∙ ap (λ (l : List ℕ). emit l k) e)
+    (emit-both (map (λ vs. eight (r ∷ vs)) fs) (map (λ vs. eight (r ∷ vs)) ms) h u v ∙ ap (λ (l : List (List ℕ)). emitAll l h) (sym (joined fs ms)))
+  where
+    fs : List (List ℕ)
+    fs = numbered s [] 0 (fieldsIn s o (rows s) (256 + r))
+
+    ms : List (List ℕ)
+    ms = map (λ n. 24 ∷ n ∷ methodNamed n (methodsIn s o (rows s) (256 + r)) ∷ []) (methodNamesIn s o (rows s) (256 + r))
+
+    joined : (xs ys : List (List ℕ)) → map (λ vs. eight (r ∷ vs)) (xs ++ ys) ≡ map (λ vs. eight (r ∷ vs)) xs ++ map (λ vs. eight (r ∷ vs)) ys
+    joined [] ys = refl
+    joined (z ∷ zs) ys = ap (λ (l : List (List ℕ)). eight (r ∷ z) ∷ l) (joined zs ys)

@@ -1,0 +1,4 @@
+mod NameLaws
+mod PutLaws
+mod ClassLaws
+mod MarkLaws

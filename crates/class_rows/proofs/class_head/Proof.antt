@@ -1,0 +1,41 @@
+use Rattle.class_rows.proofs.ClassLaws.{head-row}
+use borrow.Author.Needs.{needs}
+use Rattle.class_rows.proofs.class_head.Statement.{statement}
+use Rattle.class_rows.proofs.class_head.Tie as tie
+
+add-t13 : tie.Need-add-t13
+add-t13 c = search needs
+
+parent-of-requires : tie.Need-parent-of-requires
+parent-of-requires c κs = search needs
+
+mark-bit-requires : tie.Need-mark-bit-requires
+mark-bit-requires c κs = search needs
+
+wanted-requires : tie.Need-wanted-requires
+wanted-requires c κs = search needs
+
+count-names-requires : tie.Need-count-names-requires
+count-names-requires c κs = search needs
+
+wanted-requires-2 : tie.Need-wanted-requires-2
+wanted-requires-2 c κs = search needs
+
+count-names-requires-2 : tie.Need-count-names-requires-2
+count-names-requires-2 c κs = search needs
+
+returns : tie.Need-returns
+returns c = λ o. let a = c .before .before .before .before .before .before .before .before .before .before .args in head-row (a .s .now) (a .t .now) (a .q .now) (a .marks .now) (a .r) (c .before .before .before .before .before .before .before .before .before .before .pre) o (c .before .before .before .before .before .parent-of .ensures o (a .q .now)) (c .before .before .before .before .mark-bit .ensures) (c .before .before .before .wanted .ensures .kindIs) (c .before .before .count-names .ensures o) (c .before .wanted2 .ensures .kindIs) (c .count-names2 .ensures o)
+
+pub class-head-spec : {M : Type 1} → statement M
+class-head-spec =
+    tie.close
+    (tie.spec
+    add-t13
+    parent-of-requires
+    mark-bit-requires
+    wanted-requires
+    count-names-requires
+    wanted-requires-2
+    count-names-requires-2
+    returns)

@@ -1,0 +1,20 @@
+use Rattle.class_rows.proofs.ClassLaws.{names-counted}
+use Rattle.class_rows.specs.Put.{nameRow}
+use Rattle.class_rows.specs.Names.{namesIn}
+use Rattle.store.specs.Stored.{storeOf}
+use mathlib.Core.Path.{refl}
+use borrow.Author.Needs.{needs}
+use Rattle.class_rows.proofs.put.count_names.Statement.{statement}
+use Rattle.class_rows.proofs.put.count_names.Tie as tie
+
+slice-aggregate-put-names : tie.Need-slice-aggregate-put-names
+slice-aggregate-put-names c = search needs
+
+put-names-requires : tie.Need-put-names-requires
+put-names-requires c κs = search needs
+
+returns : tie.Need-returns
+returns c = λ o. let a = c .before .before .before .before .before .before .args in names-counted (nameRow (a .s .now) (storeOf o (a .t .now) (a .q .now)) (a .w)) (namesIn (a .s .now) (storeOf o (a .t .now) (a .q .now)) (a .w .kind) (a .n) (a .c .0)) _ refl (c .before .put-names .ensures o)
+
+pub count-names-spec : {M : Type 1} → statement M
+count-names-spec = tie.close (tie.spec slice-aggregate-put-names put-names-requires returns)

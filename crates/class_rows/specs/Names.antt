@@ -1,0 +1,56 @@
+-- The names of the fields or of the methods of a class, its own and after inheritance, told by the kind of their rows: 10 or 6.
+use mathlib.Core.Path.{_≡_}
+use mathlib.Core.Bool.{not, _&&_}
+use mathlib.Core.List.{List, [], _∷_, map}
+use Prim.Native.Nat.{ℕ, zero, suc, _+_, _-_, _<_, _≤_}
+use lib.Dec.{eqb, leb}
+use lib.ListN.{length, getD, set}
+use Rattle.definition.specs.Basics.{if_then_else_, filter, bit, _∈?_}
+use Rattle.definition.specs.Sheet.{Sheet, a, rows, is, kidsOf}
+use Rattle.definition.specs.Classes.{mergeFields}
+use Rattle.machine.specs.Machine.{Store as Stored, cell}
+use Rattle.after.specs.Inherited.{parentIn, ownFieldsIn, fieldsIn, methodNamesIn, hasChildrenIn}
+use Rattle.store.specs.Stored.{storeOf}
+use Rattle.store.specs.declared.nodes.Store.{Store}
+
+-- the own names of class c
+unfoldable pub ownIn : Sheet → Stored → ℕ → ℕ → List ℕ
+ownIn s o j c = if eqb j 10 then ownFieldsIn s o c else if leb 256 c then map (a s) (kidsOf s j (c - 256)) else []
+
+-- the names of class c after inheritance; n bounds the climb
+unfoldable pub namesIn : Sheet → Stored → ℕ → ℕ → ℕ → List ℕ
+namesIn s o j zero c = []
+namesIn s o j (suc n) c =
+    let up : List ℕ = namesIn s o j n (parentIn s o c) in
+    if eqb (parentIn s o c) 0 then ownIn s o j c else mergeFields up (ownIn s o j c)
+
+-- the names that a class inherits from its parent p; no class has number 0
+unfoldable pub inherited : Sheet → Stored → ℕ → ℕ → ℕ → List ℕ
+inherited s o j n p = if eqb p 0 then [] else namesIn s o j n p
+
+-- the names of a list that are not inherited
+abbrev pub newOf : List ℕ → List ℕ → List ℕ
+newOf up ms = filter (λ m. not (m ∈? up)) ms
+
+-- the marks with that of the parent of row r, if row r is a class whose parent is of the sheet
+unfoldable pub markParent : Sheet → List ℕ → ℕ → List ℕ → List ℕ
+markParent s t r marks = if is s 4 r && leb 256 (cell t r 1) then set marks (cell t r 1 - 256) 1 else marks
+
+-- Of the table t, the marked rows are those of the classes that have children.
+pub record ParentMarks (s t marks : List ℕ) : Type 0 where
+  pub room : rows s ≤ length marks
+  pub told : (o : Store) (q : List ℕ) (j : ℕ) → j < rows s → not (eqb (getD marks j 0) 0) ≡ hasChildrenIn s (storeOf o t q) (256 + j)
+
+-- Row r stands in a sheet that is not too long, with the marks of its parents, and its fields and methods can be counted in a word.
+pub record ClassReady (s t q marks : List ℕ) (r : ℕ) : Type 0 where
+  pub row : r < rows s
+  pub short : length s ≤ 16384
+  pub marked : ParentMarks s t marks
+  pub fields : (o : Store) → length (fieldsIn s (storeOf o t q) (rows s) (256 + r)) ≤ 4294967295
+  pub methods : (o : Store) → length (methodNamesIn s (storeOf o t q) (rows s) (256 + r)) ≤ 4294967295
+
+-- the code and the values of the first row of the class of row r
+unfoldable pub headWords : Sheet → Stored → ℕ → List ℕ
+headWords s o r =
+    22 ∷ parentIn s o (256 + r) ∷ bit (hasChildrenIn s o (256 + r)) ∷ length (fieldsIn s o (rows s) (256 + r))
+    ∷ length (methodNamesIn s o (rows s) (256 + r)) ∷ []

@@ -1,0 +1,276 @@
+// Rows that tell the names of a class: code 23 a field by its slot, code 24 a method by its function.
+ghost use mathlib.Core.Path.{_≡_};
+ghost use mathlib.Core.List.{List, [], _∷_, map};
+ghost use Prim.Native.Nat.{ℕ, _+_, _≤_, min};
+ghost use lib.ListN.{length};
+ghost use Rattle.definition.specs.Basics.{from};
+ghost use Rattle.definition.specs.Sheet.{a, kidsOf};
+ghost use Rattle.definition.specs.Outside.{recordOf};
+ghost use Rattle.machine.specs.Machine.{chainTo, oneMore};
+ghost use Rattle.store.specs.Stored.{storeOf};
+ghost use Rattle.store.specs.declared.nodes.Store.{Store};
+ghost use Rattle.class_rows.specs.Names.{ownIn, namesIn};
+ghost use Rattle.class_rows.specs.Put.{filled, wordsOf, nameRow, put, putAll, putNew};
+use crate::held::is_class_row;
+use crate::held::is_inherited;
+use inherit::find_method;
+use inherit::parent_of;
+use ast::ClassId;
+use sink::AnswerRow;
+use sink::emit;
+use store::nodes::node_before;
+use store::nodes::node_word;
+use tree::words::word;
+
+// The number of the class of row 0.
+const FIRST_CLASS: u32 = 256;
+
+// Whose names are written, and which: the kind of their rows, the class's row, the class's number.
+pub struct Wanted {
+    pub kind: u32,
+    pub row: u32,
+    pub whole: u32,
+}
+
+// Rows written so far, and the next slot.
+pub struct Written {
+    pub count: usize,
+    pub slot: u32,
+}
+
+// The parent whose names are passed over, and how far they are climbed for.
+pub struct Passed {
+    pub class: u32,
+    pub left: usize,
+}
+
+// One more, unless that would not fit.
+fn one_more(n: u32) -> u32
+    ensures { λ x. ⌜ x ≡ oneMore n ⌝ }
+{
+    if n < 4294967295 { n + 1 } else { n }
+}
+
+// The row that tells name `m` at slot `i`.
+fn name_row(s: &[u32], t: &[u32], w: Wanted, m: u32, i: u32) -> AnswerRow
+    ensures { λ x. ⌜ ((o : Store) (q : List ℕ) → wordsOf x ≡ nameRow (now (s .entry)) (storeOf o (now (t .entry)) q) w m i) ⌝ }
+{
+    if w.kind == 10 {
+        return AnswerRow {
+            row: w.row,
+            code: 23,
+            one: i,
+            two: m,
+            three: 0,
+            four: 0,
+        };
+    }
+    let fun = find_method(s, t, ClassId(w.whole), m).0;
+    AnswerRow {
+        row: w.row,
+        code: 24,
+        one: m,
+        two: fun,
+        three: 0,
+        four: 0,
+    }
+}
+
+// One name more.
+fn put_name(s: &[u32], t: &[u32], w: Wanted, m: u32, k: Written, out: &mut [u32]) -> Written
+    ensures { λ x. ⌜ ((o : Store) (q : List ℕ) → filled x (now (out .exit)) ≡ put (nameRow (now (s .entry)) (storeOf o (now (t .entry)) q) w) m (filled k (now (out .entry)))) ⌝ }
+{
+    let x = name_row(s, t, w, m, k.slot);
+    let count = emit(out, k.count, x);
+    let slot = one_more(k.slot);
+    Written {
+        count: count,
+        slot: slot,
+    }
+}
+
+// One name more, unless it is inherited.
+fn put_new(
+    s: &[u32],
+    t: &[u32],
+    q: &[u32],
+    w: Wanted,
+    p: Passed,
+    m: u32,
+    k: Written,
+    out: &mut [u32],
+) -> Written
+    ensures { λ x. ⌜ ((o : Store) → filled x (now (out .exit)) ≡ putNew (now (s .entry)) (storeOf o (now (t .entry)) (now (q .entry))) w p (m ∷ []) (filled k (now (out .entry)))) ⌝ }
+{
+    if is_inherited(s, t, q, w.kind, p.left, ClassId(p.class), m) {
+        return k;
+    }
+    put_name(s, t, w, m, k, out)
+}
+
+// The names of a range, of `n` numbers from `i` on.
+fn put_range(
+    s: &[u32],
+    t: &[u32],
+    q: &[u32],
+    w: Wanted,
+    p: Passed,
+    i: u32,
+    n: u32,
+    k: Written,
+    out: &mut [u32],
+) -> Written
+    requires { ⌜ i + n ≤ 256 ⌝ }
+    ensures { λ x. ⌜ ((o : Store) → filled x (now (out .exit)) ≡ putNew (now (s .entry)) (storeOf o (now (t .entry)) (now (q .entry))) w p (from i n) (filled k (now (out .entry)))) ⌝ }
+{
+    let mut done = k;
+    let mut at = i;
+    let mut left = n;
+    while 0 < left {
+        done = put_new(s, t, q, w, p, at, done, out);
+        at += 1;
+        left -= 1;
+    }
+    done
+}
+
+// The fields of a class from outside the sheet.
+fn put_outside(
+    s: &[u32],
+    t: &[u32],
+    q: &[u32],
+    w: Wanted,
+    p: Passed,
+    c: ClassId,
+    k: Written,
+    out: &mut [u32],
+) -> Written
+    ensures { λ x. ⌜ ((o : Store) → filled x (now (out .exit)) ≡ putNew (now (s .entry)) (storeOf o (now (t .entry)) (now (q .entry))) w p (recordOf (c .0) .fields) (filled k (now (out .entry)))) ⌝ }
+{
+    let n = c.0;
+    match n {
+        100 => put_range(s, t, q, w, p, 10, 9, k, out),
+        101 => put_range(s, t, q, w, p, 19, 3, k, out),
+        102 => {
+            let first = put_range(s, t, q, w, p, 21, 1, k, out);
+            put_range(s, t, q, w, p, 19, 1, first, out)
+        }
+        _ => k,
+    }
+}
+
+// The names of the children of row `r`, in order.
+fn put_listed(
+    s: &[u32],
+    t: &[u32],
+    q: &[u32],
+    w: Wanted,
+    p: Passed,
+    r: u32,
+    k: Written,
+    out: &mut [u32],
+) -> Written
+    ensures { λ x. ⌜ ((o : Store) → filled x (now (out .exit)) ≡ putNew (now (s .entry)) (storeOf o (now (t .entry)) (now (q .entry))) w p (map (a (now (s .entry))) (kidsOf (now (s .entry)) (w .kind) r)) (filled k (now (out .entry)))) ⌝ }
+{
+    let mut done = k;
+    let mut left = s.len() / 8;
+    let mut at = word(s, r, 2);
+    while 0 < left {
+        if at == 0 {
+            return done;
+        }
+        let row = at;
+        at = word(s, row, 1);
+        left -= 1;
+        if word(s, row, 0) == w.kind {
+            done = put_new(s, t, q, w, p, word(s, row, 6), done, out);
+        }
+    }
+    done
+}
+
+// The keys of the list whose last node is node `last - 1`, in order.
+fn put_stored(
+    s: &[u32],
+    t: &[u32],
+    q: &[u32],
+    w: Wanted,
+    p: Passed,
+    last: u32,
+    k: Written,
+    out: &mut [u32],
+) -> Written
+    ensures { λ x. ⌜ ((o : Store) → filled x (now (out .exit)) ≡ putNew (now (s .entry)) (storeOf o (now (t .entry)) (now (q .entry))) w p (map (λ y. y .key) (chainTo (now (q .entry)) last)) (filled k (now (out .entry)))) ⌝ }
+{
+    if last == 0 {
+        return k;
+    }
+    let i = last - 1;
+    let before = node_before(q, i);
+    let done = put_stored(s, t, q, w, p, before, k, out);
+    put_new(s, t, q, w, p, node_word(q, i, 1), done, out)
+}
+
+// The own names of a class.
+fn put_own(
+    s: &[u32],
+    t: &[u32],
+    q: &[u32],
+    w: Wanted,
+    p: Passed,
+    c: ClassId,
+    k: Written,
+    out: &mut [u32],
+) -> Written
+    ensures { λ x. ⌜ ((o : Store) → filled x (now (out .exit)) ≡ putNew (now (s .entry)) (storeOf o (now (t .entry)) (now (q .entry))) w p (ownIn (now (s .entry)) (storeOf o (now (t .entry)) (now (q .entry))) (w .kind) (c .0)) (filled k (now (out .entry)))) ⌝ }
+{
+    if w.kind == 10 {
+        if is_class_row(s, c) {
+            let r = c.0 - FIRST_CLASS;
+            let done = put_listed(s, t, q, w, p, r, k, out);
+            return put_stored(s, t, q, w, p, word(t, r, 7), done, out);
+        }
+        return put_outside(s, t, q, w, p, c, k, out);
+    }
+    if c.0 < FIRST_CLASS {
+        return k;
+    }
+    put_listed(s, t, q, w, p, c.0 - FIRST_CLASS, k, out)
+}
+
+// The names of class `c`: the inherited, then the own ones that are new. It climbs at most `n` classes.
+pub fn put_names(
+    s: &[u32],
+    t: &[u32],
+    q: &[u32],
+    w: Wanted,
+    n: usize,
+    c: ClassId,
+    k: Written,
+    out: &mut [u32],
+) -> Written
+    ensures { λ x. ⌜ ((o : Store) → filled x (now (out .exit)) ≡ putAll (nameRow (now (s .entry)) (storeOf o (now (t .entry)) (now (q .entry))) w) (namesIn (now (s .entry)) (storeOf o (now (t .entry)) (now (q .entry))) (w .kind) n (c .0)) (filled k (now (out .entry)))) ⌝ }
+{
+    if n == 0 {
+        return k;
+    }
+    let up = parent_of(s, t, c);
+    let p = Passed {
+        class: up.0,
+        left: n - 1,
+    };
+    if p.class == 0 {
+        return put_own(s, t, q, w, p, c, k, out);
+    }
+    let done = put_names(s, t, q, w, n - 1, up, k, out);
+    put_own(s, t, q, w, p, c, done, out)
+}
+
+// How many names class `c` has, or the largest number of a word. Nothing is written: not one row fits.
+pub fn count_names(s: &[u32], t: &[u32], q: &[u32], w: Wanted, n: usize, c: ClassId) -> u32
+    ensures { λ x. ⌜ ((o : Store) → x ≡ min (length (namesIn (now (s .entry)) (storeOf o (now (t .entry)) (now (q .entry))) (w .kind) n (c .0))) 4294967295) ⌝ }
+{
+    let mut none = [0u32; 1];
+    let start = Written { count: 0, slot: 0 };
+    put_names(s, t, q, w, n, c, start, &mut none).slot
+}
