@@ -1,1 +1,3 @@
 mod ListLaws
+mod ChainLaws
+mod EscapeLaws

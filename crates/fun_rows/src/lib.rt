@@ -1,22 +1,22 @@
 // The answer rows of functions, of their literals, and of single rows.
+mod escapes;
+pub mod literals;
+
 ghost use mathlib.Core.Path.{_≡_};
-ghost use mathlib.Core.Bool.{_&&_};
-ghost use mathlib.Core.List.{List, [], _∷_, map};
-ghost use Prim.Native.Nat.{ℕ, _+_, _*_, _≤_};
-ghost use lib.Dec.{eqb};
-ghost use lib.ListN.{length, getD};
-ghost use Rattle.definition.specs.Basics.{concatMap, filter, from};
-ghost use Rattle.definition.specs.Sheet.{child};
+ghost use mathlib.Core.List.{[], _∷_, map};
+ghost use Prim.Native.Nat.{_<_, _≤_};
+ghost use lib.ListN.{length};
+ghost use Rattle.definition.specs.Sheet.{rows};
 ghost use Rattle.definition.specs.Answer.{eight};
-ghost use Rattle.machine.specs.Machine.{cell, chainTo, codeOf, seenIn, listAt, nodeWord};
-ghost use Rattle.machine.specs.Reads.{rowWords, answerRow, meaningOfNode, handsOn, escapingSlots};
+ghost use Rattle.machine.specs.Machine.{chainTo, codeOf, seenIn, nodeWord};
+ghost use Rattle.machine.specs.Reads.{rowWords, answerRow, meaningOfNode};
 ghost use Rattle.after.specs.Rows.{literalRowsIn, functionRowsIn};
 ghost use Rattle.store.specs.Stored.{storeOf};
 ghost use Rattle.sink.specs.Sink.{sink, emit as emitted, emitAll};
-ghost use Rattle.fun_rows.specs.Literals.{LiteralChains, literalChain};
-
+ghost use Rattle.fun_rows.specs.Literals.{LiteralChains};
+use crate::escapes::count_escapes;
+use crate::escapes::emit_escapes;
 use ast::FunId;
-use classes::entry_at;
 use sink::AnswerRow;
 use sink::emit;
 use store::nodes::Store;
@@ -85,7 +85,16 @@ fn emit_captured(s: &[u32], q: &[u32], r: u32, p: u32, k: usize, out: &mut [u32]
 }
 
 // What a literal that stands in function `fun` hands on, in the same order.
-fn emit_sources(s: &[u32], t: &[u32], q: &[u32], r: u32, fun: FunId, p: u32, k: usize, out: &mut [u32]) -> usize
+fn emit_sources(
+    s: &[u32],
+    t: &[u32],
+    q: &[u32],
+    r: u32,
+    fun: FunId,
+    p: u32,
+    k: usize,
+    out: &mut [u32],
+) -> usize
     requires { ⌜ length (now s) ≤ 16384 ⌝ }
     ensures { λ n. ⌜ ((o : Store) → sink n (now (out .exit))
         ≡ emitAll (map (λ y. eight (r ∷ seenIn (now (s .entry)) (meaningOfNode y) (y .two) 0 (fun .0) (storeOf o (now (t .entry)) (now (q .entry))))) (chainTo (now (q .entry)) p)) (sink k (now (out .entry)))) ⌝ }
@@ -108,4 +117,31 @@ pub fn emit_literal(s: &[u32], t: &[u32], q: &[u32], r: u32, k: usize, out: &mut
     let fun = FunId(word(t, r, 1));
     let last = word(t, word(s, r, 2), 6);
     emit_sources(s, t, q, r, fun, last, k, out)
+}
+
+// The rows of function `f`: its counts, what it captures, its escaping slots.
+pub fn emit_function(
+    s: &[u32],
+    t: &[u32],
+    q: &[u32],
+    heads: &[u32],
+    nexts: &[u32],
+    f: u32,
+    k: usize,
+    out: &mut [u32],
+) -> usize
+    requires { ⌜ (length (now s) ≤ 16384) × (f < rows (now s)) × (LiteralChains (now s) (now t) (now heads) (now nexts)) ⌝ }
+    ensures { λ n. ⌜ ((o : Store) → sink n (now (out .exit))
+        ≡ emitAll (map (λ vs. eight (f ∷ vs)) (functionRowsIn (now (s .entry)) (storeOf o (now (t .entry)) (now (q .entry))) f)) (sink k (now (out .entry)))) ⌝ }
+{
+    let last = word(t, f, 6);
+    let x = RowWords {
+        code: 20,
+        one: word(t, f, 5),
+        two: count_nodes(q, last),
+        three: count_escapes(s, t, q, heads, nexts, f),
+    };
+    let counted = emit_words(f, x, k, out);
+    let captured = emit_captured(s, q, f, last, counted, out);
+    emit_escapes(s, t, q, heads, nexts, f, captured, out)
 }

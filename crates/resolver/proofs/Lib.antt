@@ -1,2 +1,3 @@
 mod BufferLaws
 mod OutcomeLaws
+mod ReadyLaws

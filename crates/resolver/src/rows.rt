@@ -1,7 +1,8 @@
 // All answer rows, in rising sheet row.
 ghost use mathlib.Core.Path.{_≡_};
 ghost use mathlib.Core.List.{List, map};
-ghost use Prim.Native.Nat.{ℕ};
+ghost use Prim.Native.Nat.{ℕ, _<_};
+ghost use Rattle.definition.specs.Sheet.{rows};
 ghost use Rattle.after.specs.Rows.{rowsIn, answersIn};
 ghost use Rattle.machine.specs.Reads.{rowWords, answerRow};
 ghost use Rattle.machine.specs.Machine.{cell};
@@ -15,7 +16,7 @@ ghost use Rattle.resolver.specs.Settled.{RowsReady};
 use class_rows::emit_class;
 use fun_rows::emit_literal;
 use fun_rows::emit_row;
-use fun_rows::functions::emit_function;
+use fun_rows::emit_function;
 use store::nodes::Store;
 use tree::words::word;
 
