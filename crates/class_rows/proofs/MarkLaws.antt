@@ -13,10 +13,7 @@ use Rattle.definition.specs.Sheet.{Sheet, kind, rows, is}
 use Rattle.machine.specs.Machine.{cell}
 use Rattle.after.specs.Inherited.{hasChildrenIn}
 use Rattle.class_rows.specs.Names.{ParentMarks, markParent}
-
-or-false : (t : Bool) → (t || false) ≡ t
-or-false true = refl
-or-false false = refl
+use Rattle.class_rows.proofs.NameLaws.{or-false}
 
 or-true : (t : Bool) → (t || true) ≡ true
 or-true true = refl
@@ -61,9 +58,6 @@ mark-one : (s : Sheet) (t marks : List ℕ) (i j : ℕ) → j < length marks
 unfolding markParent
 mark-one s t marks i j l = by-kind (is s 4 i)
   where
-    old : Bool
-    old = not (eqb (getD marks j 0) 0)
-
     by-place : (u : Bool) → eqb (cell t i 1) (256 + j) ≡ u → 256 ≤ cell t i 1 → not (eqb (getD (set marks (cell t i 1 - 256) 1) j 0) 0) ≡ (not (eqb (getD marks j 0) 0) || u)
     by-place true e b =
         let h : cell t i 1 ≡ 256 + j = eqb-true (cell t i 1) (256 + j) e in

@@ -16,7 +16,7 @@ use Rattle.machine.proofs.Lists.{eqb-same, any-append}
 use Rattle.after.specs.Inherited.{isClassRow, parentIn, ownFieldsIn, fieldsIn, methodNamesIn}
 use Rattle.class_rows.specs.Names.{ownIn, namesIn, inherited, newOf}
 
-or-false : (t : Bool) → (t || false) ≡ t
+pub or-false : (t : Bool) → (t || false) ≡ t
 or-false true = refl
 or-false false = refl
 

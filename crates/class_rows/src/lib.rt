@@ -22,13 +22,16 @@ use crate::put::Wanted;
 use crate::put::Written;
 use crate::put::count_names;
 use crate::put::put_names;
-use inherit::parent_of;
 use ast::ClassId;
+use inherit::parent_of;
 use sink::AnswerRow;
 use sink::emit;
 
 // The number of the class of row 0.
 const FIRST_CLASS: u32 = 256;
+
+// The slot of the first field.
+const FIRST_SLOT: u32 = 0;
 
 // 1 if row `r` is marked, else 0.
 fn mark_bit(marks: &[u32], r: u32) -> u32
@@ -90,12 +93,12 @@ pub fn emit_class(
     let head = class_head(s, t, q, marks, r);
     let first = Written {
         count: emit(out, k, head),
-        slot: 0,
+        slot: FIRST_SLOT,
     };
     let fields = put_names(s, t, q, wanted(r, 10), n, c, first, out);
     let second = Written {
         count: fields.count,
-        slot: 0,
+        slot: FIRST_SLOT,
     };
     put_names(s, t, q, wanted(r, 6), n, c, second, out).count
 }

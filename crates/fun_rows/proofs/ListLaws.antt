@@ -2,15 +2,14 @@
 use mathlib.Core.Path.{_≡_, refl, sym, ap, _∙_}
 use mathlib.Core.Bool.{Bool, true, false, not, _&&_}
 use mathlib.Core.List.{List, [], _∷_, _++_, map}
-use Prim.Native.Nat.{ℕ, zero, suc, _+_, _-_, _*_, _<_, _≤_}
+use Prim.Native.Nat.{ℕ, zero, suc, _+_, _-_, _≤_}
 use native.Mathlib.Omega.{arith}
 use native.Mathlib.Numerals.{sub-one}
 use lib.Dec.{eqb}
 use lib.ListN.{length}
-use Rattle.definition.specs.Basics.{if_then_else_, bit, place}
+use Rattle.definition.specs.Basics.{if_then_else_}
 use Rattle.definition.specs.Sheet.{Sheet, is, b, child}
-use Rattle.definition.specs.Meaning.{Meaning, nothing, function, class, global, toplevel, variable, isVariable, ownerOf, rowOf}
-use Rattle.definition.specs.Slots.{isMutable}
+use Rattle.definition.specs.Meaning.{Meaning, nothing, function, class, global, toplevel, variable, isVariable, ownerOf}
 use Rattle.definition.specs.Answer.{eight}
 use Rattle.machine.specs.Machine.{Store, Node, cell, nodeWord, nodeAt, previous, chainTo, fourWords, codeOf, seenIn, listAt}
 use Rattle.machine.specs.Reads.{answerRow, meaningOfNode}

@@ -1,3 +1,6 @@
 mod BufferLaws
 mod OutcomeLaws
 mod ReadyLaws
+mod RowLaws
+mod AnswerLaws
+mod ScratchLaws

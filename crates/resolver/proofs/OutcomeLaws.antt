@@ -1,29 +1,29 @@
 -- The answer of a sheet, question by question, and the words that go with it.
 use mathlib.Core.Path.{_≡_, refl, sym, ap, subst, _∙_}
-use mathlib.Core.Bool.{Bool, true, false, not, _&&_}
-use mathlib.Core.List.{List, [], _∷_, _++_}
-use Prim.Native.Nat.{ℕ, zero, suc, _+_, _-_, _*_, _/_, _<_, _≤_, min}
+use mathlib.Core.Bool.{Bool, true, false, not}
+use mathlib.Core.List.{List, [], _++_}
+use Prim.Native.Nat.{ℕ, _+_, _-_, _*_, _<_, _≤_}
 use native.Mathlib.Omega.{arith}
-use lib.Dec.{T, eqb, leb, ltb, ltb→lt}
-use lib.ListN.{length, take, drop, replicate, List·getD-eq-default}
-use borrow.Author.Tests.{eq-eqb, ne-eqb, le-leb, lt-leb, ltb-true, ltb-false}
+use lib.Dec.{ltb, ltb→lt}
+use lib.ListN.{length, replicate, List·getD-eq-default}
+use borrow.Author.Tests.{ne-eqb, le-leb, lt-leb, ltb-true, ltb-false}
 use Rattle.definition.specs.Basics.{if_then_else_, concatMap}
 use Rattle.definition.specs.Sheet.{Sheet, file, line, column, rows}
 use Rattle.definition.specs.Names.{namesFit, nameCount}
 use Rattle.definition.specs.Format.{sheetFits, depthsFit}
 use Rattle.definition.specs.Scope.{history}
 use Rattle.definition.specs.Slots.{finalGlobals}
-use Rattle.definition.specs.Question.{Refusal, refusal}
+use Rattle.definition.specs.Question.{refusal}
 use Rattle.definition.specs.Answer.{answers}
 use Rattle.definition.specs.Outcome.{Outcome, rowsFit, refused, refusedAt, answered, asked, outcome, buffer}
 use Rattle.definition.specs.Claims.{Demand3}
 use Rattle.definition.proofs.Lists.Tests.{T-true}
-use Rattle.definition.proofs.Format.Accepted.{Eights, eights-answers, good-outcome}
+use Rattle.definition.proofs.Format.Accepted.{good-outcome}
 use Rattle.definition.proofs.Theorems.{closure-claim}
 use Rattle.machine.specs.Reads.{PastFour}
 use Rattle.after.proofs.Ranges.{past-facts, rows-whole}
 use Rattle.names.proofs.Question.{fit-small}
-use Rattle.sheet.specs.Questions.{firstFour, formatQuestion}
+use Rattle.sheet.specs.Questions.{firstFour}
 use Rattle.sheet.proofs.Asking.{outcome-of}
 use Rattle.lexer.specs.SrcPos.{packed, fileOf, lineOf, columnOf}
 use Rattle.lexer.proofs.Laws.{file-none, line-none, column-none, file-packed, line-packed, column-packed}

@@ -14,8 +14,8 @@ ghost use Rattle.resolver.specs.Settled.{Settled, Scratch, RowsReady, Ac
 
 mod rows;
 
-use class_rows::marks::mark_parents;
 use crate::rows::emit_rows;
+use class_rows::marks::mark_parents;
 use fun_rows::literals::link_literals;
 use inherit::later_refusal;
 use lexer::SrcPos;
@@ -64,7 +64,17 @@ fn refused_at(s: &[u32], number: u32, r: u32, name: u32) -> Answer
 }
 
 // The answer rows of a sheet that no question refuses. Question 22: do they fit?
-fn write_answer(s: &[u32], t: &[u32], q: &[u32], heads: &[u32], nexts: &[u32], parents: &[u32], o: Store, globals: u32, out: &mut [u32]) -> Answer
+fn write_answer(
+    s: &[u32],
+    t: &[u32],
+    q: &[u32],
+    heads: &[u32],
+    nexts: &[u32],
+    parents: &[u32],
+    o: Store,
+    globals: u32,
+    out: &mut [u32],
+) -> Answer
     requires { ⌜ (RowsReady (now s) (storeOf o (now t) (now q)) (now heads) (now nexts) (now parents)) × (Accepted (now s) (storeOf o (now t) (now q)) globals) ⌝ }
     ensures { λ x. ⌜ Settled (now (s .entry)) (length (now (out .entry))) x (now (out .exit)) ⌝ }
 {
@@ -84,7 +94,18 @@ fn write_answer(s: &[u32], t: &[u32], q: &[u32], heads: &[u32], nexts: &[u32], p
 }
 
 // What follows a walk that no question refused: inheritance and constructor calls, then the answer rows.
-fn finish(s: &[u32], v: &[u32], t: &[u32], q: &[u32], w: Walk, marks: &mut [u32], heads: &mut [u32], nexts: &mut [u32], parents: &mut [u32], out: &mut [u32]) -> Answer
+fn finish(
+    s: &[u32],
+    v: &[u32],
+    t: &[u32],
+    q: &[u32],
+    w: Walk,
+    marks: &mut [u32],
+    heads: &mut [u32],
+    nexts: &mut [u32],
+    parents: &mut [u32],
+    out: &mut [u32],
+) -> Answer
     requires { ⌜ (PastFour (now s)) × (Walked (now s) (stateOf w (now v) (now t) (now q))) × (w .number ≡ 0) × (Scratch (now s) (now marks) (now heads) (now nexts) (now parents)) ⌝ }
     ensures { λ x. ⌜ Settled (now (s .entry)) (length (now (out .entry))) x (now (out .exit)) ⌝ }
 {
@@ -98,4 +119,103 @@ fn finish(s: &[u32], v: &[u32], t: &[u32], q: &[u32], w: Walk, marks: &mut [u32]
     link_literals(s, t, heads, nexts);
     mark_parents(s, t, parents);
     write_answer(s, t, q, heads, nexts, parents, o, e.globals, out)
+}
+
+// The walk, and what follows it, in lent scratch space.
+fn resolve_in(
+    s: &[u32],
+    classes: &mut [u32],
+    v: &mut [u32],
+    t: &mut [u32],
+    q: &mut [u32],
+    marks: &mut [u32],
+    heads: &mut [u32],
+    nexts: &mut [u32],
+    parents: &mut [u32],
+    out: &mut [u32],
+) -> Answer
+    requires { ⌜ (PastFour (now s)) × (Lent (now s) (now classes) (now v) (now t) (now q)) × (Scratch (now s) (now marks) (now heads) (now nexts) (now parents)) ⌝ }
+    ensures { λ x. ⌜ Settled (now (s .entry)) (length (now (out .entry))) x (now (out .exit)) ⌝ }
+{
+    let w = resolve_units(s, classes, v, t, q);
+    if w.number != 0 {
+        clear(out);
+        return refused_at(s, w.number, w.at, w.name);
+    }
+    finish(s, v, t, q, w, marks, heads, nexts, parents, out)
+}
+
+// A sheet past the first four questions. The walk's scratch space: a class for each of 2,048 rows, 7,204 open entries of five words, a
+// table of eight words a row, 43,008 nodes of four.
+fn resolve_past(s: &[u32], out: &mut [u32]) -> Answer
+    requires { ⌜ PastFour (now s) ⌝ }
+    ensures { λ x. ⌜ Settled (now (s .entry)) (length (now (out .entry))) x (now (out .exit)) ⌝ }
+{
+    let mut classes = [0u32; 2048];
+    let mut v = [0u32; 36020];
+    let mut t = [0u32; 16384];
+    let mut q = [0u32; 172032];
+    resolve_with(s, &mut classes, &mut v, &mut t, &mut q, out)
+}
+
+// The scratch space of what follows the walk.
+fn resolve_with(
+    s: &[u32],
+    classes: &mut [u32],
+    v: &mut [u32],
+    t: &mut [u32],
+    q: &mut [u32],
+    out: &mut [u32],
+) -> Answer
+    requires { ⌜ (PastFour (now s)) × (now classes ≡ replicate 2048 0) × (now v ≡ replicate 36020 0) × (now t ≡ replicate 16384 0) × (now q ≡ replicate 172032 0) ⌝ }
+    ensures { λ x. ⌜ Settled (now (s .entry)) (length (now (out .entry))) x (now (out .exit)) ⌝ }
+{
+    let mut marks = [0u32; 2048];
+    let mut heads = [0u32; 2048];
+    let mut nexts = [0u32; 2048];
+    let mut parents = [0u32; 2048];
+    resolve_scratch(
+        s,
+        classes,
+        v,
+        t,
+        q,
+        &mut marks,
+        &mut heads,
+        &mut nexts,
+        &mut parents,
+        out,
+    )
+}
+
+fn resolve_scratch(
+    s: &[u32],
+    classes: &mut [u32],
+    v: &mut [u32],
+    t: &mut [u32],
+    q: &mut [u32],
+    marks: &mut [u32],
+    heads: &mut [u32],
+    nexts: &mut [u32],
+    parents: &mut [u32],
+    out: &mut [u32],
+) -> Answer
+    requires { ⌜ (PastFour (now s)) × (now classes ≡ replicate 2048 0) × (now v ≡ replicate 36020 0) × (now t ≡ replicate 16384 0) × (now q ≡ replicate 172032 0) ⌝ }
+    requires { ⌜ (now marks ≡ replicate 2048 0) × (now heads ≡ replicate 2048 0) × (now nexts ≡ replicate 2048 0) × (now parents ≡ replicate 2048 0) ⌝ }
+    ensures { λ x. ⌜ Settled (now (s .entry)) (length (now (out .entry))) x (now (out .exit)) ⌝ }
+{
+    resolve_in(s, classes, v, t, q, marks, heads, nexts, parents, out)
+}
+
+// Resolves a sheet with its names into the lent answer words. For every input the answer and every word are those of document 01, and
+// where no question gets a no, the closure claim holds of the rows in the words.
+pub fn resolve(sheet: &[u32], names: &[u8], out: &mut [u32]) -> Answer
+    ensures { λ x. ⌜ Answered (now (sheet .entry)) (now (names .entry)) (length (now (out .entry))) x (now (out .exit)) ⌝ }
+{
+    let no = first_four(sheet, names);
+    if no != 0 {
+        clear(out);
+        return refused(no);
+    }
+    resolve_past(sheet, out)
 }

@@ -12,11 +12,10 @@ ghost use lib.Dec.{eqb};
 ghost use Rattle.store.specs.Stored.{storeOf};
 ghost use Rattle.sink.specs.Sink.{sink, emitAll};
 ghost use Rattle.resolver.specs.Settled.{RowsReady};
-
 use class_rows::emit_class;
+use fun_rows::emit_function;
 use fun_rows::emit_literal;
 use fun_rows::emit_row;
-use fun_rows::emit_function;
 use store::nodes::Store;
 use tree::words::word;
 
@@ -41,7 +40,18 @@ fn emit_member(t: &[u32], r: u32, k: usize, out: &mut [u32]) -> usize
 }
 
 // The answer rows of sheet row `r`, by its kind.
-fn emit_of(s: &[u32], t: &[u32], q: &[u32], heads: &[u32], nexts: &[u32], parents: &[u32], o: Store, r: u32, k: usize, out: &mut [u32]) -> usize
+fn emit_of(
+    s: &[u32],
+    t: &[u32],
+    q: &[u32],
+    heads: &[u32],
+    nexts: &[u32],
+    parents: &[u32],
+    o: Store,
+    r: u32,
+    k: usize,
+    out: &mut [u32],
+) -> usize
     requires { ⌜ (RowsReady (now s) (storeOf o (now t) (now q)) (now heads) (now nexts) (now parents)) × (r < rows (now s)) ⌝ }
     ensures { λ n. ⌜ sink n (now (out .exit)) ≡ emitAll (rowsIn (now (s .entry)) (storeOf o (now (t .entry)) (now (q .entry))) r) (sink k (now (out .entry))) ⌝ }
 {
@@ -60,7 +70,16 @@ fn emit_of(s: &[u32], t: &[u32], q: &[u32], heads: &[u32], nexts: &[u32], parent
 }
 
 // The answer rows of all sheet rows; their number, or one more than fit.
-pub fn emit_rows(s: &[u32], t: &[u32], q: &[u32], heads: &[u32], nexts: &[u32], parents: &[u32], o: Store, out: &mut [u32]) -> usize
+pub fn emit_rows(
+    s: &[u32],
+    t: &[u32],
+    q: &[u32],
+    heads: &[u32],
+    nexts: &[u32],
+    parents: &[u32],
+    o: Store,
+    out: &mut [u32],
+) -> usize
     requires { ⌜ RowsReady (now s) (storeOf o (now t) (now q)) (now heads) (now nexts) (now parents) ⌝ }
     ensures { λ n. ⌜ sink n (now (out .exit)) ≡ emitAll (answersIn (now (s .entry)) (storeOf o (now (t .entry)) (now (q .entry)))) (sink 0 (now (out .entry))) ⌝ }
 {

@@ -1,119 +1,93 @@
+use Prim.Native.Nat.{ℕ}
+use mathlib.Core.List.{List, _∷_, map}
+use Rattle.definition.specs.Sheet.{kind}
+use Rattle.definition.proofs.Lists.Tests.{eqb-of}
+use Rattle.definition.specs.Answer.{eight}
+use mathlib.Core.Path.{sym, ap, _∙_}
+use Rattle.sink.specs.Sink.{sink, emitAll}
+use Rattle.store.specs.Stored.{storeOf}
+use Rattle.resolver.proofs.RowLaws.{rows-let, rows-host, rows-instance, rows-identifier, rows-member, rows-literal, rows-function, rows-class, rows-none}
 use borrow.Author.Needs.{needs}
 use Rattle.resolver.proofs.rows.emit_of.Statement.{statement}
 use Rattle.resolver.proofs.rows.emit_of.Tie as tie
-use Rattle.resolver.proofs.rows.emit_of.Reads as reads
-use Rattle.resolver.proofs.rows.emit_of.Lts as lts
-use Rattle.class_rows.proofs.emit_class.Reads as emit-class-reads
-use Rattle.fun_rows.proofs.emit_function.Reads as emit-function-reads
-use Rattle.fun_rows.proofs.emit_literal.Reads as emit-literal-reads
-use Rattle.fun_rows.proofs.emit_row.Reads as emit-row-reads
-use Rattle.resolver.proofs.rows.emit_member.Reads as emit-member-reads
-use Rattle.resolver.proofs.rows.emit_shown.Reads as emit-shown-reads
-use Rattle.tree.proofs.words.word.Reads as word-reads
 
--- src/rows.rt:48:9
 word-requires : tie.Need-word-requires
 word-requires c κs = search needs
 
--- src/rows.rt:50:15
 emit-row-requires : tie.Need-emit-row-requires
 emit-row-requires c κs = search needs
 
--- src/rows.rt:51:15
 emit-row-requires-2 : tie.Need-emit-row-requires-2
 emit-row-requires-2 c κs = search needs
 
--- src/rows.rt:52:15
 emit-row-requires-3 : tie.Need-emit-row-requires-3
 emit-row-requires-3 c κs = search needs
 
--- src/rows.rt:53:15
 emit-shown-requires : tie.Need-emit-shown-requires
 emit-shown-requires c κs = search needs
 
--- src/rows.rt:54:15
 emit-member-requires : tie.Need-emit-member-requires
 emit-member-requires c κs = search needs
 
--- src/rows.rt:55:15
 emit-literal-requires : tie.Need-emit-literal-requires
-emit-literal-requires c κs = search needs
+emit-literal-requires c κs = c .before .before .before .before .before .before .before .before .before .before .pre .0 .small
 
--- src/rows.rt:56:14
 emit-function-requires : tie.Need-emit-function-requires
-emit-function-requires c κs = search needs
+emit-function-requires c κs = (c .before .before .before .before .before .before .before .before .before .before .pre .0 .small, c .before .before .before .before .before .before .before .before .before .before .pre .1, c .before .before .before .before .before .before .before .before .before .before .pre .0 .chains)
 
--- src/rows.rt:57:14
 emit-class-requires : tie.Need-emit-class-requires
-emit-class-requires c κs = ?
+emit-class-requires c κs = let t = eqb-of (kind (c .before .before .before .before .before .before .before .before .before .before .args .s .now) (c .before .before .before .before .before .before .before .before .before .before .args .r)) 4 (sym (c .before .before .word .ensures) ∙ c .before .match .keys8) in record { row = c .before .before .before .before .before .before .before .before .before .before .pre .1; short = c .before .before .before .before .before .before .before .before .before .before .pre .0 .small; marked = c .before .before .before .before .before .before .before .before .before .before .pre .0 .marked; fields = c .before .before .before .before .before .before .before .before .before .before .pre .0 .fields (c .before .before .before .before .before .before .before .before .before .before .args .r) t; methods = c .before .before .before .before .before .before .before .before .before .before .pre .0 .methods (c .before .before .before .before .before .before .before .before .before .before .args .r) t }
 
--- src/rows.rt:44:1
 same-length : tie.Need-same-length
 same-length c = search needs
 
--- src/rows.rt:44:1
 returns : tie.Need-returns
-returns c = ?
+returns c = rows-let (c .before .before .before .before .before .before .before .before .before .before .before .before .before .args .s .now) (storeOf (c .before .before .before .before .before .before .before .before .before .before .before .before .before .args .o) (c .before .before .before .before .before .before .before .before .before .before .before .before .before .args .t .now) (c .before .before .before .before .before .before .before .before .before .before .before .before .before .args .q .now)) (c .before .before .before .before .before .before .before .before .before .before .before .before .before .args .r) (sink (c .before .before .before .before .before .before .before .before .before .before .before .before .before .args .k) (c .before .before .before .before .before .before .before .before .before .before .before .before .before .args .out .now)) (sym (c .before .before .before .before .before .word .ensures) ∙ c .before .before .before .before .match .keys1) (c .before .before .emit-row .ensures)
 
--- src/rows.rt:44:1
 same-length-2 : tie.Need-same-length-2
 same-length-2 c = search needs
 
--- src/rows.rt:44:1
 returns-2 : tie.Need-returns-2
-returns-2 c = ?
+returns-2 c = rows-host (c .before .before .before .before .before .before .before .before .before .before .before .before .before .args .s .now) (storeOf (c .before .before .before .before .before .before .before .before .before .before .before .before .before .args .o) (c .before .before .before .before .before .before .before .before .before .before .before .before .before .args .t .now) (c .before .before .before .before .before .before .before .before .before .before .before .before .before .args .q .now)) (c .before .before .before .before .before .before .before .before .before .before .before .before .before .args .r) (sink (c .before .before .before .before .before .before .before .before .before .before .before .before .before .args .k) (c .before .before .before .before .before .before .before .before .before .before .before .before .before .args .out .now)) (sym (c .before .before .before .before .before .word .ensures) ∙ c .before .before .before .before .match .keys2) (c .before .before .emit-row2 .ensures)
 
--- src/rows.rt:44:1
 same-length-3 : tie.Need-same-length-3
 same-length-3 c = search needs
 
--- src/rows.rt:44:1
 returns-3 : tie.Need-returns-3
-returns-3 c = ?
+returns-3 c = rows-instance (c .before .before .before .before .before .before .before .before .before .before .before .before .before .args .s .now) (storeOf (c .before .before .before .before .before .before .before .before .before .before .before .before .before .args .o) (c .before .before .before .before .before .before .before .before .before .before .before .before .before .args .t .now) (c .before .before .before .before .before .before .before .before .before .before .before .before .before .args .q .now)) (c .before .before .before .before .before .before .before .before .before .before .before .before .before .args .r) (sink (c .before .before .before .before .before .before .before .before .before .before .before .before .before .args .k) (c .before .before .before .before .before .before .before .before .before .before .before .before .before .args .out .now)) (sym (c .before .before .before .before .before .word .ensures) ∙ c .before .before .before .before .match .keys3) (c .before .before .emit-row3 .ensures)
 
--- src/rows.rt:44:1
 same-length-4 : tie.Need-same-length-4
 same-length-4 c = search needs
 
--- src/rows.rt:44:1
 returns-4 : tie.Need-returns-4
-returns-4 c = ?
+returns-4 c = rows-identifier (c .before .before .before .before .before .before .before .before .before .before .before .before .before .args .s .now) (storeOf (c .before .before .before .before .before .before .before .before .before .before .before .before .before .args .o) (c .before .before .before .before .before .before .before .before .before .before .before .before .before .args .t .now) (c .before .before .before .before .before .before .before .before .before .before .before .before .before .args .q .now)) (c .before .before .before .before .before .before .before .before .before .before .before .before .before .args .r) (sink (c .before .before .before .before .before .before .before .before .before .before .before .before .before .args .k) (c .before .before .before .before .before .before .before .before .before .before .before .before .before .args .out .now)) (sym (c .before .before .before .before .before .word .ensures) ∙ c .before .before .before .before .match .keys4) (c .before .before .emit-shown .ensures)
 
--- src/rows.rt:44:1
 same-length-5 : tie.Need-same-length-5
 same-length-5 c = search needs
 
--- src/rows.rt:44:1
 returns-5 : tie.Need-returns-5
-returns-5 c = ?
+returns-5 c = rows-member (c .before .before .before .before .before .before .before .before .before .before .before .before .before .args .s .now) (storeOf (c .before .before .before .before .before .before .before .before .before .before .before .before .before .args .o) (c .before .before .before .before .before .before .before .before .before .before .before .before .before .args .t .now) (c .before .before .before .before .before .before .before .before .before .before .before .before .before .args .q .now)) (c .before .before .before .before .before .before .before .before .before .before .before .before .before .args .r) (sink (c .before .before .before .before .before .before .before .before .before .before .before .before .before .args .k) (c .before .before .before .before .before .before .before .before .before .before .before .before .before .args .out .now)) (sym (c .before .before .before .before .before .word .ensures) ∙ c .before .before .before .before .match .keys5) (c .before .before .emit-member .ensures)
 
--- src/rows.rt:44:1
 same-length-6 : tie.Need-same-length-6
 same-length-6 c = search needs
 
--- src/rows.rt:44:1
 returns-6 : tie.Need-returns-6
-returns-6 c = ?
+returns-6 c = rows-literal (c .before .before .before .before .before .before .before .before .before .before .before .before .before .args .s .now) (storeOf (c .before .before .before .before .before .before .before .before .before .before .before .before .before .args .o) (c .before .before .before .before .before .before .before .before .before .before .before .before .before .args .t .now) (c .before .before .before .before .before .before .before .before .before .before .before .before .before .args .q .now)) (c .before .before .before .before .before .before .before .before .before .before .before .before .before .args .r) (sink (c .before .before .before .before .before .before .before .before .before .before .before .before .before .args .k) (c .before .before .before .before .before .before .before .before .before .before .before .before .before .args .out .now)) (sym (c .before .before .before .before .before .word .ensures) ∙ c .before .before .before .before .match .keys6) (c .before .before .emit-literal .ensures (c .before .before .before .before .before .before .before .before .before .before .before .before .before .args .o))
 
--- src/rows.rt:44:1
 same-length-7 : tie.Need-same-length-7
 same-length-7 c = search needs
 
--- src/rows.rt:44:1
 returns-7 : tie.Need-returns-7
-returns-7 c = ?
+returns-7 c = rows-function (c .before .before .before .before .before .before .before .before .before .before .before .before .before .args .s .now) (storeOf (c .before .before .before .before .before .before .before .before .before .before .before .before .before .args .o) (c .before .before .before .before .before .before .before .before .before .before .before .before .before .args .t .now) (c .before .before .before .before .before .before .before .before .before .before .before .before .before .args .q .now)) (c .before .before .before .before .before .before .before .before .before .before .before .before .before .args .r) (sink (c .before .before .before .before .before .before .before .before .before .before .before .before .before .args .k) (c .before .before .before .before .before .before .before .before .before .before .before .before .before .args .out .now)) (sym (c .before .before .before .before .before .word .ensures) ∙ c .before .before .before .before .match .keys7) (c .before .before .emit-function .ensures (c .before .before .before .before .before .before .before .before .before .before .before .before .before .args .o))
 
--- src/rows.rt:44:1
 same-length-8 : tie.Need-same-length-8
 same-length-8 c = search needs
 
--- src/rows.rt:44:1
 returns-8 : tie.Need-returns-8
-returns-8 c = ?
+returns-8 c = let e = sym (c .before .before .before .before .before .word .ensures) ∙ c .before .before .before .before .match .keys8 in rows-class (c .before .before .before .before .before .before .before .before .before .before .before .before .before .args .s .now) (storeOf (c .before .before .before .before .before .before .before .before .before .before .before .before .before .args .o) (c .before .before .before .before .before .before .before .before .before .before .before .before .before .args .t .now) (c .before .before .before .before .before .before .before .before .before .before .before .before .before .args .q .now)) (c .before .before .before .before .before .before .before .before .before .before .before .before .before .args .r) (sink (c .before .before .before .before .before .before .before .before .before .before .before .before .before .args .k) (c .before .before .before .before .before .before .before .before .before .before .before .before .before .args .out .now)) e (c .before .before .emit-class .ensures (c .before .before .before .before .before .before .before .before .before .before .before .before .before .args .o) ∙ ap (λ (l : List (List ℕ)). emitAll (map (λ vs. eight (c .before .before .before .before .before .before .before .before .before .before .before .before .before .args .r ∷ vs)) l) (sink (c .before .before .before .before .before .before .before .before .before .before .before .before .before .args .k) (c .before .before .before .before .before .before .before .before .before .before .before .before .before .args .out .now))) (c .before .before .before .before .before .before .before .before .before .before .before .before .before .pre .0 .named (c .before .before .before .before .before .before .before .before .before .before .before .before .before .args .r) (eqb-of (kind (c .before .before .before .before .before .before .before .before .before .before .before .before .before .args .s .now) (c .before .before .before .before .before .before .before .before .before .before .before .before .before .args .r)) 4 e)))
 
--- src/rows.rt:44:1
 returns-9 : tie.Need-returns-9
-returns-9 c = ?
+returns-9 c = rows-none (c .before .before .before .before .before .before .before .before .before .args .s .now) (storeOf (c .before .before .before .before .before .before .before .before .before .args .o) (c .before .before .before .before .before .before .before .before .before .args .t .now) (c .before .before .before .before .before .before .before .before .before .args .q .now)) (c .before .before .before .before .before .before .before .before .before .args .r) (sink (c .before .before .before .before .before .before .before .before .before .args .k) (c .before .before .before .before .before .before .before .before .before .args .out .now)) (λ e. c .match .rest .0 .0 .0 .0 .0 .0 .0 .1 (c .before .word .ensures ∙ e)) (λ e. c .match .rest .0 .0 .0 .0 .0 .0 .1 (c .before .word .ensures ∙ e)) (λ e. c .match .rest .0 .0 .0 .0 .0 .1 (c .before .word .ensures ∙ e)) (λ e. c .match .rest .0 .0 .0 .0 .1 (c .before .word .ensures ∙ e)) (λ e. c .match .rest .0 .0 .0 .1 (c .before .word .ensures ∙ e)) (λ e. c .match .rest .0 .0 .1 (c .before .word .ensures ∙ e)) (λ e. c .match .rest .0 .1 (c .before .word .ensures ∙ e)) (λ e. c .match .rest .1 (c .before .word .ensures ∙ e))
 
 pub emit-of-spec : {M : Type 1} → statement M
 emit-of-spec =
