@@ -1,0 +1,26 @@
+-- What callers cite of the contract. Assumes nothing.
+use mathlib.Core.Path.{_≡_, sym, ap, _∙_}
+use mathlib.Core.List.{List, _++_}
+use Prim.Native.Nat.{ℕ, _+_, _<_, _≤_}
+use native.Mathlib.Decide.{decLe}
+use native.Mathlib.Omega.{arith}
+use lib.ListN.{length, take, drop, length-append}
+use lib.Seq.{take-at, drop-at}
+use Rattle.definition.specs.Outcome.{printed}
+use Rattle.resolve_text.specs.Report.{Printed}
+
+module _ (sheet names before : List ℕ) (n : ℕ) (after : List ℕ) (h : Printed sheet names before n after) where
+  -- the first n bytes are what the program prints, and those after them stay
+  pub text-start : 165969 ≤ length before → take n after ≡ printed sheet names
+  text-start l = ap (take n) (h .text l) ∙ take-at (printed sheet names) (drop n before) n (sym (h .count l))
+
+  pub text-rest : 165969 ≤ length before → drop n after ≡ drop n before
+  text-rest l = ap (drop n) (h .text l) ∙ drop-at (printed sheet names) (drop n before) n (sym (h .count l))
+
+  -- they lie in the text
+  pub text-within : n ≤ length after
+  text-within = go (decLe 165969 (length before))
+    where
+      go : Dec (165969 ≤ length before) → n ≤ length after
+      go (yes l) = omega (arith, h .count l, ap length (h .text l) ∙ length-append (printed sheet names) (drop n before))
+      go (no l) = omega (arith, h .no-count (omega arith))

@@ -1,0 +1,4 @@
+-- What callers cite is in Laws and Longer; the rest are steps of the proofs.
+pub mod Laws
+pub mod Longer
+mod ReportLaws

@@ -1,0 +1,29 @@
+-- What the routine from text to text promises, and its parts.
+use mathlib.Core.Path.{_≡_}
+use mathlib.Core.List.{List, [], _∷_, _++_}
+use Prim.Native.Nat.{ℕ, _+_, _*_, _<_, _≤_}
+use lib.ListN.{length, take, drop}
+use Rattle.definition.specs.Basics.{concatMap}
+use Rattle.definition.specs.Sheet.{Sheet}
+use Rattle.definition.specs.Outcome.{outcome, report, printed}
+use Rattle.lexer.specs.SrcPos.{fileOf, lineOf, columnOf}
+use Rattle.resolver.specs.declared.Answer.{Answer}
+
+-- the report's first row
+unfoldable pub firstRow : Answer → List ℕ
+firstRow x =
+    x .number ∷ fileOf (x .pos .0) ∷ lineOf (x .pos .0) ∷ columnOf (x .pos .0) ∷ x .name ∷ x .rows ∷ x .globals ∷ 0 ∷ []
+
+-- The first n rows of the words w are the report of sheet s and the bytes ns of its names.
+pub record Reported (s : Sheet) (ns : List ℕ) (n : ℕ) (w : List ℕ) : Type 0 where
+  pub count : n ≡ length (report (outcome s ns 16384))
+  pub words : take (8 * n) w ≡ concatMap (λ r. r) (report (outcome s ns 16384))
+
+-- Of the texts of sheet.txt and names.txt and a lent text, which then is `after`:
+pub record Printed (sheet names before : List ℕ) (n : ℕ) (after : List ℕ) : Type 0 where
+  -- where 2,049 lines are lent, it begins with what the program prints, n bytes, and the rest is unchanged;
+  pub count : 165969 ≤ length before → n ≡ length (printed sheet names)
+  pub text : 165969 ≤ length before → after ≡ printed sheet names ++ drop n before
+  -- where fewer are lent, n is 0 and nothing is written.
+  pub no-count : length before < 165969 → n ≡ 0
+  pub no-text : length before < 165969 → after ≡ before
