@@ -1,0 +1,144 @@
+"""replay_cases.py ORACLE COUNT SEED OUTDIR
+
+Makes COUNT cases, at least some 160, for the program crates/replay and writes OUTDIR/stdin, the cases, and OUTDIR/stdout,
+what the program must print of them, out of the oracle's answers. A case is two numbers in ten columns each, the bytes of the
+sheet's text and of its names, and then these bytes.
+
+The cases are the samples of document 01, the small programs of directed.py, some sheets at the limits, and random sheets of
+at most MOST_ROWS rows, some with leading zeros in their numbers; of each question from 5 to 21 at least LEAST. Sheets that
+questions 1 to 4 refuse are left out: the oracle is not asked about them. Prints the counts by question and by kind of row.
+"""
+import random
+import sys
+from collections import Counter
+from pathlib import Path
+
+import directed
+from expected import LENT, all_printed
+from format_check import first_no, words_of_text
+from limits import limits
+from question_cases import cases_of
+from sheets import Sheet, generate
+from tree import text_of
+
+SAMPLES = Path(__file__).resolve().parents[2] / "crates/question_tests/stdin"
+LIMITS = ["header alone", "depth 64", "255-byte name", "32,768 bytes of names", "1,024 names", "2,080 answer rows"]
+MOST_ROWS = 60
+LEAST = 5
+BATCH = 200
+
+
+class Case:
+    """A sheet's text and its names; `out` is what the program must print."""
+
+    def __init__(self, what, text, names):
+        self.what = what
+        self.text = text
+        self.names = bytes(names)
+        self.words = words_of_text(text)
+        self.out = None
+
+    @property
+    def question(self):
+        return int(self.out[:10])
+
+    @property
+    def kinds(self):
+        return self.words[::8]
+
+    def input(self):
+        return b"%10d%10d" % (len(self.text), len(self.names)) + self.text + self.names
+
+
+def case_of(what, words, names):
+    return Case(what, text_of([words[i:i + 8] for i in range(0, len(words), 8)]).encode(), names)
+
+
+def expect(oracle, cases):
+    outs = all_printed(oracle, [(case.words, case.names, LENT) for case in cases])
+    for case, rows in zip(cases, outs):
+        case.out = text_of(rows).encode()
+    return cases
+
+
+def with_zeros(rng, text):
+    """Some numbers of a sheet's text with zeros for spaces before them."""
+    text = bytearray(text)
+    for _ in range(rng.randrange(1, 9)):
+        field = 81 * rng.randrange(len(text) // 81) + 10 * rng.randrange(8)
+        number = text[field:field + 10].strip()
+        text[field:field + 10] = number.rjust(rng.choice([10, len(number)]), b"0").rjust(10)
+    return bytes(text)
+
+
+def samples():
+    """The samples that pass questions 1 to 4."""
+    for what, words, names in cases_of(SAMPLES.read_text()):
+        if what[:1] == "S" and what[1:].isdigit() and first_no(words, names) == 0:
+            yield case_of(f"sample {what}", words, names)
+
+
+def directed_cases():
+    """Each program with its rows in one order."""
+    for i, (what, root) in enumerate(directed.programs()):
+        sheet = Sheet(root, directed.NAMES, random.Random(i), ("preorder", "random", "runs")[i % 3])
+        yield case_of(what, sheet.words, sheet.names)
+
+
+def limit_cases():
+    sheets = limits()
+    return [case_of(what, *sheets[what]) for what in LIMITS]
+
+
+def random_cases(rng, seeds, sizes, most_rows):
+    for seed in seeds:
+        sheet = generate(seed, rng.choice(sizes), 0.85)
+        if len(sheet.rows) <= most_rows:
+            case = case_of(f"sheet {seed}", sheet.words, sheet.names)
+            if rng.random() < 0.1:
+                case.text = with_zeros(rng, case.text)
+            yield case
+
+
+def wanted_counts(cases, count):
+    """How many random cases of each question are to be added; those that the questions leave resolve."""
+    have = Counter(case.question for case in cases)
+    left = count - len(cases)
+    wanted = {question: max(LEAST - have[question], left // 40, 0) for question in range(5, 22)}
+    wanted[0] = max(0, left - sum(wanted.values()))
+    return wanted
+
+
+def make_cases(oracle, count, seed):
+    rng = random.Random(seed)
+    cases = expect(oracle, [*samples(), *directed_cases(), *limit_cases()])
+    wanted = wanted_counts(cases, count)
+    first = seed * 1_000_000
+    while any(wanted.values()):
+        for case in expect(oracle, list(random_cases(rng, range(first, first + BATCH), [8, 15, 25, 40], MOST_ROWS))):
+            if wanted.get(case.question):
+                wanted[case.question] -= 1
+                cases.append(case)
+        first += BATCH
+    rng.shuffle(cases)
+    return cases
+
+
+def summary(cases):
+    questions = Counter(case.question for case in cases)
+    kinds = Counter(kind for case in cases for kind in case.kinds)
+    for name, counts in (("question", questions), ("kind", kinds)):
+        print(*(f"{name} {number}: {counts[number]}" for number in sorted(counts)), sep="\n")
+    print(f"{len(cases)} cases")
+
+
+def main():
+    oracle, count, seed, folder = sys.argv[1], int(sys.argv[2]), int(sys.argv[3]), Path(sys.argv[4])
+    cases = make_cases(oracle, count, seed)
+    (folder / "stdin").write_bytes(b"".join(case.input() for case in cases))
+    (folder / "stdout").write_bytes(b"".join(case.out for case in cases))
+    summary(cases)
+
+
+if __name__ == "__main__":
+    main()
