@@ -3,8 +3,6 @@ ghost use mathlib.Core.Path.{_≡_};
 ghost use Prim.Native.Nat.{_≤_};
 ghost use lib.ListN.{length};
 ghost use Rattle.resolve_text.specs.Report.{firstRow, Reported, Printed};
-
-
 use resolver::Answer;
 use resolver::resolve;
 use text::read_sheet;
