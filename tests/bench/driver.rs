@@ -1,16 +1,19 @@
 //! driver COUNT SHEET NAMES: times the resolver from words to words and from text to text, and questions 1 to 4, through the static
-//! library of the Rattle crates.
-//! Prints a line for each measurement: what it is, then the median and the least time in nanoseconds.
+//! library of the Rattle crates. Prints a line for each measurement: what it is, then the median and the least time in nanoseconds.
+//! driver --stack BYTES SHEET NAMES: runs the resolver once from words to words, in a thread with a stack of that size.
 use std::hint::black_box;
 use std::time::Instant;
 
 // A slice is passed as a pointer and a length.
 extern "C" {
     fn bench_first_four(words: *const u32, word_count: usize, names: *const u8, name_bytes: usize) -> u32;
-    fn bench_names_fit(names: *const u8, name_bytes: usize) -> u32;
     fn bench_resolve(words: *const u32, word_count: usize, names: *const u8, name_bytes: usize, out: *mut u32, out_words: usize) -> u32;
     fn bench_resolve_text(sheet: *const u8, sheet_bytes: usize, names: *const u8, name_bytes: usize, text: *mut u8, text_bytes: usize) -> usize;
 }
+
+// What the program lends: 2,048 answer rows, and the text of them and of the line before them.
+const ANSWER_WORDS: usize = 8 * 2048;
+const ANSWER_BYTES: usize = 81 * 2049;
 
 fn resolve(words: &[u32], names: &[u8], out: &mut [u32]) -> u32 {
     unsafe { bench_resolve(words.as_ptr(), words.len(), names.as_ptr(), names.len(), out.as_mut_ptr(), out.len()) }
@@ -24,8 +27,9 @@ fn first_four(words: &[u32], names: &[u8]) -> u32 {
     unsafe { bench_first_four(words.as_ptr(), words.len(), names.as_ptr(), names.len()) }
 }
 
-fn names_fit(names: &[u8]) -> u32 {
-    unsafe { bench_names_fit(names.as_ptr(), names.len()) }
+fn words_of(text: &str) -> Vec<u32> {
+    let numbers = text.lines().flat_map(|line| (0..8).map(|i| line[10 * i..10 * i + 10].trim()));
+    numbers.map(|number| number.parse().unwrap()).collect()
 }
 
 fn time(what: &str, count: usize, mut once: impl FnMut() -> u32, expected: u32) {
@@ -40,25 +44,34 @@ fn time(what: &str, count: usize, mut once: impl FnMut() -> u32, expected: u32) 
     println!("{what} {} {}", times[count / 2], times[0]);
 }
 
-fn main() {
-    let args: Vec<String> = std::env::args().collect();
-    let count = args[1].parse().unwrap();
-    let text = std::fs::read_to_string(&args[2]).unwrap();
-    let numbers = text.lines().flat_map(|line| (0..8).map(|i| line[10 * i..10 * i + 10].trim()));
-    let words: Vec<u32> = numbers.map(|number| number.parse().unwrap()).collect();
-    let names = std::fs::read(&args[3]).unwrap();
-    // as many names as there may be; those of the sheet come first
-    let mut many = names.clone();
-    let listed = names.iter().filter(|&&byte| byte == 10).count();
-    (listed..1024).for_each(|i| many.extend(format!("name number {i}\n").bytes()));
+fn time_all(count: usize, text: &str, names: &[u8]) {
+    let words = words_of(text);
+    let mut out = vec![0u32; ANSWER_WORDS];
+    let mut printed = vec![0u8; ANSWER_BYTES];
+    let bytes = resolve_text(text.as_bytes(), names, &mut printed);
+    time("resolve", count, || resolve(black_box(&words), black_box(names), &mut out), 0);
+    time("resolve_text", count, || resolve_text(black_box(text.as_bytes()), black_box(names), &mut printed), bytes);
+    time("first_four", count, || first_four(black_box(&words), black_box(names)), 0);
+}
 
-    let mut out = vec![0u32; 16384];
-    let mut printed = vec![0u8; 165969];
-    let bytes = resolve_text(text.as_bytes(), &names, &mut printed);
-    time("resolve", count, || resolve(black_box(&words), black_box(&names), &mut out), 0);
-    time("resolve_text", count, || resolve_text(black_box(text.as_bytes()), black_box(&names), &mut printed), bytes);
-    time("first_four", count, || first_four(black_box(&words), black_box(&names)), 0);
-    time("first_four_1024_names", count / 10, || first_four(black_box(&words), black_box(&many)), 0);
-    time("names_fit", count, || names_fit(black_box(&names)), 1);
-    time("names_fit_1024_names", count / 10, || names_fit(black_box(&many)), 1);
+fn run_in_stack(bytes: usize, text: &str, names: &[u8]) {
+    let words = words_of(text);
+    let mut out = vec![0u32; ANSWER_WORDS];
+    std::thread::scope(|scope| {
+        let thread = std::thread::Builder::new().stack_size(bytes);
+        let run = thread.spawn_scoped(scope, || assert_eq!(resolve(&words, names, &mut out), 0)).unwrap();
+        run.join().unwrap();
+    });
+}
+
+fn main() {
+    let args: Vec<String> = std::env::args().skip(1).collect();
+    let args: Vec<&str> = args.iter().map(|arg| arg.as_str()).collect();
+    let text = |path| std::fs::read_to_string(path).unwrap();
+    let bytes = |path| std::fs::read(path).unwrap();
+    match args[..] {
+        ["--stack", size, sheet, names] => run_in_stack(size.parse().unwrap(), &text(sheet), &bytes(names)),
+        [count, sheet, names] => time_all(count.parse().unwrap(), &text(sheet), &bytes(names)),
+        _ => panic!("the ways to call it stand at the head of driver.rs"),
+    }
 }

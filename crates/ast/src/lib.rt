@@ -26,6 +26,9 @@ pub const AUDIO_NEEDED_ID: ClassId = ClassId(101);
 
 pub const AUDIO_DATA_ID: ClassId = ClassId(102);
 
+// The number of the class of row 0: a class of the sheet has its row more.
+pub const FIRST_CLASS: u32 = 256;
+
 pub enum Decl {
     // Global function
     Fun {

@@ -80,27 +80,6 @@ fields-none c f g h = rw (ne-eqb 100 c (λ e. f (sym e)), ne-eqb 101 c (λ e. g 
 pub outside-none : (c m : ℕ) → (c ≡ 100 → ⊥) → (c ≡ 101 → ⊥) → (c ≡ 102 → ⊥) → false ≡ (m ∈? recordOf c .fields)
 outside-none c m f g h = sym (ap (λ (l : List ℕ). m ∈? l) (fields-none c f g h))
 
--- The rows of a name among the children of a kind.
-
-listed-in : (s : Sheet) (j m n k : ℕ)
-    → not (eqb (head (filter (λ x. eqb (a s x) m) (filter (is s j) (chain n s k)))) 0) ≡ (m ∈? map (a s) (filter (is s j) (chain n s k)))
-listed-in s j m zero k = refl
-listed-in s j m (suc n) zero = refl
-listed-in s j m (suc n) (suc k) = by-kind (is s j (suc k)) (filter (is s j) (chain n s (next s (suc k)))) (listed-in s j m n (next s (suc k)))
-  where
-    by-name : (u : Bool) (ks : List ℕ) → not (eqb (head (filter (λ x. eqb (a s x) m) ks)) 0) ≡ (m ∈? map (a s) ks)
-        → not (eqb (head (if u then suc k ∷ filter (λ x. eqb (a s x) m) ks else filter (λ x. eqb (a s x) m) ks)) 0) ≡ (u || (m ∈? map (a s) ks))
-    by-name true ks i = ap not (ne-eqb (suc k) 0 (λ z. omega arith))
-    by-name false ks i = i
-
-    by-kind : (t : Bool) (ks : List ℕ) → not (eqb (head (filter (λ x. eqb (a s x) m) ks)) 0) ≡ (m ∈? map (a s) ks)
-        → not (eqb (head (filter (λ x. eqb (a s x) m) (if t then suc k ∷ ks else ks))) 0) ≡ (m ∈? map (a s) (if t then suc k ∷ ks else ks))
-    by-kind true ks i = rw (eqb-same m (a s (suc k))) (by-name (eqb (a s (suc k)) m) ks i)
-    by-kind false ks i = i
-
-pub name-listed : (s : Sheet) (j m r x : ℕ) → x ≡ head (filter (λ k. eqb (a s k) m) (kidsOf s j r)) → not (eqb x 0) ≡ (m ∈? map (a s) (kidsOf s j r))
-name-listed s j m r x e = ap (λ (k : ℕ). not (eqb k 0)) e ∙ listed-in s j m (rows s) (child s r)
-
 -- Own fields.
 
 keys-in : (m : ℕ) (ys : List Node) → (m ∈? map (λ y. y .key) ys) ≡ hasKey m ys

@@ -1,32 +1,18 @@
 // Which names a class has: its own, and after inheritance. The kind of the rows tells the names: 10 fields, 6 methods.
 ghost use mathlib.Core.Path.{_≡_};
-ghost use mathlib.Core.List.{map};
-ghost use Prim.Native.Nat.{_-_};
 ghost use Rattle.definition.specs.Basics.{from, _∈?_};
-ghost use Rattle.definition.specs.Sheet.{a, kidsOf};
 ghost use Rattle.definition.specs.Outside.{recordOf};
-ghost use Rattle.after.specs.Inherited.{isClassRow, ownFieldsIn};
+ghost use Rattle.after.specs.Inherited.{ownFieldsIn};
 ghost use Rattle.store.specs.Stored.{storeOf};
 ghost use Rattle.store.specs.declared.nodes.Store.{Store};
 ghost use Rattle.class_rows.specs.Names.{ownIn, namesIn, inherited};
 use ast::ClassId;
+use ast::FIRST_CLASS;
+use inherit::is_class_row;
 use inherit::parent_of;
 use store::nodes::has_key;
-use tree::lists::first_named;
+use tree::lists::has_named;
 use tree::words::word;
-
-// The number of the class of row 0.
-const FIRST_CLASS: u32 = 256;
-
-// Is it the number of a class row?
-pub fn is_class_row(s: &[u32], c: ClassId) -> bool
-    ensures { λ x. ⌜ x ≡ isClassRow (now (s .entry)) (c .0) ⌝ }
-{
-    if c.0 < FIRST_CLASS {
-        return false;
-    }
-    word(s, c.0 - FIRST_CLASS, 0) == 4
-}
 
 // Is `m` among the `n` numbers from `i` on?
 fn in_range(m: u32, i: u32, n: u32) -> bool
@@ -48,20 +34,13 @@ fn is_outside_field(c: ClassId, m: u32) -> bool
     }
 }
 
-// Has row `r` a child of a kind that has name `m`?
-fn lists(s: &[u32], r: u32, kind: u32, m: u32) -> bool
-    ensures { λ x. ⌜ x ≡ (m ∈? map (a (now (s .entry))) (kidsOf (now (s .entry)) kind r)) ⌝ }
-{
-    first_named(s, r, kind, m) != 0
-}
-
 // Has a class an own field of name `m`?
 fn is_own_field(s: &[u32], t: &[u32], q: &[u32], c: ClassId, m: u32) -> bool
     ensures { λ x. ⌜ ((o : Store) → x ≡ (m ∈? ownFieldsIn (now (s .entry)) (storeOf o (now (t .entry)) (now (q .entry))) (c .0))) ⌝ }
 {
-    if is_class_row(s, c) {
+    if is_class_row(s, c.0) {
         let r = c.0 - FIRST_CLASS;
-        if lists(s, r, 10, m) {
+        if has_named(s, r, 10, m) {
             return true;
         }
         return has_key(q, word(t, r, 7), m);
@@ -79,7 +58,7 @@ fn is_own(s: &[u32], t: &[u32], q: &[u32], kind: u32, c: ClassId, m: u32) -> boo
     if c.0 < FIRST_CLASS {
         return false;
     }
-    lists(s, c.0 - FIRST_CLASS, kind, m)
+    has_named(s, c.0 - FIRST_CLASS, kind, m)
 }
 
 // Is `m` a name of class `c` after inheritance? It climbs at most `n` classes.

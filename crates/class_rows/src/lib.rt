@@ -23,12 +23,10 @@ use crate::put::Written;
 use crate::put::count_names;
 use crate::put::put_names;
 use ast::ClassId;
+use ast::FIRST_CLASS;
 use inherit::parent_of;
 use sink::AnswerRow;
 use sink::emit;
-
-// The number of the class of row 0.
-const FIRST_CLASS: u32 = 256;
 
 // The slot of the first field.
 const FIRST_SLOT: u32 = 0;

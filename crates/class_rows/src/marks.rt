@@ -4,10 +4,8 @@ ghost use Prim.Native.Nat.{ℕ, _≤_};
 ghost use lib.ListN.{length, getD};
 ghost use Rattle.definition.specs.Sheet.{rows};
 ghost use Rattle.class_rows.specs.Names.{ParentMarks, markParent};
+use ast::FIRST_CLASS;
 use tree::words::word;
-
-// The number of the class of row 0.
-const FIRST_CLASS: u32 = 256;
 
 // Marks the row of the parent of row `r`, if row `r` is a class whose parent is of the sheet.
 fn mark_parent(s: &[u32], t: &[u32], r: u32, marks: &mut [u32])

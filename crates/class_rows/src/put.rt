@@ -6,24 +6,23 @@ ghost use lib.ListN.{length};
 ghost use Rattle.definition.specs.Basics.{from};
 ghost use Rattle.definition.specs.Sheet.{a, kidsOf};
 ghost use Rattle.definition.specs.Outside.{recordOf};
-ghost use Rattle.machine.specs.Machine.{chainTo, oneMore};
+ghost use Rattle.machine.specs.Machine.{chainTo};
 ghost use Rattle.store.specs.Stored.{storeOf};
 ghost use Rattle.store.specs.declared.nodes.Store.{Store};
 ghost use Rattle.class_rows.specs.Names.{ownIn, namesIn};
 ghost use Rattle.class_rows.specs.Put.{filled, wordsOf, nameRow, put, putAll, putNew};
-use crate::held::is_class_row;
 use crate::held::is_inherited;
 use ast::ClassId;
+use ast::FIRST_CLASS;
 use inherit::find_method;
+use inherit::is_class_row;
 use inherit::parent_of;
 use sink::AnswerRow;
 use sink::emit;
 use store::nodes::node_before;
 use store::nodes::node_word;
+use symbols::decl::one_more;
 use tree::words::word;
-
-// The number of the class of row 0.
-const FIRST_CLASS: u32 = 256;
 
 // Whose names are written, and which: the kind of their rows, the class's row, the class's number.
 pub struct Wanted {
@@ -42,13 +41,6 @@ pub struct Written {
 pub struct Passed {
     pub class: u32,
     pub left: usize,
-}
-
-// One more, unless that would not fit.
-fn one_more(n: u32) -> u32
-    ensures { λ x. ⌜ x ≡ oneMore n ⌝ }
-{
-    if n < 4294967295 { n + 1 } else { n }
 }
 
 // The row that tells name `m` at slot `i`.
@@ -225,7 +217,7 @@ fn put_own(
     ensures { λ x. ⌜ ((o : Store) → filled x (now (out .exit)) ≡ putNew (now (s .entry)) (storeOf o (now (t .entry)) (now (q .entry))) w p (ownIn (now (s .entry)) (storeOf o (now (t .entry)) (now (q .entry))) (w .kind) (c .0)) (filled k (now (out .entry)))) ⌝ }
 {
     if w.kind == 10 {
-        if is_class_row(s, c) {
+        if is_class_row(s, c.0) {
             let r = c.0 - FIRST_CLASS;
             let done = put_listed(s, t, q, w, p, r, k, out);
             return put_stored(s, t, q, w, p, word(t, r, 7), done, out);

@@ -16,7 +16,7 @@ pub fn entry_at(t: &[u32], i: u32) -> u32
 }
 
 // Writes entry `i`. Writing past the end does nothing.
-fn put_entry(t: &mut [u32], i: u32, x: u32)
+pub fn put_entry(t: &mut [u32], i: u32, x: u32)
     ensures { λ _. ⌜ now (t .exit) ≡ set (now (t .entry)) i x ⌝ }
 {
     let at = i as usize;

@@ -2,22 +2,13 @@
 // entry `l` of the nexts the one after literal `l`. An entry of 0 ends a chain.
 ghost use mathlib.Core.Path.{_≡_};
 ghost use Prim.Native.Nat.{_≤_};
-ghost use lib.ListN.{length, set};
+ghost use lib.ListN.{length};
 ghost use Rattle.definition.specs.Sheet.{rows, kind};
 ghost use Rattle.classes.specs.Table.{Clear};
 ghost use Rattle.fun_rows.specs.Literals.{isReached, LiteralChains};
 use classes::entry_at;
+use classes::put_entry;
 use tree::words::word;
-
-// Writes entry `i`. Writing past the end does nothing.
-fn put_entry(t: &mut [u32], i: u32, x: u32)
-    ensures { λ _. ⌜ now (t .exit) ≡ set (now (t .entry)) i x ⌝ }
-{
-    let at = i as usize;
-    if at < t.len() {
-        t[at] = x;
-    }
-}
 
 // Is row `l` a literal that the walk reached?
 fn is_reached(s: &[u32], t: &[u32], l: u32) -> bool

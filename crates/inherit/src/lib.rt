@@ -13,6 +13,7 @@ ghost use Rattle.store.specs.Stored.{storeOf};
 ghost use Rattle.after.specs.Inherited.{isClassRow, parentIn, climbIn, classesRefusal, methodsIn, checkCallIn, callsRefusal};
 ghost use Rattle.inherit.specs.Answered.{refusalOf, Marked};
 use ast::ClassId;
+use ast::FIRST_CLASS;
 use ast::FunId;
 use store::nodes::Store;
 use store::nodes::node_before;
@@ -22,9 +23,6 @@ use tree::lists::arity;
 use tree::lists::has_record;
 use tree::lists::method_named;
 use tree::words::word;
-
-// The number of the class of row 0. The classes of a sheet are numbered from here on.
-const FIRST_CLASS: u32 = 256;
 
 // The name of a constructor.
 const INIT: u32 = 23;
@@ -36,8 +34,14 @@ pub struct Refusal {
     pub name: u32,
 }
 
+const NO_REFUSAL: Refusal = Refusal {
+    number: 0,
+    at: 0,
+    name: 0,
+};
+
 // Is `c` the number of a class row?
-fn is_class_row(s: &[u32], c: u32) -> bool
+pub fn is_class_row(s: &[u32], c: u32) -> bool
     ensures { λ x. ⌜ x ≡ isClassRow (now (s .entry)) c ⌝ }
 {
     if c >= FIRST_CLASS {
@@ -87,11 +91,7 @@ fn climb(s: &[u32], t: &[u32], marks: &mut [u32], r: u32) -> Refusal
     let mut c = FIRST_CLASS + r;
     while 0 < left {
         if !is_class_row(s, c) {
-            return Refusal {
-                number: 0,
-                at: 0,
-                name: 0,
-            };
+            return NO_REFUSAL;
         }
         let row = c - FIRST_CLASS;
         if marks[row as usize] == r + 1 {
@@ -105,11 +105,7 @@ fn climb(s: &[u32], t: &[u32], marks: &mut [u32], r: u32) -> Refusal
         c = up.0;
         left -= 1;
     }
-    Refusal {
-        number: 0,
-        at: 0,
-        name: 0,
-    }
+    NO_REFUSAL
 }
 
 // The first no of the questions 18 and 19, classes in row order.
@@ -127,11 +123,7 @@ pub fn check_classes(s: &[u32], t: &[u32], marks: &mut [u32]) -> Refusal
         }
         r += 1;
     }
-    Refusal {
-        number: 0,
-        at: 0,
-        name: 0,
-    }
+    NO_REFUSAL
 }
 
 // The method of name `n` that a class has, its own or inherited, or function 0.
@@ -186,11 +178,7 @@ fn check_call(s: &[u32], t: &[u32], r: u32, c: ClassId) -> Refusal
         };
     }
     if arguments(s, r) + 1 == arity(s, init) {
-        return Refusal {
-            number: 0,
-            at: 0,
-            name: 0,
-        };
+        return NO_REFUSAL;
     }
     Refusal {
         number: 21,
@@ -203,11 +191,7 @@ fn check_call(s: &[u32], t: &[u32], r: u32, c: ClassId) -> Refusal
 pub fn check_ctor_calls(s: &[u32], t: &[u32], q: &[u32], calls: u32) -> Refusal
     ensures { λ x. ⌜ ((o : Store) → o .calls ≡ calls → refusalOf x ≡ callsRefusal (now (s .entry)) (storeOf o (now (t .entry)) (now (q .entry)))) ⌝ }
 {
-    let mut x = Refusal {
-        number: 0,
-        at: 0,
-        name: 0,
-    };
+    let mut x = NO_REFUSAL;
     let mut i = calls;
     while 0 < i {
         i -= 1;

@@ -22,20 +22,7 @@ five-stores v i t m x y k = simp towards-suc
 pub four-stores : (v : List ℕ) (i t m x y : ℕ) → set (set (set (set v i t) (i + 1) m) (i + 2) x) (i + 3) y ≡ sets v i (t ∷ m ∷ x ∷ y ∷ [])
 four-stores v i t m x y = simp towards-suc
 
--- Searches from the end of the entries.
-module _ (v : List ℕ) (m n : ℕ) where
-  pub find-mark : leb (entryWord v n 0) 1 ≡ true → findName v m (suc n) ≡ findName v m n
-  unfolding findName
-  find-mark h = rw h
-
-  pub find-hit : leb (entryWord v n 0) 1 ≡ false → entryWord v n 1 ≡ m → findName v m (suc n) ≡ suc n
-  unfolding findName
-  find-hit h e = rw (h, eq-eqb (entryWord v n 1) m e)
-
-  pub find-miss : leb (entryWord v n 0) 1 ≡ false → (entryWord v n 1 ≡ m → ⊥) → findName v m (suc n) ≡ findName v m n
-  unfolding findName
-  find-miss h e = rw (h, ne-eqb (entryWord v n 1) m e)
-
+-- Captures, from the end of the entries.
 -- a capture added in the functions of the marks
 module _ (s : Sheet) (v : List ℕ) (n : ℕ) (x : Node) (o : Store) where
   pub capture-name : leb (entryWord v n 0) 1 ≡ false → addCapture (functionMarks s v (suc n)) x o ≡ addCapture (functionMarks s v n) x o

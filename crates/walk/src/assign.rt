@@ -13,7 +13,7 @@ use classes::entry_at;
 use store::nodes::reg_field;
 use symbols::decl::is_mutable;
 use symbols::decl::lookup;
-use tree::lists::lists_field;
+use tree::lists::has_named;
 use tree::words::word;
 
 // Question 6: is an assigned identifier mutable?
@@ -47,7 +47,7 @@ fn assign_member(s: &[u32], classes: &[u32], r: u32, w: Walk, t: &mut [u32], q: 
     }
     let target = word(s, r, 2);
     let m = word(s, target, 6);
-    if lists_field(s, class, m) {
+    if has_named(s, class, 10, m) {
         return w;
     }
     let store = reg_field(w.store, t, q, class, m);

@@ -4,6 +4,7 @@
 //!   oracle --batch FILE                 resolve many: in FILE, for each case, a line "ID SHEETBYTES NAMEBYTES",
 //!                                       then that many bytes of each; before each answer stands "CASE ID"
 //!   oracle --time N SHEET NAMES         time resolve_syms alone, on a tree that is built
+//!   oracle --time-words N SHEET NAMES   time it from the rows in memory to the answer rows: tree, resolve_syms, rows
 //!   oracle --time-full N SHEET NAMES    time it all, from text to text
 //!
 //! An answer is the program's output, or one line: ERR file line column message; HOST and the same, if the host table
@@ -83,6 +84,21 @@ fn time_resolve(count: usize, sheet: &[u8], names: &[u8]) {
     });
 }
 
+fn time_words(count: usize, sheet: &[u8], names: &[u8]) {
+    let rows = parse_rows(sheet);
+    time("words to words", count, || {
+        let rows = rows.clone();
+        let start = Instant::now();
+        let sheet = Sheet::new(rows, names);
+        let mut prog = sheet.program();
+        let result = prog.resolve_syms();
+        let answer = answers::answers(&sheet, &prog);
+        let elapsed = start.elapsed().as_nanos() as u64;
+        std::hint::black_box((&result, &answer));
+        elapsed
+    });
+}
+
 fn time_full(count: usize, sheet: &[u8], names: &[u8]) {
     time("text to text", count, || {
         let start = Instant::now();
@@ -98,6 +114,7 @@ fn run() {
     match args[..] {
         ["--batch", file] => batch(file),
         ["--time", count, sheet, names] => time_resolve(count.parse().unwrap(), &read(sheet), &read(names)),
+        ["--time-words", count, sheet, names] => time_words(count.parse().unwrap(), &read(sheet), &read(names)),
         ["--time-full", count, sheet, names] => time_full(count.parse().unwrap(), &read(sheet), &read(names)),
         [sheet, names] => print!("{}", resolve(&read(sheet), &read(names))),
         _ => panic!("the ways to call it stand at the head of main.rs"),

@@ -13,11 +13,11 @@ returns c = λ o. let a = c .before .before .before .before .before .args in own
 returns-2 : tie.Need-returns-2
 returns-2 c = λ o. let a = c .before .before .before .before .before .before .args in own-none (a .s .now) (storeOf o (a .t .now) (a .q .now)) (a .kind) (a .c .0) (a .m) (c .before .before .if1 .left) (c .if2 .taken)
 
-lists-requires : tie.Need-lists-requires
-lists-requires c κs = search needs
+has-named-requires : tie.Need-has-named-requires
+has-named-requires c κs = search needs
 
 returns-3 : tie.Need-returns-3
-returns-3 c = λ o. let a = c .before .before .before .before .before .before .before .before .args in own-other (a .s .now) (storeOf o (a .t .now) (a .q .now)) (a .kind) (a .c .0) (a .m) (c .before .before .before .before .if1 .left) (c .before .before .if2 .left) (c .lists .ensures)
+returns-3 c = λ o. let a = c .before .before .before .before .before .before .before .before .args in own-other (a .s .now) (storeOf o (a .t .now) (a .q .now)) (a .kind) (a .c .0) (a .m) (c .before .before .before .before .if1 .left) (c .before .before .if2 .left) (c .has-named .ensures)
 
 pub is-own-spec : {M : Type 1} → statement M
-is-own-spec = tie.close (tie.spec is-own-field-requires returns returns-2 lists-requires returns-3)
+is-own-spec = tie.close (tie.spec is-own-field-requires returns returns-2 has-named-requires returns-3)

@@ -11,11 +11,11 @@ is-class-row-requires c κs = search needs
 sub-r : tie.Need-sub-r
 sub-r c = let a = c .before .before .before .before .before .before .args in class-from (a .s .now) (a .c .0) (sym (c .before .if1 .taken) ∙ c .before .before .is-class-row .ensures)
 
-lists-requires : tie.Need-lists-requires
-lists-requires c κs = search needs
+has-named-requires : tie.Need-has-named-requires
+has-named-requires c κs = search needs
 
 returns : tie.Need-returns
-returns c = λ o. let a = c .before .before .before .before .before .before .before .before .args in field-listed (a .s .now) (storeOf o (a .t .now) (a .q .now)) (a .c .0) (a .m) (sym (c .before .before .before .if1 .taken) ∙ c .before .before .before .before .is-class-row .ensures) (sym (c .if2 .taken) ∙ c .before .lists .ensures)
+returns c = λ o. let a = c .before .before .before .before .before .before .before .before .args in field-listed (a .s .now) (storeOf o (a .t .now) (a .q .now)) (a .c .0) (a .m) (sym (c .before .before .before .if1 .taken) ∙ c .before .before .before .before .is-class-row .ensures) (sym (c .if2 .taken) ∙ c .before .has-named .ensures)
 
 word-requires : tie.Need-word-requires
 word-requires c κs = search needs
@@ -24,7 +24,7 @@ has-key-requires : tie.Need-has-key-requires
 has-key-requires c κs = search needs
 
 returns-2 : tie.Need-returns-2
-returns-2 c = λ o. let a = c .before .before .before .before .before .before .before .before .before .before .args in field-stored (a .s .now) (storeOf o (a .t .now) (a .q .now)) (a .c .0) (a .m) (sym (c .before .before .before .before .before .if1 .taken) ∙ c .before .before .before .before .before .before .is-class-row .ensures) (sym (c .before .before .if2 .left) ∙ c .before .before .before .lists .ensures) (c .before .word .ensures) (c .has-key .ensures)
+returns-2 c = λ o. let a = c .before .before .before .before .before .before .before .before .before .before .args in field-stored (a .s .now) (storeOf o (a .t .now) (a .q .now)) (a .c .0) (a .m) (sym (c .before .before .before .before .before .if1 .taken) ∙ c .before .before .before .before .before .before .is-class-row .ensures) (sym (c .before .before .if2 .left) ∙ c .before .before .before .has-named .ensures) (c .before .word .ensures) (c .has-key .ensures)
 
 is-outside-field-requires : tie.Need-is-outside-field-requires
 is-outside-field-requires c κs = search needs
@@ -38,7 +38,7 @@ is-own-field-spec =
     (tie.spec
     is-class-row-requires
     sub-r
-    lists-requires
+    has-named-requires
     returns
     word-requires
     has-key-requires

@@ -1,0 +1,123 @@
+"""make_cases.py ORACLE FOLDER
+
+Writes the sheets that are timed, as FOLDER/CASE.sheet and FOLDER/CASE.names. The Rust resolves each of them into at most 2,048
+answer rows, as many as the program lends. Prints the size of each.
+"""
+import random
+import subprocess
+import sys
+import tempfile
+from pathlib import Path
+
+sys.path.insert(0, str(Path(__file__).resolve().parent.parent / "oracle"))
+from directed import block, call, do, fun, give, let, lit, member, record, sheet, unit, use
+from sheets import INIT, Sheet, class_chain, generate
+from tree import text_of
+
+FIRST_LISTED = 25
+
+
+def numbers(count):
+    return range(FIRST_LISTED, FIRST_LISTED + count)
+
+
+def sheet_of(root, count):
+    """The tree as a sheet with `count` listed names that have a long beginning in common."""
+    return Sheet(root, [b"name number %d" % i for i in range(count)], random.Random(1), "preorder")
+
+
+def random_sheet(oracle, rows):
+    """A random sheet of `rows` rows, or up to a fiftieth fewer, that the Rust resolves."""
+    seed = 0
+    while True:
+        seed += 1
+        made = generate(seed, rows, 0)
+        if rows * 49 // 50 <= len(made.rows) <= rows and answer_rows(oracle, made) in range(1, 2049):
+            return made
+
+
+def open_parameters(count, uses):
+    """A function with many parameters; the uses are of all of them, spread evenly."""
+    f, *params = numbers(count + 1)
+    body = block(*[do(use(params[i * count // uses])) for i in range(uses)])
+    return sheet_of(sheet(unit(let(f, lit(params, body)))), count + 1)
+
+
+def open_locals(count):
+    """A function with many locals, each with the one before it as its value."""
+    f, first, *names = numbers(count + 1)
+    lets = [let(name, use(before)) for before, name in zip([first, *names], names)]
+    return sheet_of(sheet(unit(let(f, lit([], block(let(first), *lets))))), count + 1)
+
+
+def many_names(classes, fields):
+    """Classes with many fields, each field with a name of its own."""
+    names = numbers(classes + classes * fields)
+    made = [record(names[i], 0, names[classes + i * fields:classes + (i + 1) * fields]) for i in range(classes)]
+    reads = [do(member(use(names[i]), names[classes + i])) for i in range(classes)]
+    return sheet_of(sheet(unit(*reads, classes=made)), len(names))
+
+
+def constructors(count, calls):
+    """Chained classes, the first with a constructor that the others inherit, and calls of the last one."""
+    names = numbers(count)
+    init = fun(INIT, [], block())
+    made = [record(name, names[i - 1] if i else 0, (), [] if i else [method_of(init)]) for i, name in enumerate(names)]
+    return sheet_of(sheet(unit(*[do(call(use(names[-1]))) for _ in range(calls)], classes=made)), count)
+
+
+def method_of(function):
+    """A method takes its object as a parameter too."""
+    function.kids.insert(0, type(function)(11, FIRST_LISTED))
+    return function
+
+
+def nested(depth, params, uses):
+    """Functions in each other, the unit function counted; the innermost uses all parameters in turn."""
+    f, *names = numbers(1 + (depth - 1) * params)
+    lists = [names[i * params:(i + 1) * params] for i in range(depth - 1)]
+    inner = lit(lists[-1], block(*[do(use(names[i % len(names)])) for i in range(uses)]))
+    for each in reversed(lists[:-1]):
+        inner = lit(each, give(inner))
+    return sheet_of(sheet(unit(let(f, inner))), 1 + len(names))
+
+
+def write(made, folder, name):
+    files = folder / f"{name}.sheet", folder / f"{name}.names"
+    files[0].write_text(text_of(made.rows))
+    files[1].write_bytes(made.names)
+    return files
+
+
+def answer_rows(oracle, made):
+    """How many answer rows the Rust gives; 0 if it refuses."""
+    with tempfile.TemporaryDirectory() as folder:
+        files = write(made, Path(folder), "case")
+        answer = subprocess.run([oracle, *files], stdout=subprocess.PIPE, text=True).stdout
+    return len(answer.splitlines()) - 1 if answer.split()[0] == "0" else 0
+
+
+def cases(oracle):
+    yield "random_300", random_sheet(oracle, 300)
+    yield "random_2000", random_sheet(oracle, 2000)
+    yield "parameters_1000", open_parameters(1000, 500)
+    yield "locals_1000", open_locals(1000)
+    yield "names_1000", many_names(10, 99)
+    yield "chain_62", class_chain(62)
+    yield "chain_1000", class_chain(1000, 0)
+    yield "constructors_500", constructors(500, 300)
+    yield "nested_20", nested(20, 4, 600)
+
+
+def main():
+    oracle, folder = sys.argv[1], Path(sys.argv[2])
+    folder.mkdir(parents=True, exist_ok=True)
+    for name, made in cases(oracle):
+        rows = answer_rows(oracle, made)
+        assert 0 < rows <= 2048 and len(made.rows) <= 2048, (name, rows, len(made.rows))
+        write(made, folder, name)
+        print(f"{name}: {len(made.rows)} rows, {made.names.count(10)} names, {rows} answer rows", flush=True)
+
+
+if __name__ == "__main__":
+    main()
