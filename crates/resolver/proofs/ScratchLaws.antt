@@ -1,7 +1,6 @@
 -- Arrays of zeros as scratch space.
-use mathlib.Core.Path.{_≡_, refl, ap, _∙_}
-use mathlib.Core.List.{List}
-use Prim.Native.Nat.{ℕ, zero, suc, _≤_}
+use mathlib.Core.Path.{_≡_, refl}
+use Prim.Native.Nat.{ℕ, zero, suc, _+_, _*_, _/_, _<_, _≤_}
 use native.Mathlib.Omega.{arith}
 use lib.ListN.{length, getD, replicate, length-replicate}
 use Rattle.definition.specs.Sheet.{Sheet, rows}
@@ -16,36 +15,38 @@ zero-at zero j = refl
 zero-at (suc n) zero = refl
 zero-at (suc n) (suc j) = zero-at n j
 
--- the length is a variable, so that the zeros are not written out
-module _ (n : ℕ) (w : List ℕ) (e : w ≡ replicate n 0) where
-  clear-zeros : Clear w
-  clear-zeros = record { zeros = λ j. ap (λ (l : List ℕ). getD l j 0) e ∙ zero-at n j }
+-- the lengths are variables, so that the zeros are not written out
+clear-zeros : (n : ℕ) → Clear (replicate n 0)
+clear-zeros n = record { zeros = zero-at n }
 
-  zeros-long : length w ≡ n
-  zeros-long = ap length e ∙ length-replicate {A = ℕ} n 0
+zeros-long : (n : ℕ) → length {A = ℕ} (replicate n 0) ≡ n
+zeros-long n = length-replicate {A = ℕ} n 0
 
-pub lent-zeros : (s : Sheet) (a b c d : ℕ) (cs v t q : List ℕ) → PastFour s → 2048 ≤ a → 36020 ≤ b → 16384 ≤ c → 172032 ≤ d
-    → cs ≡ replicate a 0 → v ≡ replicate b 0 → t ≡ replicate c 0 → q ≡ replicate d 0 → Lent s cs v t q
-lent-zeros s a b c d cs v t q ok la lb lc ld e f g h =
-    let m : rows s ≤ 2048 = rows-few s (ok .whole) in
-    record {
-      for-classes = omega (arith, zeros-long a cs e);
-      for-entries = omega (arith, zeros-long b v f);
-      for-rows = omega (arith, zeros-long c t g);
-      for-nodes = omega (arith, zeros-long d q h);
-      clear-classes = clear-zeros a cs e;
-      clear-rows = clear-zeros c t g;
-    }
+-- room for a sheet of at most m rows
+pub lent-zeros : (s : Sheet) (m a b c d : ℕ) → rows s ≤ m → m ≤ a → 1059 + 3 * m < b / 5 → m ≤ c / 8 → 21 * m ≤ d / 4 → Lent s (replicate a 0) (replicate b 0) (replicate c 0) (replicate d 0)
+lent-zeros s m a b c d few la lb lc ld = record {
+    for-classes = omega (arith, zeros-long a);
+    for-entries = rw (zeros-long b) (omega arith);
+    for-rows = rw (zeros-long c) (omega arith);
+    for-nodes = rw (zeros-long d) (omega arith);
+    clear-classes = clear-zeros a;
+    clear-rows = clear-zeros c;
+  }
 
-pub scratch-zeros : (s : Sheet) (n : ℕ) (ms hs ns ps : List ℕ) → PastFour s → 2048 ≤ n → ms ≡ replicate n 0 → hs ≡ replicate n 0 → ns ≡ replicate n 0 → ps ≡ replicate n 0 → Scratch s ms hs ns ps
-scratch-zeros s n ms hs ns ps ok l e f g h =
-    let m : rows s ≤ 2048 = rows-few s (ok .whole) in
-    record {
-      for-marks = omega (arith, zeros-long n ms e);
-      for-heads = omega (arith, zeros-long n hs f);
-      for-nexts = omega (arith, zeros-long n ns g);
-      for-parents = omega (arith, zeros-long n ps h);
-      clear-marks = clear-zeros n ms e;
-      clear-heads = clear-zeros n hs f;
-      clear-parents = clear-zeros n ps h;
-    }
+pub scratch-zeros : (s : Sheet) (n : ℕ) → rows s ≤ n → Scratch s (replicate n 0) (replicate n 0) (replicate n 0) (replicate n 0)
+scratch-zeros s n few = record {
+    for-marks = omega (arith, zeros-long n);
+    for-heads = omega (arith, zeros-long n);
+    for-nexts = omega (arith, zeros-long n);
+    for-parents = omega (arith, zeros-long n);
+    clear-marks = clear-zeros n;
+    clear-heads = clear-zeros n;
+    clear-parents = clear-zeros n;
+  }
+
+-- a sheet past question 1 is not long
+pub rows-most : (s : Sheet) → PastFour s → rows s ≤ 2048
+rows-most s ok = rows-few s (ok .whole)
+
+pub rows-small : (s : Sheet) → length s ≤ 2560 → rows s ≤ 320
+rows-small s l = omega arith

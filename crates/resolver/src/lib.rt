@@ -1,8 +1,8 @@
 // The public routine: a sheet and its names, resolved into the lent answer words, or refused.
 ghost use mathlib.Core.Path.{_≡_};
 ghost use mathlib.Core.List.{List};
-ghost use Prim.Native.Nat.{ℕ, _<_};
-ghost use lib.ListN.{length, replicate};
+ghost use Prim.Native.Nat.{ℕ, _<_, _≤_};
+ghost use lib.ListN.{length};
 ghost use Rattle.definition.specs.Sheet.{file as fileAt};
 ghost use Rattle.definition.specs.Outcome.{refused as refusedBy, refusedAt};
 ghost use Rattle.machine.specs.Reads.{PastFour, Walked};
@@ -145,20 +145,7 @@ fn resolve_in(
     finish(s, v, t, q, w, marks, heads, nexts, parents, out)
 }
 
-// A sheet past the first four questions. The walk's scratch space: a class for each of 2,048 rows, 7,204 open entries of five words, a
-// table of eight words a row, 43,008 nodes of four.
-fn resolve_past(s: &[u32], out: &mut [u32]) -> Answer
-    requires { ⌜ PastFour (now s) ⌝ }
-    ensures { λ x. ⌜ Settled (now (s .entry)) (length (now (out .entry))) x (now (out .exit)) ⌝ }
-{
-    let mut classes = [0u32; 2048];
-    let mut v = [0u32; 36020];
-    let mut t = [0u32; 16384];
-    let mut q = [0u32; 172032];
-    resolve_with(s, &mut classes, &mut v, &mut t, &mut q, out)
-}
-
-// The scratch space of what follows the walk.
+// The walk's scratch space is there; that of what follows it.
 fn resolve_with(
     s: &[u32],
     classes: &mut [u32],
@@ -167,14 +154,14 @@ fn resolve_with(
     q: &mut [u32],
     out: &mut [u32],
 ) -> Answer
-    requires { ⌜ (PastFour (now s)) × (now classes ≡ replicate 2048 0) × (now v ≡ replicate 36020 0) × (now t ≡ replicate 16384 0) × (now q ≡ replicate 172032 0) ⌝ }
+    requires { ⌜ (PastFour (now s)) × (Lent (now s) (now classes) (now v) (now t) (now q)) ⌝ }
     ensures { λ x. ⌜ Settled (now (s .entry)) (length (now (out .entry))) x (now (out .exit)) ⌝ }
 {
     let mut marks = [0u32; 2048];
     let mut heads = [0u32; 2048];
     let mut nexts = [0u32; 2048];
     let mut parents = [0u32; 2048];
-    resolve_scratch(
+    resolve_in(
         s,
         classes,
         v,
@@ -188,23 +175,40 @@ fn resolve_with(
     )
 }
 
-fn resolve_scratch(
-    s: &[u32],
-    classes: &mut [u32],
-    v: &mut [u32],
-    t: &mut [u32],
-    q: &mut [u32],
-    marks: &mut [u32],
-    heads: &mut [u32],
-    nexts: &mut [u32],
-    parents: &mut [u32],
-    out: &mut [u32],
-) -> Answer
-    requires { ⌜ (PastFour (now s)) × (now classes ≡ replicate 2048 0) × (now v ≡ replicate 36020 0) × (now t ≡ replicate 16384 0) × (now q ≡ replicate 172032 0) ⌝ }
-    requires { ⌜ (now marks ≡ replicate 2048 0) × (now heads ≡ replicate 2048 0) × (now nexts ≡ replicate 2048 0) × (now parents ≡ replicate 2048 0) ⌝ }
+// The walk's scratch space for up to 2,048 rows: a class for each row, 7,204 open entries of five words, a table of eight words a row,
+// 43,008 nodes of four.
+fn resolve_large(s: &[u32], out: &mut [u32]) -> Answer
+    requires { ⌜ PastFour (now s) ⌝ }
     ensures { λ x. ⌜ Settled (now (s .entry)) (length (now (out .entry))) x (now (out .exit)) ⌝ }
 {
-    resolve_in(s, classes, v, t, q, marks, heads, nexts, parents, out)
+    let mut classes = [0u32; 2048];
+    let mut v = [0u32; 36020];
+    let mut t = [0u32; 16384];
+    let mut q = [0u32; 172032];
+    resolve_with(s, &mut classes, &mut v, &mut t, &mut q, out)
+}
+
+// The same for up to 320 rows: most sheets are small, and clearing 906 KB would take them longer than all else.
+fn resolve_small(s: &[u32], out: &mut [u32]) -> Answer
+    requires { ⌜ (PastFour (now s)) × (length (now s) ≤ 2560) ⌝ }
+    ensures { λ x. ⌜ Settled (now (s .entry)) (length (now (out .entry))) x (now (out .exit)) ⌝ }
+{
+    let mut classes = [0u32; 320];
+    let mut v = [0u32; 10100];
+    let mut t = [0u32; 2560];
+    let mut q = [0u32; 26880];
+    resolve_with(s, &mut classes, &mut v, &mut t, &mut q, out)
+}
+
+// A sheet past the first four questions.
+fn resolve_past(s: &[u32], out: &mut [u32]) -> Answer
+    requires { ⌜ PastFour (now s) ⌝ }
+    ensures { λ x. ⌜ Settled (now (s .entry)) (length (now (out .entry))) x (now (out .exit)) ⌝ }
+{
+    if s.len() <= 2560 {
+        return resolve_small(s, out);
+    }
+    resolve_large(s, out)
 }
 
 // Resolves a sheet with its names into the lent answer words. For every input the answer and every word are those of document 01, and

@@ -1,0 +1,38 @@
+use native.Mathlib.Omega.{arith}
+use Rattle.resolver.proofs.ScratchLaws.{lent-zeros, rows-small}
+use borrow.Author.Needs.{needs}
+use Rattle.resolver.proofs.resolve_small.Statement.{statement}
+use Rattle.resolver.proofs.resolve_small.Tie as tie
+
+slice-aggregate-resolve-with : tie.Need-slice-aggregate-resolve-with
+slice-aggregate-resolve-with c = search needs
+
+slice-aggregate-resolve-with-2 : tie.Need-slice-aggregate-resolve-with-2
+slice-aggregate-resolve-with-2 c = search needs
+
+slice-aggregate-resolve-with-3 : tie.Need-slice-aggregate-resolve-with-3
+slice-aggregate-resolve-with-3 c = search needs
+
+slice-aggregate-resolve-with-4 : tie.Need-slice-aggregate-resolve-with-4
+slice-aggregate-resolve-with-4 c = search needs
+
+resolve-with-requires : tie.Need-resolve-with-requires
+resolve-with-requires c κs = (c .before .before .before .before .before .before .before .pre .0, lent-zeros _ 320 320 10100 2560 26880 (rows-small (c .before .before .before .before .before .before .before .args .s .now) (c .before .before .before .before .before .before .before .pre .1)) (omega arith) (omega arith) (omega arith) (omega arith))
+
+same-length : tie.Need-same-length
+same-length c = search needs
+
+returns : tie.Need-returns
+returns c = search needs
+
+pub resolve-small-spec : {M : Type 1} → statement M
+resolve-small-spec =
+    tie.close
+    (tie.spec
+    slice-aggregate-resolve-with
+    slice-aggregate-resolve-with-2
+    slice-aggregate-resolve-with-3
+    slice-aggregate-resolve-with-4
+    resolve-with-requires
+    same-length
+    returns)
