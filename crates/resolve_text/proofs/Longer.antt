@@ -1,11 +1,11 @@
 -- Texts longer than any accepted one: what the program prints of them is fixed by one byte more than the longest has.
 use mathlib.Core.Path.{_≡_, refl, sym, ap, subst, _∙_}
 use mathlib.Core.Bool.{Bool, true, false, not, _&&_}
-use mathlib.Core.List.{List}
+use mathlib.Core.List.{List, _++_}
 use Prim.Native.Nat.{ℕ, _*_, _<_, _≤_}
 use native.Mathlib.Decide.{decLe}
 use native.Mathlib.Omega.{arith}
-use lib.ListN.{length, take}
+use lib.ListN.{length, take, drop}
 use lib.Dec.{T, eqb, leb, eqb→eq, leb→le}
 use lib.Seq.{take-all, length-take-le}
 use Rattle.definition.specs.Basics.{if_then_else_, all, from}
@@ -18,6 +18,7 @@ use Rattle.text.specs.Lines.{lineAt, isLine}
 use Rattle.text.specs.Reading.{isReadable, linesRead}
 use Rattle.text.proofs.Reading.{readable, text-lines}
 use Rattle.text.proofs.Laws.{rows-read}
+use Rattle.resolve_text.specs.Report.{Printed, PrintedOfFiles}
 use Rattle.resolve_text.proofs.ReportLaws.{outcome-none}
 
 no-T : (b : Bool) → (T b → ⊥) → b ≡ false
@@ -76,3 +77,17 @@ names-cut s ns = go (decLe (length ns) 32769)
 -- A program that reads 165,889 bytes of sheet.txt and 32,769 of names.txt prints what belongs to the whole files.
 pub printed-cut : (s ns : List ℕ) → printed (take 165889 s) (take 32769 ns) ≡ printed s ns
 printed-cut s ns = ap (λ (o : Outcome). textOf (report o)) (sheet-cut s (take 32769 ns) ∙ names-cut (sheetOf s) ns)
+
+-- and so what is printed of the bytes read is what is printed of the files
+pub printed-files : {sheet names before : List ℕ} {n : ℕ} {after : List ℕ} → Printed sheet names before n after → PrintedOfFiles sheet names before n after
+printed-files {sheet} {names} {before} {n} {after} x = record {
+    of-read = x;
+    of-files = λ s ns e f.
+        let same : printed sheet names ≡ printed s ns = ap (λ (t : List ℕ). printed t names) e ∙ ap (λ (t : List ℕ). printed (take 165889 s) t) f ∙ printed-cut s ns in
+        record {
+          count = λ l. x .count l ∙ ap length same;
+          text = λ l. x .text l ∙ ap (λ (t : List ℕ). t ++ drop n before) same;
+          no-count = x .no-count;
+          no-text = x .no-text;
+        };
+  }

@@ -27,3 +27,8 @@ pub record Printed (sheet names before : List ℕ) (n : ℕ) (after : List ℕ) 
   -- where fewer are lent, n is 0 and nothing is written.
   pub no-count : length before < 165969 → n ≡ 0
   pub no-text : length before < 165969 → after ≡ before
+
+-- The same of two files of which `sheet` and `names` were read: all of them, or one byte more than the longest that is accepted.
+pub record PrintedOfFiles (sheet names before : List ℕ) (n : ℕ) (after : List ℕ) : Type 0 where
+  pub of-read : Printed sheet names before n after
+  pub of-files : (s ns : List ℕ) → sheet ≡ take 165889 s → names ≡ take 32769 ns → Printed s ns before n after

@@ -2,7 +2,7 @@
 ghost use mathlib.Core.Path.{_≡_};
 ghost use Prim.Native.Nat.{_≤_};
 ghost use lib.ListN.{length};
-ghost use Rattle.resolve_text.specs.Report.{firstRow, Reported, Printed};
+ghost use Rattle.resolve_text.specs.Report.{firstRow, Reported, Printed, PrintedOfFiles};
 use resolver::Answer;
 use resolver::resolve;
 use text::read_sheet;
@@ -54,9 +54,10 @@ fn print_report(
 }
 
 // Writes what the program prints of the texts of sheet.txt and names.txt. Returns the number of bytes, or 0 where the lent
-// text is shorter than the longest report.
+// text is shorter than the longest report. Of a file that is too long to be accepted one byte more than the longest accepted has is
+// enough.
 pub fn resolve_text(sheet: &[u8], names: &[u8], text: &mut [u8]) -> usize
-    ensures { λ n. ⌜ Printed (now (sheet .entry)) (now (names .entry)) (now (text .entry)) n (now (text .exit)) ⌝ }
+    ensures { λ n. ⌜ PrintedOfFiles (now (sheet .entry)) (now (names .entry)) (now (text .entry)) n (now (text .exit)) ⌝ }
 {
     if text.len() < LONGEST_REPORT {
         return 0;

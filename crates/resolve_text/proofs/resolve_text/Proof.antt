@@ -1,11 +1,12 @@
 -- `resolve_text` meets its contract. Assumes nothing.
 use borrow.Author.Needs.{needs}
 use Rattle.resolve_text.proofs.ReportLaws.{printed-none}
+use Rattle.resolve_text.proofs.Longer.{printed-files}
 use Rattle.resolve_text.proofs.resolve_text.Statement.{statement}
 use Rattle.resolve_text.proofs.resolve_text.Tie as tie
 
 returns : tie.Need-returns
-returns c = printed-none (c .before .before .before .before .args .sheet .now) (c .before .before .before .before .args .names .now) (c .before .before .before .before .args .text .now) (c .if1 .taken)
+returns c = printed-files (printed-none (c .before .before .before .before .args .sheet .now) (c .before .before .before .before .args .names .now) (c .before .before .before .before .args .text .now) (c .if1 .taken))
 
 slice-aggregate-print-report : tie.Need-slice-aggregate-print-report
 slice-aggregate-print-report c = search needs
@@ -20,7 +21,7 @@ same-length : tie.Need-same-length
 same-length c = search needs
 
 returns-2 : tie.Need-returns-2
-returns-2 c = search needs
+returns-2 c = printed-files (c .before .before .before .before .print-report .ensures)
 
 pub resolve-text-spec : {M : Type 1} → statement M
 resolve-text-spec =
