@@ -11,6 +11,7 @@ use Rattle.definition.specs.Classes.{hasRecord, className}
 use Rattle.definition.proofs.Lists.Tests.{and-left, and-right, T-true, true-of}
 use Rattle.machine.specs.Machine.{Store, cell}
 use Rattle.after.specs.Inherited.{isClassRow, parentIn}
+use Rattle.inherit.specs.Answered.{lacksRecord}
 
 module _ (s : Sheet) (c : ℕ) where
   pub row-of : {w : ℕ} → w ≡ kind s (c - 256) → 256 ≤ c → eqb w 4 ≡ isClassRow s c
@@ -34,10 +35,7 @@ module _ (s : Sheet) (o : Store) (c : ℕ) where
   unfolding parentIn
   parent-none h = sym (ap (λ (t : Bool). if t then cell (o .table) (c - 256) 1 else 0) h)
 
--- is a parent a class without a record?
-abbrev pub lacksRecord : ℕ → Bool
-lacksRecord c = not (eqb c 0) && not (hasRecord c)
-
+-- parents without a record
 pub lacks-some : (c : ℕ) {h : Bool} → h ≡ hasRecord c → (c ≡ 0 → ⊥) → not h ≡ lacksRecord c
 lacks-some c e f = ap not e ∙ sym (ap (λ (t : Bool). not t && not (hasRecord c)) (ne-eqb c 0 f))
 

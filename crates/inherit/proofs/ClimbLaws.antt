@@ -14,8 +14,8 @@ use Rattle.definition.specs.Question.{Refusal, none, ask, firstNo}
 use Rattle.machine.specs.Machine.{Store}
 use Rattle.symbols.proofs.DeclLaws.{kind-inside}
 use Rattle.after.specs.Inherited.{isClassRow, parentIn, climbIn}
-use Rattle.inherit.specs.Answered.{Marked}
-use Rattle.inherit.proofs.ClassLaws.{row-number, row-kind, lacksRecord}
+use Rattle.inherit.specs.Answered.{lacksRecord, Marked}
+use Rattle.inherit.proofs.ClassLaws.{row-number, row-kind}
 
 -- the same climb, where the classes climbed through are those marked with k in m
 unfoldable pub climbMarked : Sheet → Store → ℕ → ℕ → List ℕ → ℕ → Refusal
@@ -88,11 +88,6 @@ climb-start s o m r n e l h =
   where
     one-more : n ≡ suc (rows s)
     one-more = omega arith
-
-pub climb-end : (s : Sheet) (o : Store) (m : List ℕ) (k n c : ℕ) → n ≤ 0 → none ≡ climbMarked s o k n m c
-unfolding climbMarked
-climb-end s o m k zero c l = refl
-climb-end s o m k (suc n) c l = absurd (omega arith)
 
 -- one class of the climb; p is its parent
 module _ (s : Sheet) (o : Store) (m : List ℕ) (k n c : ℕ) (l : 0 < n) where

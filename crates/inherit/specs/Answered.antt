@@ -1,8 +1,15 @@
 -- The program's refusal as the definition's, and the marks of the classes that were climbed through.
+use mathlib.Core.Path.{_≡_}
+use mathlib.Core.Bool.{Bool, true, false, not, _&&_}
 use mathlib.Core.List.{List}
-use Prim.Native.Nat.{ℕ, _≤_}
+use Prim.Native.Nat.{ℕ, zero, suc, _+_, _≤_}
+use lib.Dec.{eqb}
 use lib.ListN.{getD}
+use Rattle.definition.specs.Sheet.{Sheet}
+use Rattle.definition.specs.Classes.{hasRecord}
 use Rattle.definition.specs.Question.{Refusal as No}
+use Rattle.machine.specs.Machine.{Store}
+use Rattle.after.specs.Inherited.{isClassRow, parentIn}
 use Rattle.inherit.specs.declared.Refusal.{Refusal}
 
 -- a refusal's three values
@@ -12,3 +19,16 @@ refusalOf x = record { number = x .number; at = x .at; name = x .name }
 -- no mark is over k
 pub record Marked (k : ℕ) (m : List ℕ) : Type 0 where
   pub marks : (j : ℕ) → getD m j 0 ≤ k
+
+-- is a parent a class without a record?
+abbrev pub lacksRecord : ℕ → Bool
+lacksRecord c = not (eqb c 0) && not (hasRecord c)
+
+-- from c on there are exactly n class rows, each the parent of the one before, and none of them has a parent without a record
+unfoldable pub Ends : Sheet → Store → ℕ → ℕ → Type 0
+Ends s o zero c = isClassRow s c ≡ false
+Ends s o (suc n) c = (isClassRow s c ≡ true) × (lacksRecord (parentIn s o c) ≡ false) × Ends s o n (parentIn s o c)
+
+-- from every row that has a mark the line of parents ends
+pub record Climbed (s : Sheet) (o : Store) (m : List ℕ) : Type 0 where
+  pub ended : (j : ℕ) → (getD m j 0 ≡ 0 → ⊥) → (n : ℕ) × Ends s o n (256 + j)

@@ -1,17 +1,15 @@
 // The questions that follow the walk: 18 and 19 on the parents of classes, 20 and 21 on constructor calls.
 ghost use mathlib.Core.Path.{_≡_};
-ghost use mathlib.Core.Bool.{false, not, _&&_};
+ghost use mathlib.Core.Bool.{false};
 ghost use mathlib.Core.List.{List, [], _∷_};
 ghost use Prim.Native.Nat.{ℕ, suc, _+_, _*_, _≤_};
-ghost use lib.Dec.{eqb};
 ghost use lib.ListN.{length};
 ghost use Rattle.definition.specs.Sheet.{a, rows};
-ghost use Rattle.definition.specs.Classes.{hasRecord, className, methodNamed};
+ghost use Rattle.definition.specs.Classes.{className, methodNamed};
 ghost use Rattle.definition.specs.Question.{ask, firstNo};
-ghost use Rattle.machine.specs.Machine.{previous};
 ghost use Rattle.store.specs.Stored.{storeOf};
 ghost use Rattle.after.specs.Inherited.{isClassRow, parentIn, climbIn, classesRefusal, methodsIn, checkCallIn, callsRefusal};
-ghost use Rattle.inherit.specs.Answered.{refusalOf, Marked};
+ghost use Rattle.inherit.specs.Answered.{refusalOf, lacksRecord, Marked, Climbed};
 use ast::ClassId;
 use ast::FIRST_CLASS;
 use ast::FunId;
@@ -62,7 +60,7 @@ pub fn parent_of(s: &[u32], t: &[u32], c: ClassId) -> ClassId
 
 // Is a parent a class without a record? Class 0 is no parent.
 fn lacks_record(c: ClassId) -> bool
-    ensures { λ x. ⌜ x ≡ (not (eqb (c .0) 0) && not (hasRecord (c .0))) ⌝ }
+    ensures { λ x. ⌜ x ≡ lacksRecord (c .0) ⌝ }
 {
     if c.0 != 0 {
         return !has_record(c);
@@ -81,21 +79,21 @@ fn refuse_class(s: &[u32], number: u32, r: u32) -> Refusal
     }
 }
 
-// The questions 18 and 19 on the class of row `r` and then on its ancestors. A class climbed through is marked with `r + 1`; the
-// marks of earlier climbs are less.
+// The questions 18 and 19 on the class of row `r` and then on its ancestors. A class climbed through is marked with `r + 1`. One with a
+// mark of an earlier climb was climbed through to the top without a no, so the climb stops there.
 fn climb(s: &[u32], t: &[u32], marks: &mut [u32], r: u32) -> Refusal
-    requires { ⌜ (length (now s) ≤ 8 * length (now marks)) × (r ≤ 2048) × (Marked r (now marks)) ⌝ }
-    ensures { λ x. ⌜ ((o : Store) (q : List ℕ) → refusalOf x ≡ climbIn (now (s .entry)) (storeOf o (now (t .entry)) q) (suc (rows (now (s .entry)))) [] (256 + r)) × (Marked (r + 1) (now (marks .exit))) ⌝ }
+    requires { ⌜ (length (now s) ≤ 8 * length (now marks)) × (r ≤ 2048) × (Marked r (now marks)) × (8 * rows (now s) ≡ length (now s)) × ((o : Store) (q : List ℕ) → Climbed (now s) (storeOf o (now t) q) (now marks)) ⌝ }
+    ensures { λ x. ⌜ ((o : Store) (q : List ℕ) → refusalOf x ≡ climbIn (now (s .entry)) (storeOf o (now (t .entry)) q) (suc (rows (now (s .entry)))) [] (256 + r)) × (Marked (r + 1) (now (marks .exit))) × (x .number ≡ 0 → (o : Store) (q : List ℕ) → Climbed (now (s .entry)) (storeOf o (now (t .entry)) q) (now (marks .exit))) ⌝ }
 {
-    let mut left = s.len() / 8 + 1;
     let mut c = FIRST_CLASS + r;
-    while 0 < left {
-        if !is_class_row(s, c) {
-            return NO_REFUSAL;
-        }
+    while is_class_row(s, c) {
         let row = c - FIRST_CLASS;
-        if marks[row as usize] == r + 1 {
+        let mark = marks[row as usize];
+        if mark == r + 1 {
             return refuse_class(s, 18, row);
+        }
+        if mark != 0 {
+            return NO_REFUSAL;
         }
         let up = parent_of(s, t, ClassId(c));
         if lacks_record(up) {
@@ -103,14 +101,13 @@ fn climb(s: &[u32], t: &[u32], marks: &mut [u32], r: u32) -> Refusal
         }
         marks[row as usize] = r + 1;
         c = up.0;
-        left -= 1;
     }
     NO_REFUSAL
 }
 
 // The first no of the questions 18 and 19, classes in row order.
 pub fn check_classes(s: &[u32], t: &[u32], marks: &mut [u32]) -> Refusal
-    requires { ⌜ (length (now s) ≤ 16384) × (length (now s) ≤ 8 * length (now marks)) × (Marked 0 (now marks)) ⌝ }
+    requires { ⌜ (length (now s) ≤ 16384) × (length (now s) ≤ 8 * length (now marks)) × (Marked 0 (now marks)) × (8 * rows (now s) ≡ length (now s)) ⌝ }
     ensures { λ x. ⌜ ((o : Store) (q : List ℕ) → refusalOf x ≡ classesRefusal (now (s .entry)) (storeOf o (now (t .entry)) q)) ⌝ }
 {
     let mut r: u32 = 0;
@@ -206,7 +203,7 @@ pub fn check_ctor_calls(s: &[u32], t: &[u32], q: &[u32], calls: u32) -> Refusal
 
 // The first no of the questions that follow the walk.
 pub fn later_refusal(s: &[u32], t: &[u32], q: &[u32], marks: &mut [u32], calls: u32) -> Refusal
-    requires { ⌜ (length (now s) ≤ 16384) × (length (now s) ≤ 8 * length (now marks)) × (Marked 0 (now marks)) ⌝ }
+    requires { ⌜ (length (now s) ≤ 16384) × (length (now s) ≤ 8 * length (now marks)) × (Marked 0 (now marks)) × (8 * rows (now s) ≡ length (now s)) ⌝ }
     ensures { λ x. ⌜ ((o : Store) → o .calls ≡ calls → refusalOf x ≡ firstNo (classesRefusal (now (s .entry)) (storeOf o (now (t .entry)) (now (q .entry))) ∷ callsRefusal (now (s .entry)) (storeOf o (now (t .entry)) (now (q .entry))) ∷ [])) ⌝ }
 {
     let x = check_classes(s, t, marks);

@@ -81,13 +81,13 @@ printed-cut s ns = ap (λ (o : Outcome). textOf (report o)) (sheet-cut s (take 3
 -- and so what is printed of the bytes read is what is printed of the files
 pub printed-files : {sheet names before : List ℕ} {n : ℕ} {after : List ℕ} → Printed sheet names before n after → PrintedOfFiles sheet names before n after
 printed-files {sheet} {names} {before} {n} {after} x = record {
-    of-read = x;
-    of-files = λ s ns e f.
-        let same : printed sheet names ≡ printed s ns = ap (λ (t : List ℕ). printed t names) e ∙ ap (λ (t : List ℕ). printed (take 165889 s) t) f ∙ printed-cut s ns in
-        record {
-          count = λ l. x .count l ∙ ap length same;
-          text = λ l. x .text l ∙ ap (λ (t : List ℕ). t ++ drop n before) same;
-          no-count = x .no-count;
-          no-text = x .no-text;
-        };
-  }
+  of-read = x;
+  of-files = λ s ns e f.
+      let same : printed sheet names ≡ printed s ns = ap (λ (t : List ℕ). printed t names) e ∙ ap (λ (t : List ℕ). printed (take 165889 s) t) f ∙ printed-cut s ns in
+      record {
+        count = λ l. x .count l ∙ ap length same;
+        text = λ l. x .text l ∙ ap (λ (t : List ℕ). t ++ drop n before) same;
+        no-count = x .no-count;
+        no-text = x .no-text;
+      };
+}

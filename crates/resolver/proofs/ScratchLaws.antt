@@ -25,24 +25,24 @@ zeros-long n = length-replicate {A = ℕ} n 0
 -- room for a sheet of at most m rows
 pub lent-zeros : (s : Sheet) (m a b c d : ℕ) → rows s ≤ m → m ≤ a → 1059 + 3 * m < b / 5 → m ≤ c / 8 → 21 * m ≤ d / 4 → Lent s (replicate a 0) (replicate b 0) (replicate c 0) (replicate d 0)
 lent-zeros s m a b c d few la lb lc ld = record {
-    for-classes = omega (arith, zeros-long a);
-    for-entries = rw (zeros-long b) (omega arith);
-    for-rows = rw (zeros-long c) (omega arith);
-    for-nodes = rw (zeros-long d) (omega arith);
-    clear-classes = clear-zeros a;
-    clear-rows = clear-zeros c;
-  }
+  for-classes = omega (arith, zeros-long a);
+  for-entries = rw (zeros-long b) (omega arith);
+  for-rows = rw (zeros-long c) (omega arith);
+  for-nodes = rw (zeros-long d) (omega arith);
+  clear-classes = clear-zeros a;
+  clear-rows = clear-zeros c;
+}
 
 pub scratch-zeros : (s : Sheet) (n : ℕ) → rows s ≤ n → Scratch s (replicate n 0) (replicate n 0) (replicate n 0) (replicate n 0)
 scratch-zeros s n few = record {
-    for-marks = omega (arith, zeros-long n);
-    for-heads = omega (arith, zeros-long n);
-    for-nexts = omega (arith, zeros-long n);
-    for-parents = omega (arith, zeros-long n);
-    clear-marks = clear-zeros n;
-    clear-heads = clear-zeros n;
-    clear-parents = clear-zeros n;
-  }
+  for-marks = omega (arith, zeros-long n);
+  for-heads = omega (arith, zeros-long n);
+  for-nexts = omega (arith, zeros-long n);
+  for-parents = omega (arith, zeros-long n);
+  clear-marks = clear-zeros n;
+  clear-heads = clear-zeros n;
+  clear-parents = clear-zeros n;
+}
 
 -- a sheet past question 1 is not long
 pub rows-most : (s : Sheet) → PastFour s → rows s ≤ 2048

@@ -10,7 +10,7 @@ use Rattle.resolver.proofs.finish.Statement.{statement}
 use Rattle.resolver.proofs.finish.Tie as tie
 
 later-refusal-requires : tie.Need-later-refusal-requires
-later-refusal-requires c κs = (small-sheet (c .before .before .before .before .before .before .before .before .before .before .before .before .pre .0), omega (arith, rows-whole (c .before .before .before .before .before .before .before .before .before .before .before .before .args .s .now) (c .before .before .before .before .before .before .before .before .before .before .before .before .pre .0 .whole), c .before .before .before .before .before .before .before .before .before .before .before .before .pre .3 .for-marks), record { marks = λ j. omega (arith, c .before .before .before .before .before .before .before .before .before .before .before .before .pre .3 .clear-marks .zeros j) })
+later-refusal-requires c κs = (small-sheet (c .before .before .before .before .before .before .before .before .before .before .before .before .pre .0), omega (arith, rows-whole (c .before .before .before .before .before .before .before .before .before .before .before .before .args .s .now) (c .before .before .before .before .before .before .before .before .before .before .before .before .pre .0 .whole), c .before .before .before .before .before .before .before .before .before .before .before .before .pre .3 .for-marks), record { marks = λ j. omega (arith, c .before .before .before .before .before .before .before .before .before .before .before .before .pre .3 .clear-marks .zeros j) }, rows-whole (c .before .before .before .before .before .before .before .before .before .before .before .before .args .s .now) (c .before .before .before .before .before .before .before .before .before .before .before .before .pre .0 .whole))
 
 clear-requires : tie.Need-clear-requires
 clear-requires c κs = search needs
