@@ -25,15 +25,16 @@ pub fn entry_word(v: &[u32], i: u32, c: u32) -> u32
     if at < v.len() { v[at] } else { 0 }
 }
 
-// One more than the place of the innermost of the first `n` entries that declares name `m`, or 0.
+// One more than the place of the innermost of the first `n` entries that declares name `m`, or 0. An entry's name is read first, since it
+// seldom is `m`.
 pub fn find_name(v: &[u32], m: u32, n: u32) -> u32
     ensures { λ x. ⌜ x ≡ findName (now (v .entry)) m n ⌝ }
 {
     let mut i = n;
     while 0 < i {
         let at = i - 1;
-        if 1 < entry_word(v, at, 0) {
-            if entry_word(v, at, 1) == m {
+        if entry_word(v, at, 1) == m {
+            if 1 < entry_word(v, at, 0) {
                 return i;
             }
         }
@@ -53,8 +54,8 @@ pub fn has_local(v: &[u32], m: u32, n: u32) -> bool
         if tag == 1 {
             return false;
         }
-        if 1 < tag {
-            if entry_word(v, i, 1) == m {
+        if entry_word(v, i, 1) == m {
+            if 1 < tag {
                 return true;
             }
         }
