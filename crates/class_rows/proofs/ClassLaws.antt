@@ -2,7 +2,7 @@
 use mathlib.Core.Path.{_≡_, refl, sym, ap, _∙_}
 use mathlib.Core.Bool.{not}
 use mathlib.Core.List.{List, [], _∷_, _++_, map}
-use Prim.Native.Nat.{ℕ, suc, _+_, _<_, _≤_, min}
+use Prim.Native.Nat.{ℕ, suc, _+_, _/_, _<_, _≤_, min}
 use native.Mathlib.Omega.{arith}
 use lib.Dec.{eqb}
 use lib.ListN.{length, getD}
@@ -14,8 +14,8 @@ use Rattle.definition.specs.Answer.{eight, numbered}
 use Rattle.machine.specs.Machine.{Store as Stored, oneMore}
 use Rattle.after.specs.Inherited.{parentIn, fieldsIn, methodsIn, methodNamesIn}
 use Rattle.after.specs.Rows.{classRowsNamed}
-use Rattle.sink.specs.Sink.{Sink, emit, emitAll}
-use Rattle.sink.proofs.SinkLaws.{emit-first, emit-both}
+use Rattle.sink.specs.Sink.{Sink, sink, emit, emitAll}
+use Rattle.sink.proofs.SinkLaws.{emit-full, emit-none, emit-first, emit-both}
 use Rattle.store.specs.Stored.{storeOf}
 use Rattle.store.specs.declared.nodes.Store.{Store}
 use Rattle.class_rows.specs.Names.{namesIn, ClassReady, headWords}
@@ -34,23 +34,30 @@ bit-set x f = rw (ne-eqb x 0 f)
 pub names-counted : (f : ℕ → ℕ → List ℕ) (ms : List ℕ) (k : Filled) {x : Filled} → k .slot ≡ 0 → x ≡ putAll f ms k → x .slot ≡ min (length ms) 4294967295
 names-counted f ms k z e = ap (λ (y : Filled). y .slot) e ∙ slot-counts f ms k (omega arith) ∙ omega arith
 
+-- The names that are wanted.
+wanted-fields : (s : Sheet) (o : Stored) {r : ℕ} {w : Wanted} → Wants r 10 w → namesIn s o (w .kind) (rows s) (w .whole) ≡ fieldsIn s o (rows s) (256 + r)
+wanted-fields s o {r} h = rw (h .kindIs, h .wholeIs) (names-fields s o (rows s) (256 + r))
+
+wanted-methods : (s : Sheet) (o : Stored) {r : ℕ} {w : Wanted} → Wants r 6 w → namesIn s o (w .kind) (rows s) (w .whole) ≡ methodNamesIn s o (rows s) (256 + r)
+wanted-methods s o {r} h = rw (h .kindIs, h .wholeIs) (names-methods s o (rows s) (256 + r))
+
 -- The first row.
 module _ (s t q marks : List ℕ) (r : ℕ) (h : ClassReady s t q marks r) (o : Store) where
   abbrev st : Stored
   st = storeOf o t q
 
-  pub head-row : {p b f m i j : ℕ} → p ≡ parentIn s st (256 + r) → b ≡ bit (not (eqb (getD marks r 0) 0))
-      → i ≡ 10 → f ≡ min (length (namesIn s st i (rows s) (256 + r))) 4294967295
-      → j ≡ 6 → m ≡ min (length (namesIn s st j (rows s) (256 + r))) 4294967295
+  pub head-row : {p b f m : ℕ} {u v : Wanted} → p ≡ parentIn s st (256 + r) → b ≡ bit (not (eqb (getD marks r 0) 0))
+      → Wants r 10 u → f ≡ min (length (namesIn s st (u .kind) (rows s) (u .whole))) 4294967295
+      → Wants r 6 v → m ≡ min (length (namesIn s st (v .kind) (rows s) (v .whole))) 4294967295
       → r ∷ 22 ∷ p ∷ b ∷ f ∷ m ∷ 0 ∷ 0 ∷ [] ≡ eight (r ∷ headWords s st r)
   unfolding headWords
-  head-row {p} {b} {f} {m} {i} {j} d e x u y v = rw (d, e ∙ ap bit (h .marked .told o q r (h .row)), fields-equal, methods-equal)
+  head-row {p} {b} {f} {m} {u} {v} d e x g y i = rw (d, e ∙ ap bit (h .marked .told o q r (h .row)), fields-equal, methods-equal)
     where
       fields-equal : f ≡ length (fieldsIn s st (rows s) (256 + r))
-      fields-equal = omega (arith, u, ap length (ap (λ (z : ℕ). namesIn s st z (rows s) (256 + r)) x ∙ names-fields s st (rows s) (256 + r)), h .fields o)
+      fields-equal = omega (arith, g, ap length (wanted-fields s st x), h .fields o)
 
       methods-equal : m ≡ length (methodNamesIn s st (rows s) (256 + r))
-      methods-equal = omega (arith, v, ap length (ap (λ (z : ℕ). namesIn s st z (rows s) (256 + r)) y ∙ names-methods s st (rows s) (256 + r)), h .methods o)
+      methods-equal = omega (arith, i, ap length (wanted-methods s st y), h .methods o)
 
 -- The rows of the fields and of the methods.
 module _ (f : ℕ → ℕ → List ℕ) (s : Sheet) (r : ℕ) where
@@ -80,24 +87,18 @@ module _ (s : Sheet) (o : Stored) (r : ℕ) (w : Wanted) (k : Filled) where
   method-row h m i = rw (h .kindIs, h .rowIs, h .wholeIs)
 
   pub fields-told : {x : Filled} → Wants r 10 w → length (fieldsIn s o (rows s) (256 + r)) ≤ 4294967295 → k .slot ≡ 0
-      → x ≡ putAll (nameRow s o w) (namesIn s o (w .kind) (rows s) (256 + r)) k
+      → x ≡ putAll (nameRow s o w) (namesIn s o (w .kind) (rows s) (w .whole)) k
       → x .done ≡ emitAll (map (λ vs. eight (r ∷ vs)) (numbered s [] 0 (fieldsIn s o (rows s) (256 + r)))) (k .done)
   fields-told h l z e =
-      ap (λ (y : Filled). y .done) (e ∙ ap (λ (ms : List ℕ). putAll (nameRow s o w) ms k) names)
+      ap (λ (y : Filled). y .done) (e ∙ ap (λ (ms : List ℕ). putAll (nameRow s o w) ms k) (wanted-fields s o h))
       ∙ field-rows (nameRow s o w) s r (field-row h) (fieldsIn s o (rows s) (256 + r)) k (omega arith)
       ∙ ap (λ (i : ℕ). emitAll (map (λ vs. eight (r ∷ vs)) (numbered s [] i (fieldsIn s o (rows s) (256 + r)))) (k .done)) z
-    where
-      names : namesIn s o (w .kind) (rows s) (256 + r) ≡ fieldsIn s o (rows s) (256 + r)
-      names = ap (λ (j : ℕ). namesIn s o j (rows s) (256 + r)) (h .kindIs) ∙ names-fields s o (rows s) (256 + r)
 
-  pub methods-told : {x : Filled} → Wants r 6 w → x ≡ putAll (nameRow s o w) (namesIn s o (w .kind) (rows s) (256 + r)) k
+  pub methods-told : {x : Filled} → Wants r 6 w → x ≡ putAll (nameRow s o w) (namesIn s o (w .kind) (rows s) (w .whole)) k
       → x .done ≡ emitAll (map (λ vs. eight (r ∷ vs)) (map (λ n. 24 ∷ n ∷ methodNamed n (methodsIn s o (rows s) (256 + r)) ∷ []) (methodNamesIn s o (rows s) (256 + r)))) (k .done)
   methods-told h e =
-      ap (λ (y : Filled). y .done) (e ∙ ap (λ (ms : List ℕ). putAll (nameRow s o w) ms k) names)
+      ap (λ (y : Filled). y .done) (e ∙ ap (λ (ms : List ℕ). putAll (nameRow s o w) ms k) (wanted-methods s o h))
       ∙ method-rows (nameRow s o w) s r (λ n. methodNamed n (methodsIn s o (rows s) (256 + r))) (method-row h) (methodNamesIn s o (rows s) (256 + r)) k
-    where
-      names : namesIn s o (w .kind) (rows s) (256 + r) ≡ methodNamesIn s o (rows s) (256 + r)
-      names = ap (λ (j : ℕ). namesIn s o j (rows s) (256 + r)) (h .kindIs) ∙ names-methods s o (rows s) (256 + r)
 
 -- All rows of a class.
 pub class-rows : (s : Sheet) (o : Stored) (r : ℕ) (k : Sink) {ws : List ℕ} {h x y : Sink} → ws ≡ eight (r ∷ headWords s o r) → h ≡ emit ws k
@@ -118,3 +119,12 @@ class-rows s o r k {ws} {h} {x} {y} e f u v =
     joined : (xs ys : List (List ℕ)) → map (λ vs. eight (r ∷ vs)) (xs ++ ys) ≡ map (λ vs. eight (r ∷ vs)) xs ++ map (λ vs. eight (r ∷ vs)) ys
     joined [] ys = refl
     joined (z ∷ zs) ys = ap (λ (l : List (List ℕ)). eight (r ∷ z) ∷ l) (joined zs ys)
+
+-- No row fits.
+full-stays : (rs : List (List ℕ)) (w : List ℕ) → sink (length w / 8 + 1) w ≡ emitAll rs (sink (length w / 8 + 1) w)
+full-stays [] w = emit-none (sink (length w / 8 + 1) w)
+full-stays (r ∷ rs) w = emit-first r rs (sink (length w / 8 + 1) w) (emit-full (length w / 8 + 1) w r (omega arith)) (full-stays rs w)
+
+pub class-full : (s : Sheet) (o : Stored) (r k : ℕ) (w : List ℕ) → length w / 8 ≤ k → sink (length w / 8 + 1) w ≡ emitAll (map (λ vs. eight (r ∷ vs)) (classRowsNamed s o r)) (sink k w)
+unfolding classRowsNamed headWords
+class-full s o r k w l = emit-first (eight (r ∷ headWords s o r)) _ (sink k w) (emit-full k w (eight (r ∷ headWords s o r)) l) (full-stays _ w)

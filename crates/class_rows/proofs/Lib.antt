@@ -1,4 +1,9 @@
 mod NameLaws
 mod PutLaws
+mod KeptLaws
+mod StableLaws
+pub mod PlaceLaws
+mod AboveLaws
+mod LineLaws
 mod ClassLaws
 mod MarkLaws

@@ -1,2 +1,3 @@
 pub mod Names
 pub mod Put
+pub mod Places

@@ -1,11 +1,12 @@
 -- The rows that tell names, written one after another.
 use mathlib.Core.Path.{_≡_}
 use mathlib.Core.List.{List, [], _∷_}
-use Prim.Native.Nat.{ℕ, _+_}
+use Prim.Native.Nat.{ℕ, _+_, _*_}
 use lib.Dec.{eqb}
+use lib.ListN.{getD}
 use Rattle.definition.specs.Basics.{if_then_else_}
 use Rattle.definition.specs.Sheet.{Sheet, rows}
-use Rattle.definition.specs.Classes.{methodNamed}
+use Rattle.definition.specs.Classes.{methodNamed, ownMethods}
 use Rattle.machine.specs.Machine.{Store as Stored, oneMore}
 use Rattle.after.specs.Inherited.{methodsIn}
 use Rattle.sink.specs.Sink.{Sink, sink, emit}
@@ -50,3 +51,11 @@ putAll f (m ∷ ms) k = putAll f ms (put f m k)
 -- the names of a list that are not inherited from the parent p
 abbrev pub putNew : Sheet → Stored → Wanted → Passed → List ℕ → Filled → Filled
 putNew s o w p ms k = putAll (nameRow s o w) (newOf (inherited s o (w .kind) (p .left) (p .class)) ms) k
+
+-- the row that tells the name of row i of the words v, at slot k: a method by the own function of that name, else by that of row i
+unfoldable pub copiedRow : Sheet → Wanted → List ℕ → ℕ → ℕ → List ℕ
+copiedRow s w v i k =
+    let m : ℕ = getD v (8 * i + 2) 0 in
+    let f : ℕ = getD v (8 * i + 3) 0 in
+    let own : ℕ = methodNamed m (ownMethods s (w .whole)) in
+    if eqb (w .kind) 10 then w .row ∷ 23 ∷ k ∷ f ∷ 0 ∷ 0 ∷ 0 ∷ 0 ∷ [] else w .row ∷ 24 ∷ m ∷ (if eqb own 0 then f else own) ∷ 0 ∷ 0 ∷ 0 ∷ 0 ∷ []

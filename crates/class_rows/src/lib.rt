@@ -2,7 +2,7 @@
 ghost use mathlib.Core.Path.{_≡_};
 ghost use mathlib.Core.List.{_∷_, map};
 ghost use mathlib.Core.Bool.{not};
-ghost use Prim.Native.Nat.{_<_};
+ghost use Prim.Native.Nat.{_+_, _<_};
 ghost use lib.Dec.{eqb};
 ghost use lib.ListN.{length, getD};
 ghost use Rattle.definition.specs.Basics.{bit};
@@ -13,15 +13,23 @@ ghost use Rattle.store.specs.Stored.{storeOf};
 ghost use Rattle.store.specs.declared.nodes.Store.{Store};
 ghost use Rattle.class_rows.specs.Names.{ClassReady, headWords};
 ghost use Rattle.class_rows.specs.Put.{Wants, wordsOf};
+ghost use Rattle.class_rows.specs.Places.{Placed, Shown, Counted};
 
+mod copied;
 mod held;
+mod line;
 pub mod marks;
+mod places;
 mod put;
 
+use crate::line::count_line;
+use crate::line::put_line;
+use crate::places::Above;
+use crate::places::above_of;
+use crate::places::line_ends;
+use crate::places::place_of;
 use crate::put::Wanted;
 use crate::put::Written;
-use crate::put::count_names;
-use crate::put::put_names;
 use ast::ClassId;
 use ast::FIRST_CLASS;
 use inherit::parent_of;
@@ -53,50 +61,90 @@ fn wanted(r: u32, kind: u32) -> Wanted
 }
 
 // The first row of a class: its parent, whether it has children, and the numbers of its fields and methods.
-fn class_head(s: &[u32], t: &[u32], q: &[u32], marks: &[u32], r: u32) -> AnswerRow
-    requires { ⌜ ClassReady (now s) (now t) (now q) (now marks) r ⌝ }
+fn class_head(
+    s: &[u32],
+    t: &[u32],
+    q: &[u32],
+    marks: &[u32],
+    fields: Above,
+    methods: Above,
+    r: u32,
+) -> AnswerRow
+    requires { ⌜ (ClassReady (now s) (now t) (now q) (now marks) r) × (Counted (now s) (now t) (now q) 10 (256 + r) fields) × (Counted (now s) (now t) (now q) 6 (256 + r) methods) ⌝ }
     ensures { λ x. ⌜ ((o : Store) → wordsOf x ≡ eight (r ∷ headWords (now (s .entry)) (storeOf o (now (t .entry)) (now (q .entry))) r)) ⌝ }
 {
-    let n = s.len() / 8;
-    let c = ClassId(FIRST_CLASS + r);
-    let parent = parent_of(s, t, c).0;
+    let parent = parent_of(s, t, ClassId(FIRST_CLASS + r)).0;
     let children = mark_bit(marks, r);
-    let fields = count_names(s, t, q, wanted(r, 10), n, c);
-    let methods = count_names(s, t, q, wanted(r, 6), n, c);
+    let field_count = count_line(s, t, q, wanted(r, 10), fields);
+    let method_count = count_line(s, t, q, wanted(r, 6), methods);
     AnswerRow {
         row: r,
         code: 22,
         one: parent,
         two: children,
-        three: fields,
-        four: methods,
+        three: field_count,
+        four: method_count,
     }
 }
 
 // The rows of the class of row `r`, after `k` rows: its counts, its fields by slot, its methods.
+fn write_class(
+    s: &[u32],
+    t: &[u32],
+    q: &[u32],
+    marks: &[u32],
+    fields: Above,
+    methods: Above,
+    r: u32,
+    k: usize,
+    out: &mut [u32],
+) -> usize
+    requires { ⌜ (ClassReady (now s) (now t) (now q) (now marks) r) × (Shown (now s) (now t) (now q) 10 (256 + r) (now out) k fields) × (Shown (now s) (now t) (now q) 6 (256 + r) (now out) k methods) ⌝ }
+    ensures { λ x. ⌜ ((o : Store) → sink x (now (out .exit)) ≡ emitAll (map (λ vs. eight (r ∷ vs)) (classRowsNamed (now (s .entry)) (storeOf o (now (t .entry)) (now (q .entry))) r)) (sink k (now (out .entry)))) ⌝ }
+{
+    let head = class_head(s, t, q, marks, fields, methods, r);
+    let first = Written {
+        count: emit(out, k, head),
+        slot: FIRST_SLOT,
+    };
+    let done = put_line(s, t, q, wanted(r, 10), fields, first, out);
+    let second = Written {
+        count: done.count,
+        slot: FIRST_SLOT,
+    };
+    put_line(s, t, q, wanted(r, 6), methods, second, out).count
+}
+
+// The same, with what the class inherits copied from the rows of its parent, if they have a place. Then the class has a place too. Where
+// no row fits, nothing is looked for.
 pub fn emit_class(
     s: &[u32],
     t: &[u32],
     q: &[u32],
     marks: &[u32],
+    places: &mut [usize],
     r: u32,
     k: usize,
     out: &mut [u32],
 ) -> usize
-    requires { ⌜ ClassReady (now s) (now t) (now q) (now marks) r ⌝ }
-    ensures { λ x. ⌜ ((o : Store) → sink x (now (out .exit)) ≡ emitAll (map (λ vs. eight (r ∷ vs)) (classRowsNamed (now (s .entry)) (storeOf o (now (t .entry)) (now (q .entry))) r)) (sink k (now (out .entry)))) ⌝ }
+    requires { ⌜ (ClassReady (now s) (now t) (now q) (now marks) r) × (Placed (now s) (now t) (now q) (now places) (now out) r k) ⌝ }
+    ensures { λ x. ⌜ ((o : Store) → sink x (now (out .exit)) ≡ emitAll (map (λ vs. eight (r ∷ vs)) (classRowsNamed (now (s .entry)) (storeOf o (now (t .entry)) (now (q .entry))) r)) (sink k (now (out .entry)))) × (Placed (now (s .entry)) (now (t .entry)) (now (q .entry)) (now (places .exit)) (now (out .exit)) (r + 1) x) ⌝ }
 {
-    let n = s.len() / 8;
-    let c = ClassId(FIRST_CLASS + r);
-    let head = class_head(s, t, q, marks, r);
-    let first = Written {
-        count: emit(out, k, head),
-        slot: FIRST_SLOT,
-    };
-    let fields = put_names(s, t, q, wanted(r, 10), n, c, first, out);
-    let second = Written {
-        count: fields.count,
-        slot: FIRST_SLOT,
-    };
-    put_names(s, t, q, wanted(r, 6), n, c, second, out).count
+    let room = out.len() / 8;
+    if room <= k {
+        return room + 1;
+    }
+    let parent = parent_of(s, t, ClassId(FIRST_CLASS + r)).0;
+    let at = place_of(places, parent);
+    let fields = above_of(out, at, 10);
+    let methods = above_of(out, at, 6);
+    let count = write_class(s, t, q, marks, fields, methods, r, k, out);
+    if room < count {
+        return count;
+    }
+    if !line_ends(at, parent, r) {
+        return count;
+    }
+    places[r as usize] = k + 1;
+    count
 }

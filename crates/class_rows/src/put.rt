@@ -204,7 +204,7 @@ fn put_stored(
 }
 
 // The own names of a class.
-fn put_own(
+pub fn put_own(
     s: &[u32],
     t: &[u32],
     q: &[u32],

@@ -2,5 +2,5 @@
 mod ClassLaws
 mod ClimbLaws
 mod LineLaws
-mod MethodLaws
+pub mod MethodLaws
 mod CallLaws

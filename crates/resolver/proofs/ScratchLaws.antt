@@ -1,5 +1,6 @@
 -- Arrays of zeros as scratch space.
-use mathlib.Core.Path.{_≡_, refl}
+use mathlib.Core.Path.{_≡_, refl, ap, _∙_}
+use mathlib.Core.List.{List}
 use Prim.Native.Nat.{ℕ, zero, suc, _+_, _*_, _/_, _<_, _≤_}
 use native.Mathlib.Omega.{arith}
 use lib.ListN.{length, getD, replicate, length-replicate}
@@ -8,6 +9,7 @@ use Rattle.machine.specs.Reads.{PastFour}
 use Rattle.machine.proofs.Theorems.{rows-few}
 use Rattle.classes.specs.Table.{Clear}
 use Rattle.resolve_syms.specs.Prepared.{Lent}
+use Rattle.class_rows.specs.Places.{Placed}
 use Rattle.resolver.specs.Settled.{Scratch}
 
 zero-at : (n j : ℕ) → _≡_ {A = ℕ} (getD (replicate n 0) j 0) 0
@@ -50,3 +52,10 @@ rows-most s ok = rows-few s (ok .whole)
 
 pub rows-small : (s : Sheet) → length s ≤ 2560 → rows s ≤ 320
 rows-small s l = omega arith
+
+-- no class has a place yet
+pub places-zeros : (s t q : List ℕ) (n : ℕ) (ps w : List ℕ) → length s ≤ 16384 → 2048 ≤ n → ps ≡ replicate n 0 → Placed s t q ps w 0 0
+places-zeros s t q n ps w l b e = record {
+  room = omega (arith, ap length e ∙ zeros-long n);
+  told = λ j p g. absurd (omega (arith, g, ap (λ (z : List ℕ). getD z j 0) e ∙ zero-at n j));
+}

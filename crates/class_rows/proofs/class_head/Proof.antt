@@ -1,3 +1,5 @@
+use native.Mathlib.Omega.{arith}
+use Rattle.class_rows.proofs.AboveLaws.{counted-wanted}
 use Rattle.class_rows.proofs.ClassLaws.{head-row}
 use borrow.Author.Needs.{needs}
 use Rattle.class_rows.proofs.class_head.Statement.{statement}
@@ -15,17 +17,17 @@ mark-bit-requires c κs = search needs
 wanted-requires : tie.Need-wanted-requires
 wanted-requires c κs = search needs
 
-count-names-requires : tie.Need-count-names-requires
-count-names-requires c κs = search needs
+count-line-requires : tie.Need-count-line-requires
+count-line-requires c κs = (omega (arith, c .before .before .before .before .before .before .before .pre .0 .row), counted-wanted (c .before .before .before .before .before .before .before .args .s .now) (c .before .before .before .before .before .before .before .args .t .now) (c .before .before .before .before .before .before .before .args .q .now) (c .wanted .ensures) (c .before .before .before .before .before .before .before .pre .1))
 
 wanted-requires-2 : tie.Need-wanted-requires-2
 wanted-requires-2 c κs = search needs
 
-count-names-requires-2 : tie.Need-count-names-requires-2
-count-names-requires-2 c κs = search needs
+count-line-requires-2 : tie.Need-count-line-requires-2
+count-line-requires-2 c κs = (omega (arith, c .before .before .before .before .before .before .before .before .before .pre .0 .row), counted-wanted (c .before .before .before .before .before .before .before .before .before .args .s .now) (c .before .before .before .before .before .before .before .before .before .args .t .now) (c .before .before .before .before .before .before .before .before .before .args .q .now) (c .wanted2 .ensures) (c .before .before .before .before .before .before .before .before .before .pre .2))
 
 returns : tie.Need-returns
-returns c = λ o. let a = c .before .before .before .before .before .before .before .before .before .before .args in head-row (a .s .now) (a .t .now) (a .q .now) (a .marks .now) (a .r) (c .before .before .before .before .before .before .before .before .before .before .pre) o (c .before .before .before .before .before .parent-of .ensures o (a .q .now)) (c .before .before .before .before .mark-bit .ensures) (c .before .before .before .wanted .ensures .kindIs) (c .before .before .count-names .ensures o) (c .before .wanted2 .ensures .kindIs) (c .count-names2 .ensures o)
+returns c = λ o. let a = c .before .before .before .before .before .before .before .before .before .before .args in head-row (a .s .now) (a .t .now) (a .q .now) (a .marks .now) (a .r) (c .before .before .before .before .before .before .before .before .before .before .pre .0) o (c .before .before .before .before .before .parent-of .ensures o (a .q .now)) (c .before .before .before .before .mark-bit .ensures) (c .before .before .before .wanted .ensures) (c .before .before .count-line .ensures o) (c .before .wanted2 .ensures) (c .count-line2 .ensures o)
 
 pub class-head-spec : {M : Type 1} → statement M
 class-head-spec =
@@ -35,7 +37,7 @@ class-head-spec =
     parent-of-requires
     mark-bit-requires
     wanted-requires
-    count-names-requires
+    count-line-requires
     wanted-requires-2
-    count-names-requires-2
+    count-line-requires-2
     returns)

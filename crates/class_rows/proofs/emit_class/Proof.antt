@@ -1,50 +1,106 @@
-use Rattle.class_rows.proofs.ClassLaws.{fields-told, methods-told, class-rows}
+use Rattle.store.specs.declared.nodes.Store.{Store}
+use borrow.Author.Tests.{not-false}
+use mathlib.Core.Path.{sym, _∙_}
+use native.Mathlib.Omega.{arith}
 use Rattle.store.specs.Stored.{storeOf}
-use Rattle.sink.specs.Sink.{sink}
-use mathlib.Core.Path.{refl}
+use Rattle.class_rows.proofs.ClassLaws.{class-full}
+use Rattle.class_rows.proofs.PlaceLaws.{stands-now, placed-kept, placed-more}
+use Rattle.class_rows.proofs.AboveLaws.{entry-fits, fields-shown, methods-shown, line-steady}
 use borrow.Author.Needs.{needs}
 use Rattle.class_rows.proofs.emit_class.Statement.{statement}
 use Rattle.class_rows.proofs.emit_class.Tie as tie
 
-add-t15 : tie.Need-add-t15
-add-t15 c = search needs
+add-result : tie.Need-add-result
+add-result c = search needs
 
-class-head-requires : tie.Need-class-head-requires
-class-head-requires c κs = search needs
+returns : tie.Need-returns
+returns c = let a = c .before .before .before .before .before .before .before .args in let o : Store = record { used = 0; calls = 0 } in (λ o. class-full (a .s .now) (storeOf o (a .t .now) (a .q .now)) (a .r) (a .k) (a .out .now) (c .if1 .taken), placed-kept (c .before .before .before .before .before .before .before .pre .1) _ (class-full (a .s .now) (storeOf o (a .t .now) (a .q .now)) (a .r) (a .k) (a .out .now) (c .if1 .taken)))
 
-emit-requires : tie.Need-emit-requires
-emit-requires c κs = search needs
+add-t18 : tie.Need-add-t18
+add-t18 c = search needs
 
-wanted-requires : tie.Need-wanted-requires
-wanted-requires c κs = search needs
+parent-of-requires : tie.Need-parent-of-requires
+parent-of-requires c κs = search needs
 
-put-names-requires : tie.Need-put-names-requires
-put-names-requires c κs = search needs
+place-of-requires : tie.Need-place-of-requires
+place-of-requires c κs = search needs
 
-wanted-requires-2 : tie.Need-wanted-requires-2
-wanted-requires-2 c κs = search needs
+above-of-requires : tie.Need-above-of-requires
+above-of-requires c κs = entry-fits (c .before .before .before .before .before .before .before .before .before .before .before .pre .1) (c .before .before .before .before .before .before .before .before .before .before .before .pre .0 .row) (λ o. c .before .before .before .parent-of .ensures o (c .before .before .before .before .before .before .before .before .before .before .before .args .q .now)) (c .before .place-of .ensures)
 
-put-names-requires-2 : tie.Need-put-names-requires-2
-put-names-requires-2 c κs = search needs
+above-of-requires-2 : tie.Need-above-of-requires-2
+above-of-requires-2 c κs = entry-fits (c .before .before .before .before .before .before .before .before .before .before .before .before .before .pre .1) (c .before .before .before .before .before .before .before .before .before .before .before .before .before .pre .0 .row) (λ o. c .before .before .before .before .before .parent-of .ensures o (c .before .before .before .before .before .before .before .before .before .before .before .before .before .args .q .now)) (c .before .before .before .place-of .ensures)
+
+write-class-requires : tie.Need-write-class-requires
+write-class-requires c κs = (c .before .before .before .before .before .before .before .before .before .before .before .before .before .before .before .pre .0, fields-shown (c .before .before .before .before .before .before .before .before .before .before .before .before .before .before .before .pre .1) (c .before .before .before .before .before .before .before .before .before .before .before .before .before .before .before .pre .0 .row) (λ o. c .before .before .before .before .before .before .before .parent-of .ensures o (c .before .before .before .before .before .before .before .before .before .before .before .before .before .before .before .args .q .now)) (c .before .before .before .before .before .place-of .ensures) (c .before .before .before .above-of .ensures), methods-shown (c .before .before .before .before .before .before .before .before .before .before .before .before .before .before .before .pre .1) (c .before .before .before .before .before .before .before .before .before .before .before .before .before .before .before .pre .0 .row) (λ o. c .before .before .before .before .before .before .before .parent-of .ensures o (c .before .before .before .before .before .before .before .before .before .before .before .before .before .before .before .args .q .now)) (c .before .before .before .before .before .place-of .ensures) (c .before .above-of2 .ensures))
 
 same-length : tie.Need-same-length
 same-length c = search needs
 
-returns : tie.Need-returns
-returns c = λ o. let a = c .before .before .before .before .before .before .before .before .before .before .before .before .before .before .before .before .before .before .before .before .args in class-rows (a .s .now) (storeOf o (a .t .now) (a .q .now)) (a .r) (sink (a .k) (a .out .now)) (c .before .before .before .before .before .before .before .before .before .before .before .before .before .before .class-head .ensures o) (c .before .before .before .before .before .before .before .before .before .before .before .before .emit .ensures)
-    (fields-told (a .s .now) (storeOf o (a .t .now) (a .q .now)) (a .r) (c .before .before .before .before .before .before .before .before .before .wanted .result) _ (c .before .before .before .before .before .before .before .before .before .wanted .ensures) (c .before .before .before .before .before .before .before .before .before .before .before .before .before .before .before .before .before .before .before .before .pre .fields o) refl (c .before .before .before .before .before .before .before .put-names .ensures o))
-    (methods-told (a .s .now) (storeOf o (a .t .now) (a .q .now)) (a .r) (c .before .before .before .before .wanted2 .result) _ (c .before .before .before .before .wanted2 .ensures) (c .before .before .put-names2 .ensures o))
+same-length-2 : tie.Need-same-length-2
+same-length-2 c = search needs
+
+returns-2 : tie.Need-returns-2
+returns-2 c = (c .before .before .before .write-class .ensures, placed-kept (c .before .before .before .before .before .before .before .before .before .before .before .before .before .before .before .before .before .before .before .pre .1) _ (c .before .before .before .write-class .ensures (record { used = 0; calls = 0 })))
+
+line-ends-requires : tie.Need-line-ends-requires
+line-ends-requires c κs = search needs
+
+same-length-3 : tie.Need-same-length-3
+same-length-3 c = search needs
+
+same-length-4 : tie.Need-same-length-4
+same-length-4 c = search needs
+
+returns-3 : tie.Need-returns-3
+returns-3 c = (c .before .before .before .before .before .write-class .ensures, placed-kept (c .before .before .before .before .before .before .before .before .before .before .before .before .before .before .before .before .before .before .before .before .before .pre .1) _ (c .before .before .before .before .before .write-class .ensures (record { used = 0; calls = 0 })))
+
+add-places : tie.Need-add-places
+add-places c = omega (arith, c .before .before .before .before .before .before .before .before .before .before .before .before .before .before .if1 .left, c .before .before .before .before .before .before .before .before .before .before .before .before .before .before .before .before .before .before .before .before .before .good .1 .1 .1 .1 .1 .1 .1 .0)
+
+mul-places : tie.Need-mul-places
+mul-places c = omega (arith, c .before .before .before .before .before .before .before .before .before .before .before .before .before .before .before .before .before .before .before .before .before .pre .0 .row, c .before .before .before .before .before .before .before .before .before .before .before .before .before .before .before .before .before .before .before .before .before .pre .0 .short)
+
+slice-write-places : tie.Need-slice-write-places
+slice-write-places c = omega (arith, c .before .before .before .before .before .before .before .before .before .before .before .before .before .before .before .before .before .before .before .before .before .pre .0 .row, c .before .before .before .before .before .before .before .before .before .before .before .before .before .before .before .before .before .before .before .before .before .pre .1 .room)
+
+same-length-5 : tie.Need-same-length-5
+same-length-5 c = search needs
+
+same-length-6 : tie.Need-same-length-6
+same-length-6 c = search needs
+
+returns-4 : tie.Need-returns-4
+returns-4 c = let a = c .before .before .before .before .before .before .before .before .before .before .before .before .before .before .before .before .before .before .before .before .before .args in
+    let steady = line-steady (c .before .before .before .before .before .before .before .before .before .before .before .before .before .before .before .before .before .before .before .before .before .pre .1) (c .before .before .before .before .before .before .before .before .before .before .before .before .before .before .before .before .before .before .before .before .before .pre .0 .row) (λ o. c .before .before .before .before .before .before .before .before .before .before .before .before .before .parent-of .ensures o (a .q .now)) (c .before .before .before .before .before .before .before .before .before .before .before .place-of .ensures) (sym (not-false (c .before .line-ends .result) (c .if3 .left)) ∙ c .before .line-ends .ensures) in (
+      c .before .before .before .before .before .write-class .ensures,
+      placed-more (c .before .before .before .before .before .before .before .before .before .before .before .before .before .before .before .before .before .before .before .before .before .pre .1) _ (c .before .before .before .before .before .write-class .ensures (record { used = 0; calls = 0 }))
+          (λ o. stands-now (a .s .now) (storeOf o (a .t .now) (a .q .now)) (a .out .now) (a .k) (a .r) (c .before .before .before .before .before .write-class .result) (c .before .before .before .before .before .write-class .ensures o) (omega (arith, c .before .before .if2 .left)) (omega (arith, c .before .before .before .before .before .write-class .kept)) (steady o .0) (steady o .1))
+          (omega (arith, c .before .before .before .before .before .before .before .before .before .before .before .before .before .before .before .before .before .before .before .before .before .pre .0 .row, c .before .before .before .before .before .before .before .before .before .before .before .before .before .before .before .before .before .before .before .before .before .pre .1 .room)),
+    )
 
 pub emit-class-spec : {M : Type 1} → statement M
 emit-class-spec =
     tie.close
     (tie.spec
-    add-t15
-    class-head-requires
-    emit-requires
-    wanted-requires
-    put-names-requires
-    wanted-requires-2
-    put-names-requires-2
+    add-result
+    returns
+    add-t18
+    parent-of-requires
+    place-of-requires
+    above-of-requires
+    above-of-requires-2
+    write-class-requires
     same-length
-    returns)
+    same-length-2
+    returns-2
+    line-ends-requires
+    same-length-3
+    same-length-4
+    returns-3
+    add-places
+    mul-places
+    slice-write-places
+    same-length-5
+    same-length-6
+    returns-4)

@@ -1,0 +1,49 @@
+use mathlib.Core.Path.{refl, _∙_}
+use Rattle.store.specs.Stored.{storeOf}
+use Rattle.class_rows.specs.Put.{filled, nameRow}
+use Rattle.class_rows.proofs.LineLaws.{copied-all, line-after}
+use borrow.Author.Needs.{needs}
+use Rattle.class_rows.proofs.line.put_line.Statement.{statement}
+use Rattle.class_rows.proofs.line.put_line.Tie as tie
+
+put-names-requires : tie.Need-put-names-requires
+put-names-requires c κs = search needs
+
+same-length : tie.Need-same-length
+same-length c = search needs
+
+returns : tie.Need-returns
+returns c = search needs
+
+parent-of-requires : tie.Need-parent-of-requires
+parent-of-requires c κs = search needs
+
+sub-t12 : tie.Need-sub-t12
+sub-t12 c = search needs
+
+put-copied-requires : tie.Need-put-copied-requires
+put-copied-requires c κs = (c .before .before .before .before .before .before .before .before .pre .1 (c .before .before .if1 .left) (record { used = 0; calls = 0 }) .below, c .before .before .before .before .before .before .before .before .pre .1 (c .before .before .if1 .left) (record { used = 0; calls = 0 }) .within)
+
+put-own-requires : tie.Need-put-own-requires
+put-own-requires c κs = search needs
+
+same-length-2 : tie.Need-same-length-2
+same-length-2 c = search needs
+
+returns-2 : tie.Need-returns-2
+returns-2 c = λ o. let a = c .before .before .before .before .before .before .before .before .before .before .before .before .before .before .before .args in let h = c .before .before .before .before .before .before .before .before .before .before .before .before .before .before .before .pre .1 (c .before .before .before .before .before .before .before .before .before .if1 .left) o in line-after (nameRow (a .s .now) (storeOf o (a .t .now) (a .q .now)) (a .w)) (a .s .now) (storeOf o (a .t .now) (a .q .now)) (a .w .kind) (a .w .whole) (filled (a .k) (a .out .now)) (c .before .before .before .before .before .before .before .before .before .before .before .before .before .before .before .pre .0) (c .before .before .before .before .before .before .before .before .parent-of .ensures o (a .q .now)) (h .parent) refl
+    (c .before .before .before .before .before .before .put-copied .ensures ∙ copied-all (a .s .now) (storeOf o (a .t .now) (a .q .now)) (a .w) (c .before .before .before .before .before .before .before .before .before .before .before .before .before .before .before .pre .0) (h .parent) (a .out .now) _ (a .a .row) (a .a .count) (filled (a .k) (a .out .now)) (h .names) (h .functions)) (c .before .before .put-own .ensures o)
+
+pub put-line-spec : {M : Type 1} → statement M
+put-line-spec =
+    tie.close
+    (tie.spec
+    put-names-requires
+    same-length
+    returns
+    parent-of-requires
+    sub-t12
+    put-copied-requires
+    put-own-requires
+    same-length-2
+    returns-2)

@@ -1,0 +1,81 @@
+// Rows that tell names, copied from the rows of a parent.
+ghost use mathlib.Core.Path.{_≡_};
+ghost use Prim.Native.Nat.{_+_, _/_, _<_, _≤_};
+ghost use lib.Dec.{eqb};
+ghost use lib.ListN.{length};
+ghost use Rattle.definition.specs.Basics.{if_then_else_, from};
+ghost use Rattle.definition.specs.Classes.{methodNamed, ownMethods};
+ghost use Rattle.class_rows.specs.Put.{filled, wordsOf, copiedRow, put, putAll};
+use crate::put::Wanted;
+use crate::put::Written;
+use ast::ClassId;
+use sink::AnswerRow;
+use sink::emit;
+use symbols::decl::one_more;
+use tree::lists::method_named;
+
+// The own method of name `m` of a class, else function `f`.
+fn own_or(s: &[u32], c: ClassId, m: u32, f: u32) -> u32
+    ensures { λ x. ⌜ x ≡ (if eqb (methodNamed m (ownMethods (now (s .entry)) (c .0))) 0 then f else methodNamed m (ownMethods (now (s .entry)) (c .0))) ⌝ }
+{
+    let own = method_named(s, c, m).0;
+    if own == 0 { f } else { own }
+}
+
+// The name that row `at` tells, told of the wanted class at slot `i`.
+fn copied_row(s: &[u32], out: &[u32], w: Wanted, at: usize, i: u32) -> AnswerRow
+    requires { ⌜ at < length (now out) / 8 ⌝ }
+    ensures { λ x. ⌜ wordsOf x ≡ copiedRow (now (s .entry)) w (now (out .entry)) at i ⌝ }
+{
+    let last = out[8 * at + 3];
+    if w.kind == 10 {
+        return AnswerRow {
+            row: w.row,
+            code: 23,
+            one: i,
+            two: last,
+            three: 0,
+            four: 0,
+        };
+    }
+    let m = out[8 * at + 2];
+    let fun = own_or(s, ClassId(w.whole), m, last);
+    AnswerRow {
+        row: w.row,
+        code: 24,
+        one: m,
+        two: fun,
+        three: 0,
+        four: 0,
+    }
+}
+
+// One name more, that of row `at`.
+fn put_copy(s: &[u32], w: Wanted, at: usize, k: Written, out: &mut [u32]) -> Written
+    requires { ⌜ at < length (now out) / 8 ⌝ }
+    ensures { λ x. ⌜ filled x (now (out .exit)) ≡ put (copiedRow (now (s .entry)) w (now (out .entry))) at (filled k (now (out .entry))) ⌝ }
+{
+    let x = copied_row(s, out, w, at, k.slot);
+    let count = emit(out, k.count, x);
+    let slot = one_more(k.slot);
+    Written {
+        count: count,
+        slot: slot,
+    }
+}
+
+// The names of `n` rows from row `i` on.
+pub fn put_copied(s: &[u32], w: Wanted, i: usize, n: u32, k: Written, out: &mut [u32]) -> Written
+    requires { ⌜ (i + n ≤ k .count) × (i + n ≤ length (now out) / 8) ⌝ }
+    ensures { λ x. ⌜ filled x (now (out .exit)) ≡ putAll (copiedRow (now (s .entry)) w (now (out .entry))) (from i n) (filled k (now (out .entry))) ⌝ }
+{
+    let mut done = k;
+    let mut at = i;
+    let mut left = n;
+    while 0 < left {
+        done = put_copy(s, w, at, done, out);
+        at += 1;
+        left -= 1;
+    }
+    done
+}

@@ -1,0 +1,63 @@
+// Where the rows of classes stand in the answer words: a table with an entry for each sheet row.
+ghost use mathlib.Core.Path.{_≡_};
+ghost use mathlib.Core.Bool.{not, _&&_, _||_};
+ghost use Prim.Native.Nat.{_/_, _≤_};
+ghost use lib.Dec.{eqb, ltb};
+ghost use lib.ListN.{length};
+ghost use Rattle.class_rows.specs.Places.{placeOf, aboveOf};
+use ast::FIRST_CLASS;
+
+// Where the names of a class stand: their first row and their number. Row 0: nowhere.
+pub struct Above {
+    pub row: usize,
+    pub count: u32,
+}
+
+// The entry of class `c`: one more than the answer row where it begins, or 0.
+pub fn place_of(places: &[usize], c: u32) -> usize
+    ensures { λ x. ⌜ x ≡ placeOf (now (places .entry)) c ⌝ }
+{
+    if c >= FIRST_CLASS {
+        let i = (c - FIRST_CLASS) as usize;
+        if i < places.len() {
+            return places[i];
+        }
+    }
+    0
+}
+
+// Where the names of a class of entry `at` stand.
+pub fn above_of(out: &[u32], at: usize, kind: u32) -> Above
+    requires { ⌜ at ≤ length (now out) / 8 ⌝ }
+    ensures { λ x. ⌜ x ≡ aboveOf (now (out .entry)) at kind ⌝ }
+{
+    if at == 0 {
+        return Above { row: 0, count: 0 };
+    }
+    let first = 8 * (at - 1);
+    let fields = out[first + 4];
+    if kind == 10 {
+        return Above {
+            row: at,
+            count: fields,
+        };
+    }
+    Above {
+        row: at + fields as usize,
+        count: out[first + 5],
+    }
+}
+
+// Is it known that the line of parents of the class of row `r` ends within `r + 1` classes? Its parent `c` has the entry `at`, or is
+// from outside and has no parent.
+pub fn line_ends(at: usize, c: u32, r: u32) -> bool
+    ensures { λ x. ⌜ x ≡ (not (eqb at 0) || (ltb c 256 && ltb 0 r)) ⌝ }
+{
+    if at != 0 {
+        return true;
+    }
+    if c < FIRST_CLASS {
+        return 0 < r;
+    }
+    false
+}
