@@ -2,9 +2,9 @@
 ghost use mathlib.Core.Path.{_≡_};
 ghost use mathlib.Core.List.{List};
 ghost use Prim.Native.Nat.{ℕ, _<_, _≤_};
-ghost use lib.ListN.{length};
+ghost use lib.ListN.{length, replicate};
 ghost use Rattle.definition.specs.Sheet.{file as fileAt};
-ghost use Rattle.definition.specs.Outcome.{refused as refusedBy, refusedAt};
+ghost use Rattle.definition.specs.Outcome.{refused, refusedAt};
 ghost use Rattle.machine.specs.Reads.{PastFour, Walked};
 ghost use Rattle.resolve_syms.specs.Prepared.{Lent};
 ghost use Rattle.store.specs.Stored.{storeOf};
@@ -35,10 +35,11 @@ pub struct Answer {
     pub globals: u32,
 }
 
-// Refused by a question of the whole input, or for want of room: position and name are 0.
-fn refused(number: u32) -> Answer
-    ensures { λ x. ⌜ Tells (refusedBy number) x ⌝ }
+// Refuses by a question of the whole input, or for want of room: position and name are 0, and the answer words are cleared.
+fn refuse(number: u32, out: &mut [u32]) -> Answer
+    ensures { λ x. ⌜ (Tells (refused number) x) × (now (out .exit) ≡ replicate (length (now (out .entry))) 0) ⌝ }
 {
+    clear(out);
     Answer {
         number: number,
         pos: SrcPos(0),
@@ -48,19 +49,16 @@ fn refused(number: u32) -> Answer
     }
 }
 
-// Refused at the position of row `r`.
-fn refused_at(s: &[u32], number: u32, r: u32, name: u32) -> Answer
+// Refuses at the position of row `r`.
+fn refuse_at(s: &[u32], number: u32, r: u32, name: u32, out: &mut [u32]) -> Answer
     requires { ⌜ fileAt (now s) r < 262144 ⌝ }
-    ensures { λ x. ⌜ Tells (refusedAt number (now (s .entry)) r name) x ⌝ }
+    ensures { λ x. ⌜ (Tells (refusedAt number (now (s .entry)) r name) x) × (now (out .exit) ≡ replicate (length (now (out .entry))) 0) ⌝ }
 {
     let pos = SrcPos::new(word(s, r, 3), word(s, r, 4), word(s, r, 5));
-    Answer {
-        number: number,
-        pos: pos,
-        name: name,
-        rows: 0,
-        globals: 0,
-    }
+    let mut no = refuse(number, out);
+    no.pos = pos;
+    no.name = name;
+    no
 }
 
 // The answer rows of a sheet that no question refuses. Question 22: do they fit?
@@ -80,8 +78,7 @@ fn write_answer(
 {
     let n = emit_rows(s, t, q, heads, nexts, parents, o, out);
     if out.len() / 8 < n {
-        clear(out);
-        return refused(22);
+        return refuse(22, out);
     }
     clear(&mut out[8 * n..]);
     Answer {
@@ -113,8 +110,7 @@ fn finish(
     let e = w.env;
     let no = later_refusal(s, t, q, marks, o.calls);
     if no.number != 0 {
-        clear(out);
-        return refused_at(s, no.number, no.at, no.name);
+        return refuse_at(s, no.number, no.at, no.name, out);
     }
     link_literals(s, t, heads, nexts);
     mark_parents(s, t, parents);
@@ -139,8 +135,7 @@ fn resolve_in(
 {
     let w = resolve_units(s, classes, v, t, q);
     if w.number != 0 {
-        clear(out);
-        return refused_at(s, w.number, w.at, w.name);
+        return refuse_at(s, w.number, w.at, w.name, out);
     }
     finish(s, v, t, q, w, marks, heads, nexts, parents, out)
 }
@@ -218,8 +213,7 @@ pub fn resolve(sheet: &[u32], names: &[u8], out: &mut [u32]) -> Answer
 {
     let no = first_four(sheet, names);
     if no != 0 {
-        clear(out);
-        return refused(no);
+        return refuse(no, out);
     }
     resolve_past(sheet, out)
 }

@@ -1,10 +1,10 @@
-use Rattle.walk.specs.WalkState.{stateOf}
-use mathlib.Core.Path.{refl}
-use native.Mathlib.Omega.{arith}
-use Rattle.after.proofs.Ranges.{past-fits, rows-whole}
-use Rattle.resolver.proofs.ReadyLaws.{rows-ready}
-use Rattle.resolver.proofs.OutcomeLaws.{files-small}
 use Rattle.resolver.proofs.AnswerLaws.{later-no, later-none, small-sheet, walk-store}
+use Rattle.resolver.proofs.OutcomeLaws.{files-small}
+use Rattle.resolver.proofs.ReadyLaws.{rows-ready}
+use Rattle.after.proofs.Ranges.{past-fits, rows-whole}
+use native.Mathlib.Omega.{arith}
+use mathlib.Core.Path.{refl}
+use Rattle.walk.specs.WalkState.{stateOf}
 use borrow.Author.Needs.{needs}
 use Rattle.resolver.proofs.finish.Statement.{statement}
 use Rattle.resolver.proofs.finish.Tie as tie
@@ -12,11 +12,8 @@ use Rattle.resolver.proofs.finish.Tie as tie
 later-refusal-requires : tie.Need-later-refusal-requires
 later-refusal-requires c κs = (small-sheet (c .before .before .before .before .before .before .before .before .before .before .before .before .pre .0), omega (arith, rows-whole (c .before .before .before .before .before .before .before .before .before .before .before .before .args .s .now) (c .before .before .before .before .before .before .before .before .before .before .before .before .pre .0 .whole), c .before .before .before .before .before .before .before .before .before .before .before .before .pre .3 .for-marks), record { marks = λ j. omega (arith, c .before .before .before .before .before .before .before .before .before .before .before .before .pre .3 .clear-marks .zeros j) }, rows-whole (c .before .before .before .before .before .before .before .before .before .before .before .before .args .s .now) (c .before .before .before .before .before .before .before .before .before .before .before .before .pre .0 .whole))
 
-clear-requires : tie.Need-clear-requires
-clear-requires c κs = search needs
-
-refused-at-requires : tie.Need-refused-at-requires
-refused-at-requires c κs = files-small (c .before .before .before .before .before .before .before .before .before .before .before .before .before .before .before .before .before .before .before .before .before .args .s .now) _ (c .before .before .before .before .before .before .before .before .before .before .before .before .before .before .before .before .before .before .before .before .before .pre .0)
+refuse-at-requires : tie.Need-refuse-at-requires
+refuse-at-requires c κs = files-small (c .before .before .before .before .before .before .before .before .before .before .before .before .before .before .before .before .before .before .args .s .now) _ (c .before .before .before .before .before .before .before .before .before .before .before .before .before .before .before .before .before .before .pre .0)
 
 same-length : tie.Need-same-length
 same-length c = search needs
@@ -25,7 +22,7 @@ same-length-2 : tie.Need-same-length-2
 same-length-2 c = search needs
 
 returns : tie.Need-returns
-returns c = later-no {x = stateOf (c .before .before .before .before .before .before .before .before .before .before .before .before .before .before .before .before .before .before .before .before .before .before .args .w) (c .before .before .before .before .before .before .before .before .before .before .before .before .before .before .before .before .before .before .before .before .before .before .args .v .now) (c .before .before .before .before .before .before .before .before .before .before .before .before .before .before .before .before .before .before .before .before .before .before .args .t .now) (c .before .before .before .before .before .before .before .before .before .before .before .before .before .before .before .before .before .before .before .before .before .before .args .q .now)} (c .before .before .before .before .before .before .before .before .before .before .before .before .before .before .before .before .before .before .before .before .before .before .pre .0) (c .before .before .before .before .before .before .before .before .before .before .before .before .before .before .before .before .before .before .before .before .before .before .pre .1) (c .before .before .before .before .before .before .before .before .before .before .before .before .before .before .before .before .before .before .before .before .before .before .pre .2) _ (c .before .before .before .before .before .before .before .before .before .later-refusal .ensures (c .before .before .before .before .before .before .before .before .before .before .before .before .before .before .before .before .before .before .before .before .before .before .args .w .store) refl) _ _ _ (c .before .before .before .before .before .if1 .taken) (c .refused-at .ensures) (c .before .before .before .clear .ensures)
+returns c = later-no {x = stateOf (c .before .before .before .before .before .before .before .before .before .before .before .before .before .before .before .before .before .before .before .before .before .args .w) (c .before .before .before .before .before .before .before .before .before .before .before .before .before .before .before .before .before .before .before .before .before .args .v .now) (c .before .before .before .before .before .before .before .before .before .before .before .before .before .before .before .before .before .before .before .before .before .args .t .now) (c .before .before .before .before .before .before .before .before .before .before .before .before .before .before .before .before .before .before .before .before .before .args .q .now)} (c .before .before .before .before .before .before .before .before .before .before .before .before .before .before .before .before .before .before .before .before .before .pre .0) (c .before .before .before .before .before .before .before .before .before .before .before .before .before .before .before .before .before .before .before .before .before .pre .1) (c .before .before .before .before .before .before .before .before .before .before .before .before .before .before .before .before .before .before .before .before .before .pre .2) _ (c .before .before .before .before .before .before .before .before .later-refusal .ensures (c .before .before .before .before .before .before .before .before .before .before .before .before .before .before .before .before .before .before .before .before .before .args .w .store) refl) _ _ _ (c .before .before .before .before .if1 .taken) (c .before .before .refuse-at .ensures .0) (c .before .before .refuse-at .ensures .1)
 
 link-literals-requires : tie.Need-link-literals-requires
 link-literals-requires c κs = (small-sheet (c .before .before .before .before .before .before .before .before .before .before .before .before .before .before .before .before .before .before .before .pre .0), past-fits (c .before .before .before .before .before .before .before .before .before .before .before .before .before .before .before .before .before .before .before .pre .0) .header, c .before .before .before .before .before .before .before .before .before .before .before .before .before .before .before .before .before .before .before .pre .3 .clear-heads, c .before .before .before .before .before .before .before .before .before .before .before .before .before .before .before .before .before .before .before .pre .3 .for-heads, c .before .before .before .before .before .before .before .before .before .before .before .before .before .before .before .before .before .before .before .pre .3 .for-nexts)
@@ -59,8 +56,7 @@ finish-spec =
     tie.close
     (tie.spec
     later-refusal-requires
-    clear-requires
-    refused-at-requires
+    refuse-at-requires
     same-length
     same-length-2
     returns

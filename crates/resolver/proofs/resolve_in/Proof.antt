@@ -1,7 +1,7 @@
-use native.Mathlib.Omega.{arith}
-use Rattle.walk.specs.WalkState.{stateOf}
-use Rattle.resolver.proofs.OutcomeLaws.{files-small}
 use Rattle.resolver.proofs.AnswerLaws.{walk-no}
+use Rattle.resolver.proofs.OutcomeLaws.{files-small}
+use Rattle.walk.specs.WalkState.{stateOf}
+use native.Mathlib.Omega.{arith}
 use borrow.Author.Needs.{needs}
 use Rattle.resolver.proofs.resolve_in.Statement.{statement}
 use Rattle.resolver.proofs.resolve_in.Tie as tie
@@ -9,11 +9,8 @@ use Rattle.resolver.proofs.resolve_in.Tie as tie
 resolve-units-requires : tie.Need-resolve-units-requires
 resolve-units-requires c κs = (c .before .before .before .before .before .before .before .before .before .before .before .before .before .before .pre .0, c .before .before .before .before .before .before .before .before .before .before .before .before .before .before .pre .1)
 
-clear-requires : tie.Need-clear-requires
-clear-requires c κs = search needs
-
-refused-at-requires : tie.Need-refused-at-requires
-refused-at-requires c κs = files-small (c .before .before .before .before .before .before .before .before .before .before .before .before .before .before .before .before .before .before .before .before .before .before .before .before .before .before .before .before .before .args .s .now) _ (c .before .before .before .before .before .before .before .before .before .before .before .before .before .before .before .before .before .before .before .before .before .before .before .before .before .before .before .before .before .pre .0)
+refuse-at-requires : tie.Need-refuse-at-requires
+refuse-at-requires c κs = files-small (c .before .before .before .before .before .before .before .before .before .before .before .before .before .before .before .before .before .before .before .before .before .before .before .before .before .before .args .s .now) _ (c .before .before .before .before .before .before .before .before .before .before .before .before .before .before .before .before .before .before .before .before .before .before .before .before .before .before .pre .0)
 
 same-length : tie.Need-same-length
 same-length c = search needs
@@ -31,7 +28,7 @@ same-length-5 : tie.Need-same-length-5
 same-length-5 c = search needs
 
 returns : tie.Need-returns
-returns c = walk-no {x = stateOf _ _ _ _} (c .before .before .before .before .before .before .before .before .before .before .before .before .before .before .before .resolve-units .ensures) (c .before .before .before .before .before .if1 .taken) _ _ _ (c .refused-at .ensures) (c .before .before .before .clear .ensures)
+returns c = walk-no {x = stateOf _ _ _ _} (c .before .before .before .before .before .before .before .before .before .before .before .before .before .before .resolve-units .ensures) (c .before .before .before .before .if1 .taken) _ _ _ (c .before .before .refuse-at .ensures .0) (c .before .before .refuse-at .ensures .1)
 
 finish-requires : tie.Need-finish-requires
 finish-requires c κs = (c .before .before .before .before .before .before .before .before .before .before .before .before .before .before .before .before .before .before .before .before .before .before .before .before .before .before .before .before .before .before .before .before .before .pre .0, c .before .before .before .before .before .before .before .before .before .before .before .before .before .before .before .before .before .before .resolve-units .ensures, c .before .before .before .before .before .before .before .before .if1 .left, c .before .before .before .before .before .before .before .before .before .before .before .before .before .before .before .before .before .before .before .before .before .before .before .before .before .before .before .before .before .before .before .before .before .pre .2)
@@ -71,8 +68,7 @@ resolve-in-spec =
     tie.close
     (tie.spec
     resolve-units-requires
-    clear-requires
-    refused-at-requires
+    refuse-at-requires
     same-length
     same-length-2
     same-length-3
