@@ -3,7 +3,7 @@ use mathlib.Core.Path.{_≡_, refl, ap, _∙_}
 use mathlib.Core.List.{List, [], _∷_, _++_, map, append-nil}
 use mathlib.Core.Bool.{Bool, true, false, not, _&&_}
 use Prim.Native.Nat.{ℕ, _+_, _-_}
-use lib.Dec.{eqb}
+use lib.Dec.{eqb, T}
 use Rattle.definition.specs.Basics.{if_then_else_, filter, any, distinct, _∈?_}
 use Rattle.definition.specs.Sheet.{Sheet, is, a}
 use Rattle.definition.specs.Meaning.{isVariable, rowOf, ownerOf}
@@ -18,6 +18,12 @@ use Rattle.machine.proofs.Stacks.{beyond-early, WellFormed, owned-find}
 -- the node of a captured local or argument
 abbrev pub nodeOf : Use → Node
 nodeOf u = record { key = rowOf (u .means); one = ownerOf (u .means); two = u .slot }
+
+-- what an identifier means, if a function around it has captured it, every function further out up to the variable's own has captured too
+abbrev pub Outward : Sheet → List Moment → Moment → Type 0
+Outward s h m =
+    T (is s 50 (visited (m .event))) → (g f : ℕ) → T (g ∈? around s (m .stack)) → T (f ∈? beyond g (around s (m .stack))) → T (isOuter f (useAt s m))
+    → T (any (λ v. same v (useAt s m)) (captures s h g)) → T (any (λ v. same v (useAt s m)) (captures s h f))
 
 module _ (s : Sheet) (h : List Moment) (m : Moment) where
   outer-snoc : (f : ℕ) → filter (isOuter f) (uses s (h ++ m ∷ [])) ≡ filter (isOuter f) (uses s h) ++ only (is s 50 (visited (m .event)) && isOuter f (useAt s m)) (useAt s m)

@@ -11,7 +11,7 @@ use lib.Dec.{eqb, leb}
 use borrow.Author.Tests.{eq-eqb, ne-eqb}
 use Rattle.definition.specs.Basics.{if_then_else_, any, place}
 use Rattle.definition.specs.Sheet.{Sheet, is}
-use Rattle.machine.specs.Machine.{entryWord, nodeWord, Node, previous, chainBack, reversed, findName, functionMarks, Store, addNew, addCapture}
+use Rattle.machine.specs.Machine.{entryWord, nodeWord, Node, previous, chainBack, reversed, findName, functionMarks, Store, listAt, hasKey, appendNode, addCapture}
 use Rattle.machine.proofs.Lists.{any-append, place-append}
 use Rattle.machine.proofs.Nodes.{chainBack-hit, chainBack-down}
 
@@ -42,10 +42,15 @@ module _ (s : Sheet) (v : List ℕ) (n : ℕ) (x : Node) (o : Store) where
   unfolding functionMarks addCapture
   capture-own h g f e = rw (h, g, f, eq-eqb (entryWord v n 1) (x .one) e)
 
-  pub capture-other : leb (entryWord v n 0) 1 ≡ true → eqb (entryWord v n 0) 0 ≡ false → is s 6 (entryWord v n 1) ≡ true → (entryWord v n 1 ≡ x .one → ⊥)
-      → addCapture (functionMarks s v (suc n)) x o ≡ addCapture (functionMarks s v n) x (addNew (8 * entryWord v n 1 + 6) x o)
+  pub capture-there : leb (entryWord v n 0) 1 ≡ true → eqb (entryWord v n 0) 0 ≡ false → is s 6 (entryWord v n 1) ≡ true → (entryWord v n 1 ≡ x .one → ⊥)
+      → hasKey (x .key) (listAt o (8 * entryWord v n 1 + 6)) ≡ true → addCapture (functionMarks s v (suc n)) x o ≡ o
   unfolding functionMarks addCapture
-  capture-other h g f e = rw (h, g, f, ne-eqb (entryWord v n 1) (x .one) e)
+  capture-there h g f e k = rw (h, g, f, ne-eqb (entryWord v n 1) (x .one) e, k)
+
+  pub capture-other : leb (entryWord v n 0) 1 ≡ true → eqb (entryWord v n 0) 0 ≡ false → is s 6 (entryWord v n 1) ≡ true → (entryWord v n 1 ≡ x .one → ⊥)
+      → hasKey (x .key) (listAt o (8 * entryWord v n 1 + 6)) ≡ false → addCapture (functionMarks s v (suc n)) x o ≡ addCapture (functionMarks s v n) x (appendNode (8 * entryWord v n 1 + 6) x o)
+  unfolding functionMarks addCapture
+  capture-other h g f e k = rw (h, g, f, ne-eqb (entryWord v n 1) (x .one) e, k)
 
 -- The index of a key in a list of nodes, counted while the list is walked from the last node back: 0 at the key, else one more.
 abbrev pub since : ℕ → List Node → ℕ → ℕ

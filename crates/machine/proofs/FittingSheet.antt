@@ -22,6 +22,7 @@ use Rattle.machine.proofs.Refinement.{Room, Ends}
 use Rattle.machine.proofs.WalkReady.{WalkReady, ready-ends}
 use Rattle.machine.proofs.Entered.{entered-once, entered-rows, pushes-bound}
 use Rattle.machine.proofs.NodeBound.{reached-mem, declared-inside, nodes-bound}
+use Rattle.machine.proofs.CapturedOutward.{all-outward}
 use Rattle.machine.proofs.GlobalBound.{globals-bound}
 use Rattle.machine.proofs.ImportBound.{walk-shallow}
 use Rattle.machine.proofs.DepthBound.{functions-few}
@@ -43,6 +44,7 @@ ready-within n K s room z h i f y =
       are-rows = entered-rows ok (room .rows) (y .for-rows);
       some-row = omega (arith, y .for-rows);
       inside-function = declared-inside ok;
+      outward = all-outward ok;
       lets-once = λ r k. declares-once ok r (λ z. kind-not-zero ok 29 r tt (T-true (is s 29 r) k) z);
       shallow = λ m w. walk-shallow n ok (facts n s h) m (reached-mem w);
       small-entries = omega (arith, y .for-words, pushes-bound ok);

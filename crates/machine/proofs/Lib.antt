@@ -9,6 +9,7 @@ pub mod Questions
 -- nodes; stacks of a walk; what is stored, column by column
 pub mod Nodes
 pub mod Stacks
+pub mod CaptureLists
 pub mod Captures
 pub mod Columns
 pub mod StoreParts
@@ -33,6 +34,7 @@ pub mod ImportedMeanings
 pub mod WalkReady
 pub mod Entered
 pub mod NodeBound
+pub mod CapturedOutward
 pub mod GlobalBound
 pub mod ImportBound
 pub mod DepthBound

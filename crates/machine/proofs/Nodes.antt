@@ -12,7 +12,7 @@ use borrow.Author.Tests.{lt-ltb, ne-eqb, eqb-true, eqb-false, ltb-true}
 use Rattle.definition.specs.Basics.{if_then_else_}
 use Rattle.machine.specs.Machine.{nodeRoom, nodeWord, Node, nodeAt, previous, chainBack, reversed, chainTo, Store, listAt, hasKey, appended, appendedCall, appendNode, appendCall, addNew, addCapture}
 use Rattle.machine.proofs.Words.{sets-in, sets-out}
-use Rattle.machine.proofs.Lists.{any-append, eqb-self}
+use Rattle.machine.proofs.Lists.{eqb-self}
 
 pub chainBack-hit : (q : List ℕ) (n : ℕ) → chainBack q (suc n) (suc n) ≡ nodeAt q n ∷ chainBack q n (previous q n)
 unfolding chainBack
@@ -152,6 +152,14 @@ append-word j x o i h = go (ltb (o .used) (nodeRoom (o .nodes)))
     go true = getD-set-other (o .table) j i (suc (o .used)) 0 h
     go false = refl
 
+append-calls : (j : ℕ) (x : Node) (o : Store) → appendNode j x o .calls ≡ o .calls
+unfolding appendNode
+append-calls j x o = go (ltb (o .used) (nodeRoom (o .nodes)))
+  where
+    go : (t : Bool) → (if t then appended j x o else o) .calls ≡ o .calls
+    go true = refl
+    go false = refl
+
 -- A node appended unless its key is there.
 abbrev pub addKey : Node → List Node → List Node
 addKey x xs = if hasKey (x .key) xs then xs else xs ++ x ∷ []
@@ -173,13 +181,12 @@ addNew-word j x o i h = go (hasKey (x .key) (listAt o j))
     go false = append-word j x o i h
 
 pub addNew-calls : (j : ℕ) (x : Node) (o : Store) → addNew j x o .calls ≡ o .calls
-unfolding addNew appendNode
-addNew-calls j x o = go (hasKey (x .key) (listAt o j)) (ltb (o .used) (nodeRoom (o .nodes)))
+unfolding addNew
+addNew-calls j x o = go (hasKey (x .key) (listAt o j))
   where
-    go : (t u : Bool) → (if t then o else if u then appended j x o else o) .calls ≡ o .calls
-    go true u = refl
-    go false true = refl
-    go false false = refl
+    go : (t : Bool) → (if t then o else appendNode j x o) .calls ≡ o .calls
+    go true = refl
+    go false = append-calls j x o
 
 module _ (j : ℕ) (x : Node) (o : Store) (room : o .used < nodeRoom (o .nodes)) where
   pub addNew-used : addNew j x o .used ≤ suc (o .used)
@@ -211,26 +218,23 @@ set-le (y ∷ l) zero v (suc i) n h g = g
 set-le (y ∷ l) (suc j) v zero n h g = g
 set-le (y ∷ l) (suc j) v (suc i) n h g = set-le l j v i n h g
 
-pub addNew-low : (j : ℕ) (x : Node) (o : Store) (i : ℕ) → getD (o .table) i 0 ≤ o .used → getD (addNew j x o .table) i 0 ≤ addNew j x o .used
-unfolding addNew appendNode
-addNew-low j x o i l = go (hasKey (x .key) (listAt o j)) (ltb (o .used) (nodeRoom (o .nodes)))
+pub append-low : (j : ℕ) (x : Node) (o : Store) (i : ℕ) → getD (o .table) i 0 ≤ o .used → getD (appendNode j x o .table) i 0 ≤ appendNode j x o .used
+unfolding appendNode
+append-low j x o i l = go (ltb (o .used) (nodeRoom (o .nodes)))
   where
-    go : (t u : Bool) → getD ((if t then o else if u then appended j x o else o) .table) i 0 ≤ (if t then o else if u then appended j x o else o) .used
-    go true u = l
-    go false true = set-le (o .table) j (suc (o .used)) i (suc (o .used)) (omega arith) (omega arith)
-    go false false = l
+    go : (t : Bool) → getD ((if t then appended j x o else o) .table) i 0 ≤ (if t then appended j x o else o) .used
+    go true = set-le (o .table) j (suc (o .used)) i (suc (o .used)) (omega arith) (omega arith)
+    go false = l
+
+pub addNew-low : (j : ℕ) (x : Node) (o : Store) (i : ℕ) → getD (o .table) i 0 ≤ o .used → getD (addNew j x o .table) i 0 ≤ addNew j x o .used
+unfolding addNew
+addNew-low j x o i l = go (hasKey (x .key) (listAt o j))
+  where
+    go : (t : Bool) → getD ((if t then o else appendNode j x o) .table) i 0 ≤ (if t then o else appendNode j x o) .used
+    go true = l
+    go false = append-low j x o i l
 
 -- A capture added in the lists of many functions, up to its owner's.
-
--- adding twice is adding once
-add-add : (x : Node) (xs : List Node) → addKey x (addKey x xs) ≡ addKey x xs
-add-add x xs = go (hasKey (x .key) xs) refl
-  where
-    go : (t : Bool) → hasKey (x .key) xs ≡ t → addKey x (if t then xs else xs ++ x ∷ []) ≡ (if t then xs else xs ++ x ∷ [])
-    go true e = rw e
-    go false e =
-        let h : hasKey (x .key) (xs ++ x ∷ []) ≡ true = any-append (λ y. eqb (y .key) (x .key)) xs (x ∷ []) ∙ rw (e, eqb-self (x .key)) in
-        rw h
 
 -- does f stand in the list before w?
 abbrev pub isBefore : ℕ → List ℕ → ℕ → Bool
@@ -240,39 +244,39 @@ isBefore w (g ∷ gs) f = if eqb g w then false else (eqb g f || isBefore w gs f
 pub addCapture-extends : (fs : List ℕ) (x : Node) (o : Store) → Extends o (addCapture fs x o)
 unfolding addCapture
 addCapture-extends [] x o = extends-refl o
-addCapture-extends (g ∷ gs) x o = go (eqb g (x .one)) (addCapture-extends gs x (addNew (8 * g + 6) x o))
+addCapture-extends (g ∷ gs) x o = go (eqb g (x .one) || hasKey (x .key) (listAt o (8 * g + 6))) (addCapture-extends gs x (appendNode (8 * g + 6) x o))
   where
-    go : (t : Bool) → Extends (addNew (8 * g + 6) x o) (addCapture gs x (addNew (8 * g + 6) x o)) → Extends o (if t then o else addCapture gs x (addNew (8 * g + 6) x o))
+    go : (t : Bool) → Extends (appendNode (8 * g + 6) x o) (addCapture gs x (appendNode (8 * g + 6) x o)) → Extends o (if t then o else addCapture gs x (appendNode (8 * g + 6) x o))
     go true i = extends-refl o
-    go false i = extends-trans (addNew-extends (8 * g + 6) x o) i
+    go false i = extends-trans (append-extends (8 * g + 6) x o) i
 
 pub addCapture-calls : (fs : List ℕ) (x : Node) (o : Store) → addCapture fs x o .calls ≡ o .calls
 unfolding addCapture
 addCapture-calls [] x o = refl
-addCapture-calls (g ∷ gs) x o = go (eqb g (x .one)) (addCapture-calls gs x (addNew (8 * g + 6) x o))
+addCapture-calls (g ∷ gs) x o = go (eqb g (x .one) || hasKey (x .key) (listAt o (8 * g + 6))) (addCapture-calls gs x (appendNode (8 * g + 6) x o))
   where
-    go : (t : Bool) → addCapture gs x (addNew (8 * g + 6) x o) .calls ≡ addNew (8 * g + 6) x o .calls → (if t then o else addCapture gs x (addNew (8 * g + 6) x o)) .calls ≡ o .calls
+    go : (t : Bool) → addCapture gs x (appendNode (8 * g + 6) x o) .calls ≡ appendNode (8 * g + 6) x o .calls → (if t then o else addCapture gs x (appendNode (8 * g + 6) x o)) .calls ≡ o .calls
     go true i = refl
-    go false i = i ∙ addNew-calls (8 * g + 6) x o
+    go false i = i ∙ append-calls (8 * g + 6) x o
 
 -- other columns do not change
 pub addCapture-word : (fs : List ℕ) (x : Node) (o : Store) (r c : ℕ) → c < 8 → (c ≡ 6 → ⊥) → getD (addCapture fs x o .table) (8 * r + c) 0 ≡ getD (o .table) (8 * r + c) 0
 unfolding addCapture
 addCapture-word [] x o r c l h = refl
-addCapture-word (g ∷ gs) x o r c l h = go (eqb g (x .one)) (addCapture-word gs x (addNew (8 * g + 6) x o) r c l h)
+addCapture-word (g ∷ gs) x o r c l h = go (eqb g (x .one) || hasKey (x .key) (listAt o (8 * g + 6))) (addCapture-word gs x (appendNode (8 * g + 6) x o) r c l h)
   where
-    go : (t : Bool) → getD (addCapture gs x (addNew (8 * g + 6) x o) .table) (8 * r + c) 0 ≡ getD (addNew (8 * g + 6) x o .table) (8 * r + c) 0
-        → getD ((if t then o else addCapture gs x (addNew (8 * g + 6) x o)) .table) (8 * r + c) 0 ≡ getD (o .table) (8 * r + c) 0
+    go : (t : Bool) → getD (addCapture gs x (appendNode (8 * g + 6) x o) .table) (8 * r + c) 0 ≡ getD (appendNode (8 * g + 6) x o .table) (8 * r + c) 0
+        → getD ((if t then o else addCapture gs x (appendNode (8 * g + 6) x o)) .table) (8 * r + c) 0 ≡ getD (o .table) (8 * r + c) 0
     go true i = refl
-    go false i = i ∙ addNew-word (8 * g + 6) x o (8 * r + c) (λ e. omega arith)
+    go false i = i ∙ append-word (8 * g + 6) x o (8 * r + c) (λ e. omega arith)
 
 pub addCapture-low : (fs : List ℕ) (x : Node) (o : Store) (i : ℕ) → getD (o .table) i 0 ≤ o .used → getD (addCapture fs x o .table) i 0 ≤ addCapture fs x o .used
 unfolding addCapture
 addCapture-low [] x o i l = l
-addCapture-low (g ∷ gs) x o i l = go (eqb g (x .one)) (addCapture-low gs x (addNew (8 * g + 6) x o) i (addNew-low (8 * g + 6) x o i l))
+addCapture-low (g ∷ gs) x o i l = go (eqb g (x .one) || hasKey (x .key) (listAt o (8 * g + 6))) (addCapture-low gs x (appendNode (8 * g + 6) x o) i (append-low (8 * g + 6) x o i l))
   where
-    go : (t : Bool) → getD (addCapture gs x (addNew (8 * g + 6) x o) .table) i 0 ≤ addCapture gs x (addNew (8 * g + 6) x o) .used
-        → getD ((if t then o else addCapture gs x (addNew (8 * g + 6) x o)) .table) i 0 ≤ (if t then o else addCapture gs x (addNew (8 * g + 6) x o)) .used
+    go : (t : Bool) → getD (addCapture gs x (appendNode (8 * g + 6) x o) .table) i 0 ≤ addCapture gs x (appendNode (8 * g + 6) x o) .used
+        → getD ((if t then o else addCapture gs x (appendNode (8 * g + 6) x o)) .table) i 0 ≤ (if t then o else addCapture gs x (appendNode (8 * g + 6) x o)) .used
     go true i = l
     go false i = i
 
@@ -281,46 +285,12 @@ unfolding addCapture
 addCapture-used [] x o room = omega arith
 addCapture-used (g ∷ gs) x o room =
     let r : o .used < nodeRoom (o .nodes) = omega arith in
-    let o′ : Store = addNew (8 * g + 6) x o in
-    let u : o′ .used ≤ suc (o .used) = addNew-used (8 * g + 6) x o r in
-    let n : length (o′ .nodes) ≡ length (o .nodes) = addNew-extends (8 * g + 6) x o .nodes-length in
-    go (eqb g (x .one)) (addCapture-used gs x o′ (omega (arith, u, ap (λ (k : ℕ). min (k / 4) 4294967295) n))) u
+    let o′ : Store = appendNode (8 * g + 6) x o in
+    let u : o′ .used ≡ suc (o .used) = append-used (8 * g + 6) x o r in
+    let n : length (o′ .nodes) ≡ length (o .nodes) = append-extends (8 * g + 6) x o .nodes-length in
+    go (eqb g (x .one) || hasKey (x .key) (listAt o (8 * g + 6))) (addCapture-used gs x o′ (omega (arith, u, ap (λ (k : ℕ). min (k / 4) 4294967295) n))) u
   where
-    go : (t : Bool) → addCapture gs x (addNew (8 * g + 6) x o) .used ≤ addNew (8 * g + 6) x o .used + length gs → addNew (8 * g + 6) x o .used ≤ suc (o .used)
-        → (if t then o else addCapture gs x (addNew (8 * g + 6) x o)) .used ≤ o .used + suc (length gs)
+    go : (t : Bool) → addCapture gs x (appendNode (8 * g + 6) x o) .used ≤ appendNode (8 * g + 6) x o .used + length gs → appendNode (8 * g + 6) x o .used ≡ suc (o .used)
+        → (if t then o else addCapture gs x (appendNode (8 * g + 6) x o)) .used ≤ o .used + suc (length gs)
     go true i u = omega arith
     go false i u = omega arith
-
--- the list of function f
-pub addCapture-list : (fs : List ℕ) (x : Node) (o : Store) (f : ℕ) → o .used + length fs ≤ nodeRoom (o .nodes) → f < length (o .table) / 8
-    → ((g : ℕ) → getD (o .table) (8 * g + 6) 0 ≤ o .used)
-    → listAt (addCapture fs x o) (8 * f + 6) ≡ (if isBefore (x .one) fs f then addKey x (listAt o (8 * f + 6)) else listAt o (8 * f + 6))
-unfolding addCapture
-addCapture-list [] x o f room h low = refl
-addCapture-list (g ∷ gs) x o f room h low =
-    let r : o .used < nodeRoom (o .nodes) = omega arith in
-    let o′ : Store = addNew (8 * g + 6) x o in
-    let u : o′ .used ≤ suc (o .used) = addNew-used (8 * g + 6) x o r in
-    let n : length (o′ .nodes) ≡ length (o .nodes) = addNew-extends (8 * g + 6) x o .nodes-length in
-    let t : length (o′ .table) ≡ length (o .table) = addNew-extends (8 * g + 6) x o .table-length in
-    go (eqb g (x .one)) (eqb g f) refl
-    (addCapture-list gs x o′ f (omega (arith, u, ap (λ (k : ℕ). min (k / 4) 4294967295) n)) (omega (arith, ap (λ (k : ℕ). k / 8) t)) (λ k. addNew-low (8 * g + 6) x o (8 * k + 6) (low k))) r
-  where
-    fin : (e : Bool) {y z : List Node} → y ≡ (if e then addKey x z else z) → z ≡ addKey x (listAt o (8 * f + 6)) → y ≡ addKey x (listAt o (8 * f + 6))
-    fin true p q = p ∙ ap (addKey x) q ∙ add-add x (listAt o (8 * f + 6))
-    fin false p q = p ∙ q
-
-    go : (t u : Bool) → eqb g f ≡ u
-        → listAt (addCapture gs x (addNew (8 * g + 6) x o)) (8 * f + 6) ≡ (if isBefore (x .one) gs f then addKey x (listAt (addNew (8 * g + 6) x o) (8 * f + 6)) else listAt (addNew (8 * g + 6) x o) (8 * f + 6))
-        → o .used < nodeRoom (o .nodes)
-        → listAt (if t then o else addCapture gs x (addNew (8 * g + 6) x o)) (8 * f + 6)
-        ≡ (if (if t then false else (u || isBefore (x .one) gs f)) then addKey x (listAt o (8 * f + 6)) else listAt o (8 * f + 6))
-    go true u e i r = refl
-    go false true e i r =
-        let w : g ≡ f = eqb-true g f e in
-        fin (isBefore (x .one) gs f) i
-        (ap (λ (k : ℕ). listAt (addNew (8 * k + 6) x o) (8 * f + 6)) w ∙ addNew-list (8 * f + 6) x o r (omega arith) (low f))
-    go false false e i r =
-        let ne : g ≡ f → ⊥ = eqb-false g f e in
-        i ∙ ap (λ (l : List Node). if isBefore (x .one) gs f then addKey x l else l)
-        (list-kept o (addNew (8 * g + 6) x o) (8 * f + 6) (addNew-extends (8 * g + 6) x o) (addNew-word (8 * g + 6) x o (8 * f + 6) (λ q. omega arith)) (low f))

@@ -14,6 +14,7 @@ use Rattle.definition.specs.Scope.{Stack, Moment, scope, looping, bound, around
 use Rattle.definition.specs.Question.{askEvent}
 use Rattle.machine.proofs.Lists.{eqb-self}
 use Rattle.machine.proofs.Stacks.{Proper, Distinct, a-one}
+use Rattle.machine.proofs.Captures.{Outward}
 use Rattle.definition.specs.Slots.{globalLets, finalGlobals}
 use Rattle.machine.proofs.Globals.{Unlisted, listed-more, globals-le}
 use Rattle.machine.proofs.StoreParts.{nodesNeeded}
@@ -29,6 +30,7 @@ pub record StepReady (s : Sheet) (room : Room) (m : Moment) : Type 0 where
   pub entries-small : length (m .stack) < 4294967295
   pub entries-left : length (m .stack) < room .entries
   pub row-there : inside s (m .stack) < room .rows
+  pub rows-there : (g : ℕ) → (g ∈? around s (m .stack)) ≡ true → g < room .rows
 
 needed-append : (s : Sheet) (xs ys : List Moment) → nodesNeeded s (xs ++ ys) ≡ nodesNeeded s xs + nodesNeeded s ys
 needed-append s [] ys = omega arith
@@ -48,16 +50,20 @@ once-unlisted s h e es f r q k = by (any (eqb r) (globalLets s h)) (subst (λ (x
 once-later : (s : Sheet) (h : List Moment) (z : Stack) (e : Event) (es : List Event) → OnceMore s h (e ∷ es) → OnceMore s (h ++ record { event = e; stack = z } ∷ []) es
 once-later s h z e es f r k = omega (arith, f r k, listed-more s h (record { event = e; stack = z }) r)
 
+-- at each moment of a history, what a function around has captured those further out have captured
+abbrev pub AllOutward : Sheet → List Moment → Type 0
+AllOutward s all = (h : List Moment) (m : Moment) (rest : List Moment) → all ≡ h ++ m ∷ rest → Outward s h m
+
 pub runs-reached : (s : Sheet) (room : Room) (h : List Moment) (z : Stack) (es : List Event)
-    → ((m : Moment) → Reached s z es m → StepReady s room m) → OnceMore s h es → finalGlobals s (h ++ moments s z es) < 4294967295 → nodesNeeded s (h ++ moments s z es) ≤ room .nodes → Runs s room h z es
-runs-reached s room h z [] f u g l = over
-runs-reached s room h z (e ∷ es) f u g l =
+    → ((m : Moment) → Reached s z es m → StepReady s room m) → AllOutward s (h ++ moments s z es) → OnceMore s h es → finalGlobals s (h ++ moments s z es) < 4294967295 → nodesNeeded s (h ++ moments s z es) ≤ room .nodes → Runs s room h z es
+runs-reached s room h z [] f out u g l = over
+runs-reached s room h z (e ∷ es) f out u g l =
     let m : Moment = record { event = e; stack = z } in
     let x : StepReady s room m = f m r-here in
     let w : nodesNeeded s (h ++ m ∷ moments s (step s z e) es) ≡ nodesNeeded s ((h ++ m ∷ []) ++ moments s (step s z e) es) = ap (nodesNeeded s) (sym (append-assoc h (m ∷ []) (moments s (step s z e) es))) in
     let v : nodesNeeded s ((h ++ m ∷ []) ++ moments s (step s z e) es) ≡ nodesNeeded s (h ++ m ∷ []) + nodesNeeded s (moments s (step s z e) es) = needed-append s (h ++ m ∷ []) (moments s (step s z e) es) in
-    next {h = h} (x .proper) (once-unlisted s h e es u) (x .entries-small) (omega (arith, g, globals-le s h (m ∷ moments s (step s z e) es))) (x .entries-left) (x .row-there) (omega (arith, l, w, v))
-    (λ q. runs-reached s room (h ++ m ∷ []) (step s z e) es (λ n r. f n (r-later q r)) (once-later s h z e es u) (subst (λ (l : List Moment). finalGlobals s l < 4294967295) (sym (append-assoc h (m ∷ []) (moments s (step s z e) es))) g) (subst (λ (k : ℕ). k ≤ room .nodes) w l))
+    next {h = h} (x .proper) (once-unlisted s h e es u) (x .entries-small) (omega (arith, g, globals-le s h (m ∷ moments s (step s z e) es))) (x .entries-left) (x .row-there) (x .rows-there) (out h m (moments s (step s z e) es) refl) (omega (arith, l, w, v))
+    (λ q. runs-reached s room (h ++ m ∷ []) (step s z e) es (λ n r. f n (r-later q r)) (subst (AllOutward s) (sym (append-assoc h (m ∷ []) (moments s (step s z e) es))) out) (once-later s h z e es u) (subst (λ (l : List Moment). finalGlobals s l < 4294967295) (sym (append-assoc h (m ∷ []) (moments s (step s z e) es))) g) (subst (λ (k : ℕ). k ≤ room .nodes) w l))
 
 -- The rows of functions that events enter.
 abbrev pub functionsEntered : Sheet → List Event → List ℕ

@@ -8,10 +8,10 @@ use lib.ListN.{length}
 use lib.Seq.{sets, length-sets}
 use lib.Dec.{eqb, ltb}
 use borrow.Author.Tests.{eq-eqb, ne-eqb, eqb-true, eqb-false}
-use Rattle.definition.specs.Basics.{if_then_else_}
+use Rattle.definition.specs.Basics.{if_then_else_, _∈?_}
 use Rattle.definition.specs.Sheet.{Sheet, kind, a}
 use Rattle.definition.specs.Walk.{Event, enter, leave, loop, declare, bring, visit}
-use Rattle.definition.specs.Scope.{Stack, Moment, inside, step, run, moments}
+use Rattle.definition.specs.Scope.{Stack, Moment, around, inside, step, run, moments}
 use Rattle.definition.specs.Slots.{finalGlobals}
 use Rattle.definition.specs.Question.{Refusal, firstNo, askEvent}
 use Rattle.machine.specs.Machine.{nodeRoom, entryRoom, tagOf, firstOf, secondOf, newMeaning, Scopes, Store, State, wordsPushed, stepScopes, stepStore, checkEvent, stepState, runState}
@@ -19,6 +19,7 @@ use Rattle.machine.proofs.Nodes.{Extends, extends-trans}
 use Rattle.machine.proofs.ScopesAgree.{slot-small, ScopesAgree, scopes-step}
 use Rattle.machine.proofs.Questions.{check-is}
 use Rattle.machine.proofs.Stacks.{WellFormed, Proper, wellFormed-step}
+use Rattle.machine.proofs.Captures.{Outward}
 use Rattle.machine.proofs.Columns.{storeCall-unchanged, storeField-unchanged, storeCapture-unchanged, storeLocal-unchanged, storeHidden-unchanged, storeRow-unchanged}
 use Rattle.machine.proofs.StoreParts.{nodesNeeded}
 use Rattle.machine.proofs.Globals.{Numbered, Unlisted, numbered-step, new-known, known-on, number-look}
@@ -45,6 +46,7 @@ pub data Runs (s : Sheet) (room : Room) : List Moment → Stack → List Event �
   over : {h : List Moment} {z : Stack} → Runs s room h z []
   next : {h : List Moment} {z : Stack} {e : Event} {es : List Event}
       → Proper s z e → Unlisted s h e → length z < 4294967295 → finalGlobals s h < 4294967295 → length z < room .entries → inside s z < room .rows
+      → ((g : ℕ) → (g ∈? around s z) ≡ true → g < room .rows) → Outward s h (record { event = e; stack = z })
       → nodesNeeded s (h ++ record { event = e; stack = z } ∷ []) ≤ room .nodes
       → (askEvent s e z .number ≡ 0 → Runs s room (h ++ record { event = e; stack = z } ∷ []) (step s z e) es)
       → Runs s room h z (e ∷ es)
@@ -97,17 +99,18 @@ unfolding stepState
 step-refused s e x y d = rw (eq-eqb (x .refusal .number) 0 y, ne-eqb (checkEvent s e (x .scopes) .number) 0 d)
 
 state-step : (s : Sheet) → kind s 0 ≡ 0 → (room : Room) (h : List Moment) (z : Stack) (e : Event) (x : State)
-    → Proper s z e → Unlisted s h e → length z < 4294967295 → finalGlobals s h < 4294967295 → length z < room .entries → inside s z < room .rows → nodesNeeded s (h ++ record { event = e; stack = z } ∷ []) ≤ room .nodes
+    → Proper s z e → Unlisted s h e → length z < 4294967295 → finalGlobals s h < 4294967295 → length z < room .entries → inside s z < room .rows
+    → ((g : ℕ) → (g ∈? around s z) ≡ true → g < room .rows) → Outward s h (record { event = e; stack = z }) → nodesNeeded s (h ++ record { event = e; stack = z } ∷ []) ≤ room .nodes
     → askEvent s e z .number ≡ 0
     → StateAgrees s room h z x → StateAgrees s room (h ++ record { event = e; stack = z } ∷ []) (step s z e) (stepState s e x)
-state-step s hd room h z e x pr un w₁ w₂ r₁ r₂ r₃ y g =
+state-step s hd room h z e x pr un w₁ w₂ r₁ r₂ rs out r₃ y g =
     rw (step-accepted s e x (g .agreed) (ap (λ (q : Refusal). q .number) (sym (check-is s z (x .scopes) (g .opened) e)) ∙ y))
     (record {
       opened = scopes-step s e z (x .scopes) (omega (arith, g .entries-are, r₁)) w₁ (g .opened);
       numbered = numbered-step s hd h z (x .scopes) (g .opened) (g .numbered) e (omega (arith, g .entries-are, r₁)) (omega (arith, g .numbered .next-is)) un pr;
       sound = wellFormed-step s z e pr (g .sound);
       kept = store-step s hd h z (x .scopes) (g .opened) (g .sound) e (x .store) (λ v. new-known s hd h z (x .scopes) (g .opened) (g .numbered) e v un)
-          (λ m. known-on s h (record { event = e; stack = z }) (number-look s h (x .scopes) (g .numbered) m)) (slot-small s z (x .scopes) (g .opened) w₁) (omega (arith, g .nodes-are, r₃)) (omega (arith, g .rows-are, r₂)) (g .kept);
+          (λ m. known-on s h (record { event = e; stack = z }) (number-look s h (x .scopes) (g .numbered) m)) (slot-small s z (x .scopes) (g .opened) w₁) (omega (arith, g .nodes-are, r₃)) (omega (arith, g .rows-are, r₂)) (λ k m. omega (arith, g .rows-are, rs k m)) out (g .kept);
       agreed = g .agreed;
       entries-are = ap (λ (n : ℕ). min (n / 5) 4294967295) (move-length s e (x .scopes)) ∙ g .entries-are;
       rows-are = ap (λ (n : ℕ). n / 8) (store-extends s e (x .scopes) (x .store) .table-length) ∙ g .rows-are;
@@ -141,8 +144,8 @@ pub refine : (s : Sheet) → kind s 0 ≡ 0 → (room : Room) (h : List Moment) 
     → Runs s room h z es → StateAgrees s room h z x → Ends s room h z es (runState s es x)
 unfolding runState
 refine s hd room h z [] x over g = accepted refl (subst (λ (l : List Moment). StateAgrees s room l z x) (sym (append-nil h)) g)
-refine s hd room h z (e ∷ es) x (next pr un w₁ w₂ r₁ r₂ r₃ w) g =
-    by (eqb (askEvent s e z .number) 0) refl (λ q. refine s hd room (h ++ record { event = e; stack = z } ∷ []) (step s z e) es (stepState s e x) (w q) (state-step s hd room h z e x pr un w₁ w₂ r₁ r₂ r₃ q g))
+refine s hd room h z (e ∷ es) x (next pr un w₁ w₂ r₁ r₂ rs out r₃ w) g =
+    by (eqb (askEvent s e z .number) 0) refl (λ q. refine s hd room (h ++ record { event = e; stack = z } ∷ []) (step s z e) es (stepState s e x) (w q) (state-step s hd room h z e x pr un w₁ w₂ r₁ r₂ rs out r₃ q g))
   where
     pass : askEvent s e z .number ≡ 0 → Ends s room (h ++ record { event = e; stack = z } ∷ []) (step s z e) es (runState s es (stepState s e x)) → Ends s room h z (e ∷ es) (runState s es (stepState s e x))
     pass q (accepted n i) =

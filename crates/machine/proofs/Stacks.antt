@@ -47,7 +47,7 @@ pub data Owned (s : Sheet) : Stack → Type 0 where
   o-loop : {st : Stack} → Owned s st → Owned s (looping ∷ st)
   o-name : {n : ℕ} {d : Meaning} {st : Stack} → (isVariable d ≡ true → (ownerOf d ∈? around s st) ≡ true) → Owned s st → Owned s (bound n d ∷ st)
 
-or-right : (x : Bool) {y : Bool} → y ≡ true → (x || y) ≡ true
+pub or-right : (x : Bool) {y : Bool} → y ≡ true → (x || y) ≡ true
 or-right true h = refl
 or-right false h = h
 

@@ -6,7 +6,7 @@ use Prim.Native.Nat.{ℕ, _+_, _-_, _*_, _/_, _<_, _≤_, min}
 use native.Mathlib.Omega.{arith}
 use lib.ListN.{length, getD}
 use lib.Dec.{eqb, leb, ltb}
-use Rattle.definition.specs.Basics.{if_then_else_, filter, final, distinct, bit}
+use Rattle.definition.specs.Basics.{if_then_else_, filter, final, distinct, bit, _∈?_}
 use Rattle.definition.specs.Sheet.{Sheet, kind, is, a, child}
 use Rattle.definition.specs.Meaning.{isVariable}
 use Rattle.definition.specs.Walk.{Event}
@@ -19,7 +19,7 @@ use Rattle.machine.specs.Reads.{callNode, callsOf, listedFields, rowWord
 use Rattle.machine.proofs.Nodes.{Extends, extends-trans, addNew-calls, addNew-low, addNew-used, addCapture-calls, addCapture-low, addCapture-used, list-kept}
 use Rattle.machine.proofs.ScopesAgree.{ScopesAgree, functions-is}
 use Rattle.machine.proofs.Stacks.{WellFormed}
-use Rattle.machine.proofs.Captures.{nodeOf}
+use Rattle.machine.proofs.Captures.{nodeOf, Outward}
 use Rattle.machine.proofs.Columns.{Unchanged, storeCall-unchanged, storeField-unchanged, storeCapture-unchanged, storeLocal-unchanged, storeHidden-unchanged, storeRow-unchanged}
 use Rattle.machine.proofs.StoreParts.{visitsKind-is, nodeCost, nodesNeeded, needed-snoc, capture-part, local-part, isHidden, hidden-part, call-part, field-part}
 use Rattle.machine.proofs.Globals.{Known}
@@ -159,7 +159,7 @@ assemble : (s : Sheet) (h h′ : List Moment) (i : ℕ) (o o₁ o₂ o₃ o₄ o
     → distinct eqb (listedFields s c ++ registered s h c) ≡ distinct eqb (listedFields s c) ++ map (λ y. y .key) (listAt o₁ (8 * c + 7))
     → distinct eqb (listedFields s c ++ registered s h′ c) ≡ distinct eqb (listedFields s c) ++ map (λ y. y .key) (listAt o₂ (8 * c + 7)))
     → ((c : ℕ) → cell (o₁ .table) c 7 ≤ o₁ .used → cell (o₂ .table) c 7 ≤ o₂ .used)
-    → ((f : ℕ) → f < length (o₂ .table) / 8 → ((g : ℕ) → cell (o₂ .table) g 6 ≤ o₂ .used) → listAt o₂ (8 * f + 6) ≡ map nodeOf (captures s h f)
+    → ((f : ℕ) → f < length (o₂ .table) / 8 → ((g : ℕ) → cell (o₂ .table) g 6 ≤ o₂ .used) → ((g : ℕ) → g < length (o₂ .table) / 8 → listAt o₂ (8 * g + 6) ≡ map nodeOf (captures s h g))
     → listAt o₃ (8 * f + 6) ≡ map nodeOf (captures s h′ f))
     → ((f : ℕ) → cell (o₂ .table) f 6 ≤ o₂ .used → cell (o₃ .table) f 6 ≤ o₃ .used)
     → ((f : ℕ) → f < length (o₃ .table) / 8 → cell (o₃ .table) f 5 ≡ localCount s h f → cell (o₄ .table) f 5 ≡ localCount s h′ f)
@@ -233,7 +233,7 @@ assemble s h h′ i o o₁ o₂ o₃ o₄ o₅ o₆ s₁ s₂ s₃ s₄ s₅ s�
     caps₃ : (f : ℕ) → f < length (o₃ .table) / 8 → listAt o₃ (8 * f + 6) ≡ map nodeOf (captures s h′ f)
     caps₃ f l =
         caps f (rows-on (s₃ .grows) f l) l₂
-        (list-kept o o₂ (8 * f + 6) g₂ (s₂ .words f 6 (omega arith) refl ∙ s₁ .words f 6 (omega arith) refl) (k .captures-low f) ∙ k .captures-is f (rows-on (extends-trans g₂ (s₃ .grows)) f l))
+        (λ g m. list-kept o o₂ (8 * g + 6) g₂ (s₂ .words g 6 (omega arith) refl ∙ s₁ .words g 6 (omega arith) refl) (k .captures-low g) ∙ k .captures-is g (rows-on g₂ g m))
 
     w5 : (r d : ℕ) → d < 8 → not (eqb d 7) ≡ true → not (eqb d 6) ≡ true → not (eqb d 5) ≡ true → not (eqb d 4) ≡ true → cell (o₅ .table) r d ≡ cell (o .table) r d
     w5 r d l e₇ e₆ e₅ e₄ = s₅ .words r d l e₄ ∙ s₄ .words r d l e₅ ∙ s₃ .words r d l e₆ ∙ s₂ .words r d l e₇ ∙ s₁ .words r d l refl
@@ -251,15 +251,16 @@ pub store-step : (s : Sheet) → kind s 0 ≡ 0 → (h : List Moment) (z : Stack
     → (declaresLet s e ≡ true → Known s (h ++ record { event = e; stack = z } ∷ []) (p .nextGlobal) (newMeaning s (declares e) p))
     → ((m : ℕ) → Known s (h ++ record { event = e; stack = z } ∷ []) (lookupGlobal p m) (lookupMeaning p m))
     → p .slot < 4294967295 → nodesNeeded s (h ++ record { event = e; stack = z } ∷ []) ≤ nodeRoom (o .nodes) → inside s z < length (o .table) / 8
+    → ((g : ℕ) → (g ∈? around s z) ≡ true → g < length (o .table) / 8) → Outward s h (record { event = e; stack = z })
     → StoreAgrees s h o → StoreAgrees s (h ++ record { event = e; stack = z } ∷ []) (stepStore s e p o)
 unfolding stepStore
-store-step s hd h z p op snd e o kl ku few room within-table k =
+store-step s hd h z p op snd e o kl ku few room within-table rows out k =
     assemble s h (h ++ record { event = e; stack = z } ∷ []) (inside s z) o o₁ o₂ o₃ o₄ o₅ o₆
     (storeCall-unchanged s e p o) (storeField-unchanged s e p o₁) (storeCapture-unchanged s e p o₂) (storeLocal-unchanged s e p o₃) (storeHidden-unchanged s e p o₄) (storeRow-unchanged s e p o₅)
     (call-part s hd h z p op e o r₁ (k .calls-low) (k .calls-is)) (call-low s e p o (k .calls-low))
     (row-same s e p o₅ .calls-is ∙ hidden-same s e p o₄ .calls-is ∙ local-same s e p o₃ .calls-is ∙ capture-calls s e p o₂ ∙ field-calls s e p o₁)
     (λ c l nz lo i. field-part s hd h z p op e o₁ c r₂ l nz lo i) (λ c l. field-low s e p o₁ (8 * c + 7) l)
-    (λ f l lo i. capture-part s hd h z p op snd e o₂ f r₃ l lo i) (λ f l. capture-low s e p o₂ (8 * f + 6) l)
+    (λ f l lo i. capture-part s hd h z p op snd e out o₂ f r₃ l (λ g m. omega (arith, rows g m, ap (λ (j : ℕ). j / 8) (g₂ .table-length))) lo i) (λ f l. capture-low s e p o₂ (8 * f + 6) l)
     (λ f l i. local-part s hd h z p op few e o₃ f l i) (λ r l i. hidden-part s hd h z p op e o₄ r l i)
     (λ r l nz i t. row-part s h z p op snd e o₅ r kl ku l nz i t)
     u₆ within-table k
@@ -281,6 +282,9 @@ store-step s hd h z p op snd e o kl ku few room within-table k =
 
     o₆ : Store
     o₆ = storeRow s e p o₅
+
+    g₂ : Extends o o₂
+    g₂ = extends-trans (storeCall-unchanged s e p o .grows) (storeField-unchanged s e p o₁ .grows)
 
     all : nodesNeeded s h + ((if visitsKind s 59 e then 1 else 0) + (if visitsKind s 21 e then 1 else 0) + (if visitsKind s 50 e then length (around s z) else 0)) ≡ nodesNeeded s (h ++ record { event = e; stack = z } ∷ [])
     all = ap (λ (c : ℕ). nodesNeeded s h + c) (sym (nodeCost-is s hd e z)) ∙ sym (needed-snoc s h (record { event = e; stack = z }))

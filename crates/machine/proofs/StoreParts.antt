@@ -12,21 +12,23 @@ use Rattle.definition.specs.Basics.{if_then_else_, filter, any, distinct, large
 use Rattle.definition.specs.Sheet.{Sheet, kind, is, a, child}
 use Rattle.definition.specs.Meaning.{isVariable, rowOf, ownerOf}
 use Rattle.definition.specs.Walk.{Event, enter, leave, loop, declare, bring, visit}
-use Rattle.definition.specs.Scope.{Stack, Moment, around, inside, within, visited, declares, visits, declarings, declaration}
+use Rattle.definition.specs.Scope.{Stack, Moment, lookup, around, inside, within, visited, declares, visits, declarings, declaration}
 use Rattle.definition.specs.Slots.{isLocal, openLocals, localCount}
-use Rattle.definition.specs.Capture.{captures}
+use Rattle.definition.specs.Capture.{Use, useAt, beyond, same, captures}
 use Rattle.definition.specs.Classes.{classOf, registered}
 use Rattle.definition.specs.Question.{constructed, receiver}
 use Rattle.definition.specs.Answer.{classCalls}
+use Rattle.definition.proofs.Lists.Tests.{and-both, T-true, true-of}
 use Rattle.definition.proofs.Lists.Members.{map-append}
-use Rattle.machine.specs.Machine.{nodeRoom, cell, Node, chainTo, Store, listAt, Scopes, openFunctions, currentFunction, lookupMeaning, lookupSlot, newMeaning, hasKey, appendCall, addNew, addCapture, markHidden, raiseLocals, visitsKind, declaresLet, constructedClass, receiverClass, newField, fieldNode, storeCall, storeField, storeCapture, storeLocal, storeHidden}
+use Rattle.machine.specs.Machine.{nodeRoom, cell, Node, chainTo, Store, listAt, Scopes, currentFunction, newMeaning, hasKey, appendCall, addNew, addCapture, markHidden, raiseLocals, visitsKind, declaresLet, constructedClass, receiverClass, newField, fieldNode, storeCall, storeField, storeCapture, storeLocal, storeHidden}
 use Rattle.machine.specs.Reads.{callNode, callsOf, listedFields}
-use Rattle.machine.proofs.Nodes.{addKey, isBefore, call-list, addNew-list, addNew-word, addNew-extends, addCapture-list, list-kept}
+use Rattle.machine.proofs.Nodes.{addKey, isBefore, call-list, addNew-list, addNew-word, addNew-extends, list-kept}
 use Rattle.machine.proofs.Lists.{only, any-append, any-map, distinct-key, any-distinct, filter2-snoc, largest-snoc, eqb-same}
 use Rattle.machine.proofs.ScopesAgree.{ScopesAgree, lookup-is, functions-is, current-is, newMeaning-is, oneMore-is}
 use Rattle.machine.proofs.Questions.{slot-found, constructed-is, receiver-is}
-use Rattle.machine.proofs.Stacks.{WellFormed}
-use Rattle.machine.proofs.Captures.{nodeOf, keys-snoc}
+use Rattle.machine.proofs.Stacks.{Distinct, WellFormed, beyond-early, owned-find}
+use Rattle.machine.proofs.CaptureLists.{HasFurther, addCapture-list}
+use Rattle.machine.proofs.Captures.{nodeOf, Outward, keys-snoc}
 
 -- a visit, where row 0 is the header
 pub visitsKind-is : (s : Sheet) → kind s 0 ≡ 0 → (k : ℕ) → eqb 0 k ≡ false → (e : Event) → is s k (visited e) ≡ visitsKind s k e
@@ -60,15 +62,19 @@ needed-snoc s [] m = omega arith
 needed-snoc s (x ∷ h) m = omega (arith, needed-snoc s h m)
 
 -- Captures.
-part-list : (t : Bool) (fs : List ℕ) (x : Node) (o : Store) (f : ℕ) → (t ≡ true → o .used + length fs ≤ nodeRoom (o .nodes)) → f < length (o .table) / 8
-    → ((g : ℕ) → getD (o .table) (8 * g + 6) 0 ≤ o .used)
+part-list : (t : Bool) (fs : List ℕ) (x : Node) (o : Store) (f : ℕ) → Distinct fs → (t ≡ true → o .used + length fs ≤ nodeRoom (o .nodes)) → f < length (o .table) / 8
+    → ((g : ℕ) → getD (o .table) (8 * g + 6) 0 ≤ o .used) → (t ≡ true → HasFurther fs x o f)
     → listAt (if t then addCapture fs x o else o) (8 * f + 6) ≡ (if t then (if isBefore (x .one) fs f then addKey x (listAt o (8 * f + 6)) else listAt o (8 * f + 6)) else listAt o (8 * f + 6))
-part-list true fs x o f room h low = addCapture-list fs x o f (room refl) h low
-part-list false fs x o f room h low = refl
+part-list true fs x o f d room h low k = addCapture-list fs x o f d (room refl) h low (k refl)
+part-list false fs x o f d room h low k = refl
 
 and-left : (x y : Bool) → (x && y) ≡ true → x ≡ true
 and-left true y e = refl
 and-left false y e = e
+
+and-then : (x y : Bool) → (x && y) ≡ true → y ≡ true
+and-then true y e = e
+and-then false y e = absurd (true≢false (sym e))
 
 if-add : (x y : Bool) (u n k : ℕ) → u + (if x then n else 0) ≤ k → (x && y) ≡ true → u + n ≤ k
 if-add true y u n k h e = h
@@ -78,22 +84,42 @@ module _ (s : Sheet) (hd : kind s 0 ≡ 0) (h : List Moment) (z : Stack) (p : Sc
   captures-same : (e : Event) → visitsKind s 50 e ≡ false → (f : ℕ) → map nodeOf (captures s (h ++ record { event = e; stack = z } ∷ []) f) ≡ map nodeOf (captures s h f)
   captures-same e v f = keys-snoc s h (record { event = e; stack = z }) snd f ∙ rw (visitsKind-is s hd 50 refl e ∙ v)
 
-  pub capture-part : (e : Event) (o : Store) (f : ℕ)
+  -- the lists of the functions around an identifier
+  lists-further : (r : ℕ) → Outward s h (record { event = visit r; stack = z }) → (is s 50 r && isVariable (lookup (a s r) z)) ≡ true → (o : Store) (f : ℕ) → f < length (o .table) / 8
+      → ((g : ℕ) → (g ∈? around s z) ≡ true → g < length (o .table) / 8)
+      → ((g : ℕ) → g < length (o .table) / 8 → listAt o (8 * g + 6) ≡ map nodeOf (captures s h g))
+      → HasFurther (around s z) (nodeOf (useAt s (record { event = visit r; stack = z }))) o f
+  lists-further r out t o f l rows lists g i b e q =
+      let u : Use = useAt s (record { event = visit r; stack = z }) in
+      let v : isVariable (u .means) ≡ true = and-then (is s 50 r) (isVariable (u .means)) t in
+      let keys : (j : ℕ) → j < length (o .table) / 8 → hasKey (rowOf (u .means)) (listAt o (8 * j + 6)) ≡ any (λ y. same y u) (captures s h j) =
+      λ j k. ap (hasKey (rowOf (u .means))) (lists j k) ∙ any-map (λ y. eqb (y .key) (rowOf (u .means))) nodeOf (captures s h j) in
+      keys f l
+      ∙ true-of (any (λ y. same y u) (captures s h f))
+      (out (T-true (is s 50 r) (and-left (is s 50 r) (isVariable (u .means)) t)) g f (T-true (g ∈? around s z) i) (T-true (f ∈? beyond g (around s z)) b)
+      (and-both (isVariable (u .means)) (ownerOf (u .means) ∈? beyond f (around s z)) (T-true (isVariable (u .means)) v)
+      (T-true (ownerOf (u .means) ∈? beyond f (around s z)) (beyond-early f (ownerOf (u .means)) (snd .apart) (owned-find s (a s r) (snd .owned) v) ∙ e)))
+      (T-true (any (λ y. same y u) (captures s h g)) (sym (keys g (rows g i)) ∙ q)))
+
+  pub capture-part : (e : Event) → Outward s h (record { event = e; stack = z }) → (o : Store) (f : ℕ)
       → o .used + (if visitsKind s 50 e then length (around s z) else 0) ≤ nodeRoom (o .nodes) → f < length (o .table) / 8
+      → ((g : ℕ) → (g ∈? around s z) ≡ true → g < length (o .table) / 8)
       → ((g : ℕ) → getD (o .table) (8 * g + 6) 0 ≤ o .used)
-      → listAt o (8 * f + 6) ≡ map nodeOf (captures s h f)
+      → ((g : ℕ) → g < length (o .table) / 8 → listAt o (8 * g + 6) ≡ map nodeOf (captures s h g))
       → listAt (storeCapture s e p o) (8 * f + 6) ≡ map nodeOf (captures s (h ++ record { event = e; stack = z } ∷ []) f)
   unfolding storeCapture
-  capture-part (enter r) o f room l low i = i ∙ sym (captures-same (enter r) refl f)
-  capture-part leave o f room l low i = i ∙ sym (captures-same leave refl f)
-  capture-part loop o f room l low i = i ∙ sym (captures-same loop refl f)
-  capture-part (declare r) o f room l low i = i ∙ sym (captures-same (declare r) refl f)
-  capture-part (bring r n d) o f room l low i = i ∙ sym (captures-same (bring r n d) refl f)
-  capture-part (visit r) o f room l low i =
-      part-list (is s 50 r && isVariable (lookupMeaning p (a s r))) (openFunctions s p) (record { key = rowOf (lookupMeaning p (a s r)); one = ownerOf (lookupMeaning p (a s r)); two = lookupSlot p (a s r) }) o f
-      (λ t. if-add (is s 50 r) (isVariable (lookupMeaning p (a s r))) (o .used) (length (openFunctions s p)) _ (rw (functions-is s z p op) at room) t) l low
-      ∙ rw (i, ← (lookup-is s z p op (a s r)), ← (slot-found s z p op (a s r)), ← (functions-is s z p op))
-      (sym (keys-snoc s h (record { event = visit r; stack = z }) snd f))
+  capture-part (enter r) out o f room l rows low i = i f l ∙ sym (captures-same (enter r) refl f)
+  capture-part leave out o f room l rows low i = i f l ∙ sym (captures-same leave refl f)
+  capture-part loop out o f room l rows low i = i f l ∙ sym (captures-same loop refl f)
+  capture-part (declare r) out o f room l rows low i = i f l ∙ sym (captures-same (declare r) refl f)
+  capture-part (bring r n d) out o f room l rows low i = i f l ∙ sym (captures-same (bring r n d) refl f)
+  capture-part (visit r) out o f room l rows low i =
+      let u : Use = useAt s (record { event = visit r; stack = z }) in
+      rw (← (lookup-is s z p op (a s r)), ← (slot-found s z p op (a s r)), ← (functions-is s z p op))
+      (part-list (is s 50 r && isVariable (u .means)) (around s z) (nodeOf u) o f (snd .apart)
+      (λ t. if-add (is s 50 r) (isVariable (u .means)) (o .used) (length (around s z)) _ room t) l low
+      (λ t. lists-further r out t o f l rows i)
+      ∙ rw (i f l) (sym (keys-snoc s h (record { event = visit r; stack = z }) snd f)))
 
 -- Local counts.
 raiseLocals-cell : (g k : ℕ) (o : Store) (f : ℕ) → f < length (o .table) / 8 → cell (raiseLocals g k o .table) f 5 ≡ (if eqb g f then max (cell (o .table) f 5) k else cell (o .table) f 5)

@@ -1,12 +1,12 @@
 -- What must hold of a sheet for the refinement to hold of its walk.
-use mathlib.Core.Path.{_≡_, refl, subst}
+use mathlib.Core.Path.{_≡_, refl, sym, subst}
 use mathlib.Core.List.{List, [], _∷_}
-use mathlib.Core.Bool.{Bool, true, false, not}
+use mathlib.Core.Bool.{Bool, true, false, not, true≢false}
 use Prim.Native.Nat.{ℕ, _+_, _-_, _/_, _<_, _≤_}
 use native.Mathlib.Omega.{arith}
 use lib.ListN.{length, getD}
 use lib.Dec.{eqb, ltb, T}
-use borrow.Author.Tests.{ltb-true}
+use borrow.Author.Tests.{eqb-true, ltb-true}
 use Rattle.definition.specs.Basics.{if_then_else_, count, _∈?_, head}
 use Rattle.definition.specs.Sheet.{Sheet, kind, is, rows}
 use Rattle.definition.specs.Meaning.{Meaning, isVariable, ownerOf}
@@ -20,7 +20,7 @@ use Rattle.machine.proofs.AfterRows.{All, al-none, al-one}
 use Rattle.machine.proofs.StoreParts.{nodesNeeded}
 use Rattle.machine.specs.Machine.{nodeRoom, entryRoom, startState, runState}
 use Rattle.machine.proofs.Refinement.{Room, Runs, Ends}
-use Rattle.machine.proofs.Reached.{Reached, r-here, r-later, runs-reached, functionsEntered, enters-fresh}
+use Rattle.machine.proofs.Reached.{Reached, r-here, r-later, AllOutward, runs-reached, functionsEntered, enters-fresh}
 use Rattle.machine.proofs.EntryBound.{ImportShallow, entriesPushed, walk-bound}
 use Rattle.machine.proofs.ImportedMeanings.{NoLet, trace-fixed}
 use Rattle.machine.proofs.Start.{refine-start}
@@ -85,7 +85,15 @@ head-below : (n : ℕ) (fs : List ℕ) → 0 < n → All (λ r. ltb r n) fs → 
 head-below n [] z h = z
 head-below n (f ∷ fs) z (al-one e h) = ltb-true f n e
 
--- Functions are entered once, and are rows; lets are declared once; locals and arguments are declared in functions; imports stand in
+all-below : (n : ℕ) (fs : List ℕ) → All (λ r. ltb r n) fs → (g : ℕ) → (g ∈? fs) ≡ true → g < n
+all-below n [] h g i = absurd (true≢false (sym i))
+all-below n (f ∷ fs) (al-one e h) g i = by (eqb g f) refl (all-below n fs h g)
+  where
+    by : (t : Bool) → eqb g f ≡ t → ((g ∈? fs) ≡ true → g < n) → g < n
+    by true q k = let l : f < n = ltb-true f n e in let d : g ≡ f = eqb-true g f q in omega arith
+    by false q k = k (rw q at i)
+
+-- Functions are entered once, and are rows; lets are declared once; locals and arguments are declared in functions; captures go outward; imports stand in
 -- a unit's scope, and names are below n; the counters fit words, and there is room.
 pub record WalkReady (s : Sheet) (room : Room) (n : ℕ) : Type 0 where
   pub header : kind s 0 ≡ 0
@@ -94,6 +102,7 @@ pub record WalkReady (s : Sheet) (room : Room) (n : ℕ) : Type 0 where
   pub some-row : 0 < room .rows
   pub inside-function : (m : Moment) → Reached s start (walk s) m → (r : ℕ) → m .event ≡ declare r
       → isVariable (declared s r (inside s (m .stack))) ≡ true → (ownerOf (declared s r (inside s (m .stack))) ∈? around s (m .stack)) ≡ true
+  pub outward : AllOutward s (history s)
   pub lets-once : (r : ℕ) → is s 29 r ≡ true → count (λ e. eqb (declares e) r) (walk s) ≤ 1
   pub shallow : (m : Moment) → Reached s start (walk s) m → ImportShallow n 10 m
   pub small-entries : n + 10 + entriesPushed (walk s) < 4294967295
@@ -118,8 +127,9 @@ ready-runs s room n y =
       entries-small = omega (arith, walk-bound s n m (y .shallow) w, y .small-entries);
       entries-left = omega (arith, walk-bound s n m (y .shallow) w, y .enough-entries);
       row-there = head-below (room .rows) (around s (m .stack)) (y .some-row) (around-below s (room .rows) w (y .are-rows) al-none);
+      rows-there = all-below (room .rows) (around s (m .stack)) (around-below s (room .rows) w (y .are-rows) al-none);
     })
-    (λ r k. omega (arith, y .lets-once r k)) (y .small-globals) (y .enough-nodes)
+    (y .outward) (λ r k. omega (arith, y .lets-once r k)) (y .small-globals) (y .enough-nodes)
 
 -- the walk of such a sheet, with a table of zeros
 pub ready-ends : (s : Sheet) (n : ℕ) (v t q : List ℕ) → ((j : ℕ) → getD t j 0 ≡ 0)

@@ -283,10 +283,10 @@ appendCall x o = if ltb (o .used) (nodeRoom (o .nodes)) then appendedCall x o el
 unfoldable pub addNew : ℕ → Node → Store → Store
 addNew j x o = if hasKey (x .key) (listAt o j) then o else appendNode j x o
 
--- a local or argument captured by the functions fs, innermost first, up to its own function
+-- a local or argument captured by the functions fs, innermost first, up to its own function or one that has captured it before
 unfoldable pub addCapture : List ℕ → Node → Store → Store
 addCapture [] x o = o
-addCapture (g ∷ gs) x o = if eqb g (x .one) then o else addCapture gs x (addNew (8 * g + 6) x o)
+addCapture (g ∷ gs) x o = if eqb g (x .one) || hasKey (x .key) (listAt o (8 * g + 6)) then o else addCapture gs x (appendNode (8 * g + 6) x o)
 
 -- four words: the given ones, then zeros
 abbrev pub fourWords : List ℕ → List ℕ

@@ -11,7 +11,7 @@ use borrow.Author.Tests.{lt-ltb, le-ltb, le-leb, leb-true, eq-eqb, ne-eqb, eqb-t
 use Rattle.definition.specs.Basics.{if_then_else_}
 use Rattle.definition.specs.Sheet.{Sheet, is, word}
 use Rattle.machine.specs.Machine.{entryWord, nodeRoom, chainTo, listAt, hasKey, Store, Node, functionMarks, appended, appendedCall, appendNode, appendCall, addNew, addCapture}
-use Rattle.machine.proofs.CodeSteps.{four-stores, capture-name, capture-mark, capture-own, capture-other}
+use Rattle.machine.proofs.CodeSteps.{four-stores, capture-name, capture-mark, capture-own, capture-there, capture-other}
 use Rattle.store.specs.Stored.{usedPushed, nodesPushed}
 
 -- a node pushed where there is room, and where there is none
@@ -137,10 +137,19 @@ module _ (s : Sheet) (v : List ℕ) (i : ℕ) (x : Node) (o : Store) (l : 0 < i)
     pub capture-last : {f : ℕ} → f ≡ row → f ≡ x .one → o ≡ addCapture (functionMarks s v i) x o
     capture-last e d = sym (at ∙ capture-own s v (i - 1) x o tag-low tag-scope (both (eqb tag 1) (is s 6 row) h .1) (sym e ∙ d))
 
-    pub capture-in : {f : ℕ} {z : Store} → f ≡ row → (f ≡ x .one → ⊥) → z ≡ addNew (8 * f + 6) x o → addCapture (functionMarks s v (i - 1)) x z ≡ addCapture (functionMarks s v i) x o
-    capture-in {f} e d w =
-        sym (at ∙ capture-other s v (i - 1) x o tag-low tag-scope (both (eqb tag 1) (is s 6 row) h .1) (λ y. d (e ∙ y))
-        ∙ sym (ap (addCapture (functionMarks s v (i - 1)) x) (w ∙ ap (λ (g : ℕ). addNew (8 * g + 6) x o) e)))
+    -- the last node of a function's list tells whether its list has the key
+    key-in : {f p : ℕ} (b : Bool) → f ≡ row → p ≡ getD (o .table) (8 * f + 6) 0 → b ≡ hasKey (x .key) (chainTo (o .nodes) p) → hasKey (x .key) (listAt o (8 * row + 6)) ≡ b
+    unfolding listAt
+    key-in b e w k = rw (← e, ← w) (sym k)
+
+    pub capture-found : {f p : ℕ} → f ≡ row → (f ≡ x .one → ⊥) → p ≡ getD (o .table) (8 * f + 6) 0 → true ≡ hasKey (x .key) (chainTo (o .nodes) p) → o ≡ addCapture (functionMarks s v i) x o
+    capture-found e d w k = sym (at ∙ capture-there s v (i - 1) x o tag-low tag-scope (both (eqb tag 1) (is s 6 row) h .1) (λ y. d (e ∙ y)) (key-in true e w k))
+
+    pub capture-in : {f p : ℕ} {z : Store} → f ≡ row → (f ≡ x .one → ⊥) → p ≡ getD (o .table) (8 * f + 6) 0 → false ≡ hasKey (x .key) (chainTo (o .nodes) p)
+        → z ≡ appendNode (8 * f + 6) x o → addCapture (functionMarks s v (i - 1)) x z ≡ addCapture (functionMarks s v i) x o
+    capture-in {f} e d w k g =
+        sym (at ∙ capture-other s v (i - 1) x o tag-low tag-scope (both (eqb tag 1) (is s 6 row) h .1) (λ y. d (e ∙ y)) (key-in false e w k)
+        ∙ sym (ap (addCapture (functionMarks s v (i - 1)) x) (g ∙ ap (λ (j : ℕ). appendNode (8 * j + 6) x o) e)))
 
 pub capture-end : (s : Sheet) (v : List ℕ) (i : ℕ) (x : Node) (o : Store) → i ≤ 0 → o ≡ addCapture (functionMarks s v i) x o
 unfolding functionMarks addCapture

@@ -160,6 +160,7 @@ fn marks_function(s: &[u32], v: &[u32], i: u32) -> bool
 }
 
 // A captured local or argument, stored in the functions among the first `n` entries, from the innermost out to its own function.
+// It ends at a function that has it: an identifier in that function lies in those further out too, so they have it.
 pub fn reg_captured(
     s: &[u32],
     v: &[u32],
@@ -180,7 +181,11 @@ pub fn reg_captured(
             if fun == x.one {
                 return w;
             }
-            w = add_new(w, t, q, fun, 6, x);
+            let last = word(t, fun, 6);
+            if has_key(q, last, x.key) {
+                return w;
+            }
+            w = append_node(w, t, q, fun, 6, x);
         }
     }
     w
