@@ -58,6 +58,13 @@ def many_names(classes, fields):
     return sheet_of(sheet(unit(*reads, classes=made)), len(names))
 
 
+def chain(count, upwards=False):
+    """Chained classes without fields or methods; `upwards` each stands before its parent."""
+    names = numbers(count)
+    made = [record(name, names[i - 1] if i else 0) for i, name in enumerate(names)]
+    return sheet_of(sheet(unit(classes=made[::-1] if upwards else made)), count)
+
+
 def constructors(count, calls):
     """Chained classes, the first with a constructor that the others inherit, and calls of the last one."""
     names = numbers(count)
@@ -104,7 +111,8 @@ def cases(oracle):
     yield "locals_1000", open_locals(1000)
     yield "names_1000", many_names(10, 99)
     yield "chain_62", class_chain(62)
-    yield "chain_1000", class_chain(1000, 0)
+    yield "chain_1000", chain(1000)
+    yield "chain_1000_upwards", chain(1000, True)
     yield "constructors_500", constructors(500, 300)
     yield "nested_20", nested(20, 4, 600)
 

@@ -1,9 +1,10 @@
 """compare_program.py REPLAY ORACLE COUNT [SEED]
 
 Compares the program crates/replay, built as REPLAY, with the oracle, byte by byte: COUNT random cases, in batches. Most are
-sheets of up to some hundred rows; one in ten is damaged, so that most often questions 1 to 4 refuse it, and there
-format_check.py says what the program must print. Prints the counts by question and, of every case that differs, the sheet,
-its names and both outputs, those of fewest rows first. Exit status 1 if one differs.
+sheets of up to some hundred rows, some of more than the 320 up to which the resolver makes less scratch space; one in ten is
+damaged, so that most often questions 1 to 4 refuse it, and there format_check.py says what the program must print. Prints the
+counts by question and, of every case that differs, the sheet, its names and both outputs, those of fewest rows first. Exit
+status 1 if one differs.
 """
 import random
 import subprocess
@@ -16,7 +17,7 @@ from sheets import generate
 from tree import text_of
 
 BATCH = 2000
-SIZES = [5, 10, 15, 25, 25, 40, 60, 100, 200]
+SIZES = [5, 10, 15, 25, 25, 40, 60, 100, 200, 500]
 MOST_ROWS = 2048
 ROOM, NAMES_ROOM = 165_889, 32_769
 
