@@ -67,10 +67,11 @@ pub record Shows (s : Sheet) (o : Stored) (j c : ℕ) (w : List ℕ) (k : ℕ) (
   pub names : column w (nameColumn j) (a .row) (a .count) ≡ namesIn s o j (rows s - 1) (parentIn s o c)
   pub functions : (j ≡ 10 → ⊥) → column w 3 (a .row) (a .count) ≡ map (functionIn s o (rows s - 1) (parentIn s o c)) (namesIn s o j (rows s - 1) (parentIn s o c))
 
--- If `a` tells a row, the names of the parent of class c stand there; and they are as many as it tells.
+-- If `a` tells a row, the names of kind j of the parent of class c stand there.
 abbrev pub Shown : List ℕ → List ℕ → List ℕ → ℕ → ℕ → List ℕ → ℕ → Above → Type 0
 Shown s t q j c w k a = (a .row ≡ 0 → ⊥) → (o : Store) → Shows s (storeOf o t q) j c w k a
 
+-- If `a` tells a row, class c has a parent, and `a` tells how many names of kind j it has.
 abbrev pub Counted : List ℕ → List ℕ → List ℕ → ℕ → ℕ → Above → Type 0
 Counted s t q j c a =
     (a .row ≡ 0 → ⊥) → (o : Store)
