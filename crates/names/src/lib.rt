@@ -54,19 +54,19 @@ const FIXED_STARTS: [u32; 25] = [
     168,
 ];
 
-// Are the bytes of two names the same?
+// Are the bytes of two names the same? They are compared from the last back: names that differ often begin alike.
 pub fn same_name(a: &[u8], b: &[u8]) -> bool
     ensures { λ r. ⌜ r ≡ sameName (now (a .entry)) (now (b .entry)) ⌝ }
 {
     if a.len() != b.len() {
         return false;
     }
-    let mut i = 0;
-    while i < a.len() {
+    let mut i = a.len();
+    while 0 < i {
+        i -= 1;
         if a[i] != b[i] {
             return false;
         }
-        i += 1;
     }
     true
 }
@@ -180,7 +180,7 @@ fn name_at<'a>(names: &'a [u8], table: &[u32], k: usize) -> &'a [u8]
     &names[start..end]
 }
 
-// Is a name in a list, at place `from` or later? `same_name` looks at the sizes and then the first bytes before all else.
+// Is a name in a list, at place `from` or later? `same_name` looks at the sizes before all else.
 fn is_among(name: &[u8], names: &[u8], table: &[u32], from: usize) -> bool
     requires { ⌜ (now table ≡ starts (now names)) × (from < length (now table)) ⌝ }
     ensures { λ r. ⌜ r ≡ any (sameName (now (name .entry))) (drop from (listed (now (names .entry)))) ⌝ }

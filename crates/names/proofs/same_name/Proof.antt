@@ -1,24 +1,27 @@
--- `names::same_name` meets its contract. Invariant: the names are the same if their bytes from `i` on are. Assumes nothing.
-use mathlib.Core.Path.{_≡_, refl, sym, _∙_}
-use Prim.Native.Nat.{_-_, _≤_}
+-- `names::same_name` meets its contract. Invariant: the names are the same if their bytes before `i` are. Assumes nothing.
+use mathlib.Core.Path.{_≡_, sym, _∙_}
+use Prim.Native.Nat.{_≤_}
 use native.Mathlib.Omega.{arith}
-use lib.ListN.{length, drop}
+use lib.ListN.{length, take}
 use Rattle.definition.specs.Names.{sameName}
-use Rattle.names.proofs.Compare.{same-not, same-so-far, same-end, same-sized}
+use Rattle.names.proofs.Compare.{same-not, same-so-far, same-whole, same-end, same-sized}
 use Rattle.names.proofs.same_name.Statement.{statement}
 use Rattle.names.proofs.same_name.Tie as tie
 
 abbrev Inv-loop : tie.InvT-loop
-Inv-loop a b i₀ i = (i ≤ length a) × (length a ≡ length b) × (sameName (drop i a) (drop i b) ≡ sameName a b)
+Inv-loop a b i₀ i = (i ≤ length a) × (length a ≡ length b) × (sameName (take i a) (take i b) ≡ sameName a b)
 
 abbrev μ-loop : tie.MeasureT-loop
-μ-loop a b i₀ i = length a - i
+μ-loop a b i₀ i = i
 
 returns : tie.Need-returns Inv-loop μ-loop
 returns c = sym (same-sized (c .before .args .a .now) (c .before .args .b .now) (λ e. omega arith))
 
 loop-holds : tie.Need-loop-holds Inv-loop μ-loop
-loop-holds c = (omega arith, omega arith, refl)
+loop-holds c = (omega arith, omega arith, same-whole (c .before .args .a .now) (c .before .args .b .now) (omega arith))
+
+sub-i : tie.Need-sub-i Inv-loop μ-loop
+sub-i c = omega arith
 
 shared-slice-read-if2 : tie.Need-shared-slice-read-if2 Inv-loop μ-loop
 shared-slice-read-if2 c = omega arith
@@ -30,10 +33,7 @@ returns-2 : tie.Need-returns-2 Inv-loop μ-loop
 returns-2 c =
     let entry = c .before .before .before .before .before .before in
     let turn = c .before .before .before .before in
-    sym (same-not (entry .args .a .now) (entry .args .b .now) (turn .loop .i) (omega arith) (omega arith) (λ e. omega arith)) ∙ turn .loop .inv .2
-
-add-i : tie.Need-add-i Inv-loop μ-loop
-add-i c = omega arith
+    sym (same-not (entry .args .a .now) (entry .args .b .now) (turn .loop .i) (omega arith) (omega arith) (omega arith) (λ e. omega arith)) ∙ turn .loop .inv .2
 
 loop-less : tie.Need-loop-less Inv-loop μ-loop
 loop-less c = omega arith
@@ -42,12 +42,12 @@ loop-again : tie.Need-loop-again Inv-loop μ-loop
 loop-again c =
     let entry = c .before .before .before .before .before .before in
     let turn = c .before .before .before .before in
-    (omega arith, omega arith, sym (same-so-far (entry .args .a .now) (entry .args .b .now) (turn .loop .i) (omega arith) (omega arith) (omega arith)) ∙ turn .loop .inv .2)
+    (omega arith, omega arith, sym (same-so-far (entry .args .a .now) (entry .args .b .now) (turn .loop .i) (omega arith) (omega arith) (omega arith) (omega arith)) ∙ turn .loop .inv .2)
 
 returns-3 : tie.Need-returns-3 Inv-loop μ-loop
 returns-3 c =
     let entry = c .before .before .before in
-    sym (same-end (entry .args .a .now) (entry .args .b .now) (c .before .loop .i) (omega arith) (omega arith)) ∙ c .before .loop .inv .2
+    sym (same-end (entry .args .a .now) (entry .args .b .now) (c .before .loop .i) (omega arith)) ∙ c .before .loop .inv .2
 
 pub same-name-spec : {M : Type 1} → statement M
 same-name-spec =
@@ -57,10 +57,10 @@ same-name-spec =
     μ-loop
     returns
     loop-holds
+    sub-i
     shared-slice-read-if2
     shared-slice-read-if2-2
     returns-2
-    add-i
     loop-less
     loop-again
     returns-3)
