@@ -8,11 +8,11 @@ use lib.Dec.{eqb}
 use borrow.Author.Tests.{ne-eqb, eq-eqb}
 use Rattle.definition.specs.Basics.{if_then_else_, _∈?_}
 use Rattle.definition.specs.Sheet.{Sheet, kind, is, a, b, child, kidsOf}
-use Rattle.definition.specs.Meaning.{Meaning, isVariable, rowOf, ownerOf, classNumber}
+use Rattle.definition.specs.Meaning.{Meaning, rowOf, ownerOf, classNumber}
 use Rattle.definition.specs.Walk.{enter, leave, loop, declare, bring, visit}
 use Rattle.definition.specs.Slots.{isLocal}
 use Rattle.definition.specs.Classes.{classOf, methodNamed, ownMethods}
-use Rattle.machine.specs.Machine.{oneMore, nodeWord, Node, nodeAt, previous, chainBack, reversed, chainTo, hasKey, Store, Scopes, openFunctions, currentFunction, lookupMeaning, lookupSlot, lookupGlobal, newMeaning, codeOf, appendCall, addNew, addCapture, writeRow, writeRowAt, markHidden, raiseLocals, seenIn, receiverClass, fieldNode, storeCall, storeField, storeCapture, storeLocal, storeHidden, storeRow, stepStore}
+use Rattle.machine.specs.Machine.{oneMore, nodeWord, Node, nodeAt, previous, chainBack, reversed, chainTo, hasKey, Store, Scopes, openFunctions, currentFunction, lookupMeaning, lookupSlot, lookupGlobal, newMeaning, codeOf, appendCall, addNew, addCapture, writeRow, writeRowAt, markHidden, raiseLocals, seenIn, receiverClass, fieldNode, isOuterVariable, storeCall, storeField, storeCapture, storeLocal, storeHidden, storeRow, stepStore}
 use Rattle.machine.proofs.Lists.{any-append}
 use Rattle.machine.proofs.Nodes.{chainBack-hit, chainBack-down}
 
@@ -47,7 +47,7 @@ module _ (s : Sheet) (p : Scopes) (o : Store) where
   -- an identifier
   pub store-identifier : (r : ℕ) → kind s r ≡ 50
       → (x : Store)
-      → x ≡ (if isVariable (lookupMeaning p (a s r)) then addCapture (openFunctions s p) (record { key = rowOf (lookupMeaning p (a s r)); one = ownerOf (lookupMeaning p (a s r)); two = lookupSlot p (a s r) }) o else o)
+      → x ≡ (if isOuterVariable (lookupMeaning p (a s r)) (currentFunction p) then addCapture (openFunctions s p) (record { key = rowOf (lookupMeaning p (a s r)); one = ownerOf (lookupMeaning p (a s r)); two = lookupSlot p (a s r) }) o else o)
       → stepStore s (visit r) p o ≡ writeRowAt r (seenIn s (lookupMeaning p (a s r)) (lookupSlot p (a s r)) (lookupGlobal p (a s r)) (currentFunction p) x) x
   unfolding stepStore storeRow storeHidden storeLocal storeCapture storeField storeCall
   store-identifier r e x q = rw (e, q)

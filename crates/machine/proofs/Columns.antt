@@ -11,11 +11,10 @@ use lib.Dec.{eqb, leb, ltb}
 use borrow.Author.Tests.{lt-ltb, eqb-false, ltb-true, ltb-false, leb-true, not-true}
 use Rattle.definition.specs.Basics.{if_then_else_}
 use Rattle.definition.specs.Sheet.{Sheet, a, child}
-use Rattle.definition.specs.Meaning.{isVariable}
 use Rattle.definition.specs.Walk.{Event}
 use Rattle.definition.specs.Slots.{isLocal}
 use Rattle.definition.specs.Classes.{classOf}
-use Rattle.machine.specs.Machine.{nodeRoom, oneMore, cell, Node, Store, Scopes, openFunctions, currentFunction, lookupMeaning, newMeaning, appendedCall, appendCall, addNew, addCapture, fourWords, withTable, writeRow, markHidden, raiseLocals, visitsKind, declaresLet, eventRow, constructedClass, receiverClass, newField, fieldNode, writtenRow, writtenWords, storeCall, storeField, storeCapture, storeLocal, storeHidden, storeRow}
+use Rattle.machine.specs.Machine.{nodeRoom, oneMore, cell, Node, Store, Scopes, openFunctions, currentFunction, lookupMeaning, newMeaning, appendedCall, appendCall, addNew, addCapture, fourWords, withTable, writeRow, markHidden, raiseLocals, visitsKind, declaresLet, eventRow, constructedClass, receiverClass, newField, fieldNode, isOuterVariable, writtenRow, writtenWords, storeCall, storeField, storeCapture, storeLocal, storeHidden, storeRow}
 use Rattle.machine.proofs.Words.{sets-in, sets-out}
 use Rattle.machine.specs.Reads.{rowWords}
 use Rattle.machine.proofs.Nodes.{Extends, extends-refl, call-extends, addNew-extends, addNew-word, addCapture-extends, addCapture-word}
@@ -136,7 +135,7 @@ module _ (s : Sheet) (e : Event) (p : Scopes) (o : Store) where
 
   pub storeCapture-unchanged : Unchanged (λ d. not (eqb d 6)) o (storeCapture s e p o)
   unfolding storeCapture
-  storeCapture-unchanged = unchanged-if (λ d. not (eqb d 6)) (visitsKind s 50 e && isVariable (lookupMeaning p (a s (eventRow e)))) o _ (addCapture-unchanged (openFunctions s p) _ o)
+  storeCapture-unchanged = unchanged-if (λ d. not (eqb d 6)) (visitsKind s 50 e && isOuterVariable (lookupMeaning p (a s (eventRow e))) (currentFunction p)) o _ (addCapture-unchanged (openFunctions s p) _ o)
 
   pub storeLocal-unchanged : Unchanged (λ d. not (eqb d 5)) o (storeLocal s e p o)
   unfolding storeLocal

@@ -8,13 +8,12 @@ use lib.ListN.{length, getD}
 use lib.Dec.{eqb, leb, ltb}
 use Rattle.definition.specs.Basics.{if_then_else_, filter, final, distinct, bit, _∈?_}
 use Rattle.definition.specs.Sheet.{Sheet, kind, is, a, child}
-use Rattle.definition.specs.Meaning.{isVariable}
 use Rattle.definition.specs.Walk.{Event}
 use Rattle.definition.specs.Scope.{Stack, Moment, around, inside, declares}
 use Rattle.definition.specs.Slots.{isLocal, localCount}
 use Rattle.definition.specs.Capture.{captures}
 use Rattle.definition.specs.Classes.{classOf, registered}
-use Rattle.machine.specs.Machine.{nodeRoom, cell, Node, chainTo, Store, listAt, Scopes, openFunctions, currentFunction, lookupMeaning, lookupGlobal, newMeaning, appendedCall, appendCall, addNew, addCapture, withTable, writeRow, markHidden, raiseLocals, visitsKind, declaresLet, eventRow, constructedClass, receiverClass, newField, fieldNode, writtenRow, storeCall, storeField, storeCapture, storeLocal, storeHidden, storeRow, stepStore}
+use Rattle.machine.specs.Machine.{nodeRoom, cell, Node, chainTo, Store, listAt, Scopes, openFunctions, currentFunction, lookupMeaning, lookupGlobal, newMeaning, appendedCall, appendCall, addNew, addCapture, withTable, writeRow, markHidden, raiseLocals, visitsKind, declaresLet, eventRow, constructedClass, receiverClass, newField, fieldNode, isOuterVariable, writtenRow, storeCall, storeField, storeCapture, storeLocal, storeHidden, storeRow, stepStore}
 use Rattle.machine.specs.Reads.{callNode, callsOf, listedFields, rowWords}
 use Rattle.machine.proofs.Nodes.{Extends, extends-trans, addNew-calls, addNew-low, addNew-used, addCapture-calls, addCapture-low, addCapture-used, list-kept}
 use Rattle.machine.proofs.ScopesAgree.{ScopesAgree, functions-is}
@@ -92,7 +91,7 @@ module _ (s : Sheet) (e : Event) (p : Scopes) (o : Store) where
 
   capture-used : o .used + (if visitsKind s 50 e then length (openFunctions s p) else 0) ≤ nodeRoom (o .nodes) → storeCapture s e p o .used ≤ o .used + (if visitsKind s 50 e then length (openFunctions s p) else 0)
   unfolding storeCapture
-  capture-used room = go (visitsKind s 50 e) (isVariable (lookupMeaning p (a s (eventRow e)))) _ room
+  capture-used room = go (visitsKind s 50 e) (isOuterVariable (lookupMeaning p (a s (eventRow e))) (currentFunction p)) _ room
     where
       go : (t u : Bool) (x : Node) → o .used + (if t then length (openFunctions s p) else 0) ≤ nodeRoom (o .nodes)
           → (if t && u then addCapture (openFunctions s p) x o else o) .used ≤ o .used + (if t then length (openFunctions s p) else 0)
@@ -102,7 +101,7 @@ module _ (s : Sheet) (e : Event) (p : Scopes) (o : Store) where
 
   capture-calls : storeCapture s e p o .calls ≡ o .calls
   unfolding storeCapture
-  capture-calls = go (visitsKind s 50 e && isVariable (lookupMeaning p (a s (eventRow e)))) _
+  capture-calls = go (visitsKind s 50 e && isOuterVariable (lookupMeaning p (a s (eventRow e))) (currentFunction p)) _
     where
       go : (t : Bool) (x : Node) → (if t then addCapture (openFunctions s p) x o else o) .calls ≡ o .calls
       go true x = addCapture-calls (openFunctions s p) x o
@@ -110,7 +109,7 @@ module _ (s : Sheet) (e : Event) (p : Scopes) (o : Store) where
 
   capture-low : (i : ℕ) → getD (o .table) i 0 ≤ o .used → getD (storeCapture s e p o .table) i 0 ≤ storeCapture s e p o .used
   unfolding storeCapture
-  capture-low i l = go (visitsKind s 50 e && isVariable (lookupMeaning p (a s (eventRow e)))) _
+  capture-low i l = go (visitsKind s 50 e && isOuterVariable (lookupMeaning p (a s (eventRow e))) (currentFunction p)) _
     where
       go : (t : Bool) (x : Node) → getD ((if t then addCapture (openFunctions s p) x o else o) .table) i 0 ≤ (if t then addCapture (openFunctions s p) x o else o) .used
       go true x = addCapture-low (openFunctions s p) x o i l

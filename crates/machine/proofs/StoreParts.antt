@@ -62,6 +62,24 @@ needed-snoc s [] m = omega arith
 needed-snoc s (x ∷ h) m = omega (arith, needed-snoc s h m)
 
 -- Captures.
+
+-- a variable of the innermost function is captured by none, so its captures need no search
+own-skipped : (t u : Bool) (fs : List ℕ) (x : Node) (o : Store)
+    → (if t && (u && not (eqb (x .one) (head fs))) then addCapture fs x o else o) ≡ (if t && u then addCapture fs x o else o)
+unfolding addCapture
+own-skipped false u fs x o = refl
+own-skipped true false fs x o = refl
+own-skipped true true [] x o = go (not (eqb (x .one) 0))
+  where
+    go : (v : Bool) → (if v then o else o) ≡ o
+    go true = refl
+    go false = refl
+own-skipped true true (g ∷ gs) x o = go (eqb (x .one) g) (eqb-same g (x .one))
+  where
+    go : (v : Bool) → eqb g (x .one) ≡ v → (if not v then addCapture (g ∷ gs) x o else o) ≡ addCapture (g ∷ gs) x o
+    go true e = rw e
+    go false e = refl
+
 part-list : (t : Bool) (fs : List ℕ) (x : Node) (o : Store) (f : ℕ) → Distinct fs → (t ≡ true → o .used + length fs ≤ nodeRoom (o .nodes)) → f < length (o .table) / 8
     → ((g : ℕ) → getD (o .table) (8 * g + 6) 0 ≤ o .used) → (t ≡ true → HasFurther fs x o f)
     → listAt (if t then addCapture fs x o else o) (8 * f + 6) ≡ (if t then (if isBefore (x .one) fs f then addKey x (listAt o (8 * f + 6)) else listAt o (8 * f + 6)) else listAt o (8 * f + 6))
@@ -115,8 +133,9 @@ module _ (s : Sheet) (hd : kind s 0 ≡ 0) (h : List Moment) (z : Stack) (p : Sc
   capture-part (bring r n d) out o f room l rows low i = i f l ∙ sym (captures-same (bring r n d) refl f)
   capture-part (visit r) out o f room l rows low i =
       let u : Use = useAt s (record { event = visit r; stack = z }) in
-      rw (← (lookup-is s z p op (a s r)), ← (slot-found s z p op (a s r)), ← (functions-is s z p op))
-      (part-list (is s 50 r && isVariable (u .means)) (around s z) (nodeOf u) o f (snd .apart)
+      rw (← (lookup-is s z p op (a s r)), ← (slot-found s z p op (a s r)), ← (functions-is s z p op), ← (current-is s z p op))
+      (ap (λ (o′ : Store). listAt o′ (8 * f + 6)) (own-skipped (is s 50 r) (isVariable (u .means)) (around s z) (nodeOf u) o)
+      ∙ part-list (is s 50 r && isVariable (u .means)) (around s z) (nodeOf u) o f (snd .apart)
       (λ t. if-add (is s 50 r) (isVariable (u .means)) (o .used) (length (around s z)) _ room t) l low
       (λ t. lists-further r out t o f l rows i)
       ∙ rw (i f l) (sym (keys-snoc s h (record { event = visit r; stack = z }) snd f)))

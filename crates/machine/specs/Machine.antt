@@ -366,10 +366,14 @@ fieldNode n = record { key = n; one = 0; two = 0 }
 unfoldable pub storeField : Sheet → Event → Scopes → Store → Store
 storeField s e p o = if newField s e p then addNew (8 * classOf s (currentFunction p) + 7) (fieldNode (a s (child s (eventRow e)))) o else o
 
+-- is d a local or argument of a function other than f?
+abbrev pub isOuterVariable : Meaning → ℕ → Bool
+isOuterVariable d f = isVariable d && not (eqb (ownerOf d) f)
+
 -- an event's captured local or argument stored in every function between its use and its own
 unfoldable pub storeCapture : Sheet → Event → Scopes → Store → Store
 storeCapture s e p o =
-    if visitsKind s 50 e && isVariable (lookupMeaning p (a s (eventRow e)))
+    if visitsKind s 50 e && isOuterVariable (lookupMeaning p (a s (eventRow e))) (currentFunction p)
     then addCapture (openFunctions s p) (record { key = rowOf (lookupMeaning p (a s (eventRow e))); one = ownerOf (lookupMeaning p (a s (eventRow e))); two = lookupSlot p (a s (eventRow e)) }) o
     else o
 
@@ -403,7 +407,7 @@ codeOf s (variable r f) k g = if is s 11 r then 4 ∷ place (eqb r) (kidsOf s 11
 -- code and values of meaning d, seen from function f: an index of a capture, if it belongs to another function
 unfoldable pub seenIn : Sheet → Meaning → ℕ → ℕ → ℕ → Store → List ℕ
 seenIn s d k g f o =
-    if isVariable d && not (eqb (ownerOf d) f)
+    if isOuterVariable d f
     then 6 ∷ place (λ y. eqb (rowOf d) (y .key)) (listAt o (8 * f + 6)) ∷ 0 ∷ bit (isMutable s d) ∷ []
     else codeOf s d k g
 

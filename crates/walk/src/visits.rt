@@ -7,9 +7,9 @@ ghost use lib.Dec.{eqb};
 ghost use lib.ListN.{length};
 ghost use Rattle.definition.specs.Basics.{if_then_else_};
 ghost use Rattle.definition.specs.Sheet.{kind, is, b};
-ghost use Rattle.definition.specs.Meaning.{isVariable, rowOf, ownerOf};
+ghost use Rattle.definition.specs.Meaning.{rowOf, ownerOf};
 ghost use Rattle.definition.specs.Walk.{visit};
-ghost use Rattle.machine.specs.Machine.{openFunctions, addCapture, stepState};
+ghost use Rattle.machine.specs.Machine.{openFunctions, isOuterVariable, addCapture, stepState};
 ghost use Rattle.machine.specs.Machine.{writeRowAt};
 ghost use Rattle.symbols.specs.OpenScopes.{scopesOf};
 ghost use Rattle.symbols.specs.OpenDecls.{means};
@@ -55,7 +55,8 @@ fn undeclared(m: u32) -> u32
     if m == 22 { 9 } else { 8 }
 }
 
-// A local or argument that is used is captured by every function around, out to its own.
+// A local or argument that is used is captured by every function around, out to its own. Most belong to the innermost function,
+// where none captures them: then the open entries are not searched.
 fn capture(
     s: &[u32],
     v: &[u32],
@@ -66,11 +67,15 @@ fn capture(
     q: &mut [u32],
 ) -> Store
     ensures { λ x. ⌜ storeOf x (now (t .exit)) (now (q .exit))
-        ≡ (if isVariable (means d)
+        ≡ (if isOuterVariable (means d) (e .fun .0)
         then addCapture (openFunctions (now (s .entry)) (scopesOf e (now (v .entry)))) (record { key = rowOf (means d); one = ownerOf (means d); two = d .slot }) (storeOf o (now (t .entry)) (now (q .entry)))
         else storeOf o (now (t .entry)) (now (q .entry))) ⌝ }
 {
     if d.tag != 6 {
+        return o;
+    }
+    let fun = e.fun;
+    if d.second == fun.0 {
         return o;
     }
     let x = Node {
