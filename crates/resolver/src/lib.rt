@@ -183,7 +183,7 @@ fn resolve_large(s: &[u32], out: &mut [u32]) -> Answer
     resolve_with(s, &mut classes, &mut v, &mut t, &mut q, out)
 }
 
-// The same for up to 320 rows: most sheets are small, and clearing 906 KB would take them longer than all else.
+// The same for up to 320 rows, which would spend a quarter of their time on clearing 906 KB.
 fn resolve_small(s: &[u32], out: &mut [u32]) -> Answer
     requires { ⌜ (PastFour (now s)) × (length (now s) ≤ 2560) ⌝ }
     ensures { λ x. ⌜ Settled (now (s .entry)) (length (now (out .entry))) x (now (out .exit)) ⌝ }
