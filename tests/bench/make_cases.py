@@ -10,7 +10,7 @@ import tempfile
 from pathlib import Path
 
 sys.path.insert(0, str(Path(__file__).resolve().parent.parent / "oracle"))
-from directed import block, call, do, fun, give, let, lit, member, record, sheet, unit, use
+from directed import block, call, do, give, let, lit, member, method, record, sheet, unit, use
 from sheets import INIT, Sheet, class_chain, generate
 from tree import text_of
 
@@ -58,25 +58,12 @@ def many_names(classes, fields):
     return sheet_of(sheet(unit(*reads, classes=made)), len(names))
 
 
-def chain(count, upwards=False):
-    """Chained classes without fields or methods; `upwards` each stands before its parent."""
-    names = numbers(count)
-    made = [record(name, names[i - 1] if i else 0) for i, name in enumerate(names)]
-    return sheet_of(sheet(unit(classes=made[::-1] if upwards else made)), count)
-
-
 def constructors(count, calls):
     """Chained classes, the first with a constructor that the others inherit, and calls of the last one."""
     names = numbers(count)
-    init = fun(INIT, [], block())
-    made = [record(name, names[i - 1] if i else 0, (), [] if i else [method_of(init)]) for i, name in enumerate(names)]
+    init = method(INIT, params=names[:1])
+    made = [record(name, names[i - 1] if i else 0, (), [] if i else [init]) for i, name in enumerate(names)]
     return sheet_of(sheet(unit(*[do(call(use(names[-1]))) for _ in range(calls)], classes=made)), count)
-
-
-def method_of(function):
-    """A method takes its object as a parameter too."""
-    function.kids.insert(0, type(function)(11, FIRST_LISTED))
-    return function
 
 
 def nested(depth, params, uses):
@@ -111,8 +98,8 @@ def cases(oracle):
     yield "locals_1000", open_locals(1000)
     yield "names_1000", many_names(10, 99)
     yield "chain_62", class_chain(62)
-    yield "chain_1000", chain(1000)
-    yield "chain_1000_upwards", chain(1000, True)
+    yield "chain_1000", class_chain(1000, 0)
+    yield "chain_1000_upwards", class_chain(1000, 0, upwards=True)
     yield "constructors_500", constructors(500, 300)
     yield "nested_20", nested(20, 4, 600)
 

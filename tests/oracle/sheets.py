@@ -659,14 +659,16 @@ def generate(seed, size=50, errors=0.5):
             return Sheet(root, generator.names, rng, rng.choice(ORDERS))
 
 
-def class_chain(count, fields=1):
-    """Chained classes, each with new fields: many answer rows of few sheet rows."""
+def class_chain(count, fields=1, upwards=False):
+    """Chained classes, each with new fields: many answer rows of few sheet rows. `upwards` each stands before its parent."""
     names = [b"n%d" % i for i in range(count * (fields + 1))]
     number = lambda i: 25 + i
     classes = []
     for i in range(count):
         own = [Node(10, number(count + i * fields + j)) for j in range(fields)]
         classes.append(Node(4, number(i), number(i - 1) if i else 0, own))
+    if upwards:
+        classes.reverse()
     body = Node(25, kids=[Node(30, each) for each in classes])
     unit = Node(2, kids=classes + [Node(6, 0, 1, [body])])
     return Sheet(Node(0, 0, 0, [unit]), names, random.Random(count), "preorder")
