@@ -8,7 +8,7 @@ use lib.ListN.{length}
 use lib.Dec.{eqb, T}
 use Rattle.definition.specs.Basics.{if_then_else_, bit, concatMap, from}
 use Rattle.definition.specs.Sheet.{Sheet, kind, rows, is}
-use Rattle.definition.specs.Outside.{Method}
+use Rattle.definition.specs.Outside.{Outside, Method}
 use Rattle.definition.specs.Scope.{Moment, history}
 use Rattle.definition.specs.Classes.{fields, methods, hasChildren}
 use Rattle.definition.specs.Answer.{eight, letRow, identifierRow, hostRow, instanceRow, memberRow, literalRows, functionRows, numbered, classRows, rowsOf, answers}
@@ -19,7 +19,6 @@ use Rattle.machine.specs.Reads.{StoreReads, PastFour, answerRow, rowWords}
 use Rattle.after.specs.Inherited.{parentIn, fieldsIn, methodsIn, hasChildrenIn}
 use Rattle.after.specs.Rows.{literalRowsIn, functionRowsIn, classRowsIn, rowsIn, answersIn}
 use Rattle.after.proofs.Parents.{parents}
-use Rattle.after.proofs.Known.{row-known}
 use Rattle.after.proofs.Climbs.{methods-same}
 use Rattle.after.proofs.Fields.{fields-same, children-same}
 
@@ -51,26 +50,26 @@ concat-same : (f g : ℕ → List (List ℕ)) (xs : List ℕ) → ((x : ℕ) →
 concat-same f g [] h = refl
 concat-same f g (x ∷ xs) h = ap (λ (l : List (List ℕ)). l ++ concatMap f xs) (h x (here refl)) ∙ ap (λ (l : List (List ℕ)). g x ++ l) (concat-same f g xs (λ y m. h y (there m)))
 
-module _ {s : Sheet} (ok : PastFour s) {o : Store} (k : StoreReads s o) where
-  pub literal-rows : (r : ℕ) → r < rows s → T (is s 52 r) → literalRows s (history s) r ≡ literalRowsIn s o r
+module _ {O : Outside} {s : Sheet} (ok : PastFour O s) {o : Store} (k : StoreReads O s o) where
+  pub literal-rows : (r : ℕ) → r < rows s → T (is s 52 r) → literalRows s (history O s) r ≡ literalRowsIn s o r
   unfolding literalRowsIn
   literal-rows r l t = k .literals r l t
 
-  pub function-rows : (r : ℕ) → r < rows s → T (is s 6 r) → functionRows s (history s) r ≡ functionRowsIn s o r
+  pub function-rows : (r : ℕ) → r < rows s → T (is s 6 r) → functionRows s (history O s) r ≡ functionRowsIn s o r
   unfolding functionRowsIn
   function-rows r l t = k .functions r l t
 
-  pub class-rows : (r : ℕ) → T (is s 4 r) → classRows s (history s) r ≡ classRowsIn s o r
+  pub class-rows : (r : ℕ) → T (is s 4 r) → classRows O s (history O s) r ≡ classRowsIn O s o r
   unfolding classRowsIn
   class-rows r t =
-      ap (λ (p : ℕ). of p (hasChildren s h c) (fields s h (rows s) c) (methods s h (rows s) c) (numbered s h 0 (fields s h (rows s) c))) (parents ok k c)
-      ∙ ap (λ (p : Bool). of (parentIn s o c) p (fields s h (rows s) c) (methods s h (rows s) c) (numbered s h 0 (fields s h (rows s) c))) (children-same ok k c)
-      ∙ ap (λ (fs : List ℕ). of (parentIn s o c) (hasChildrenIn s o c) fs (methods s h (rows s) c) (numbered s h 0 fs)) (fields-same ok k (rows s) c (row-known s r t))
-      ∙ ap (λ (ms : List Method). of (parentIn s o c) (hasChildrenIn s o c) (fieldsIn s o (rows s) c) ms (numbered s h 0 (fieldsIn s o (rows s) c))) (methods-same ok k (rows s) c)
-      ∙ ap (λ (ns : List (List ℕ)). of (parentIn s o c) (hasChildrenIn s o c) (fieldsIn s o (rows s) c) (methodsIn s o (rows s) c) ns) (numbered-same s h [] 0 (fieldsIn s o (rows s) c))
+      ap (λ (p : ℕ). of p (hasChildren s h c) (fields O s h (rows s) c) (methods O s h (rows s) c) (numbered s h 0 (fields O s h (rows s) c))) (parents ok k c)
+      ∙ ap (λ (p : Bool). of (parentIn s o c) p (fields O s h (rows s) c) (methods O s h (rows s) c) (numbered s h 0 (fields O s h (rows s) c))) (children-same ok k c)
+      ∙ ap (λ (fs : List ℕ). of (parentIn s o c) (hasChildrenIn s o c) fs (methods O s h (rows s) c) (numbered s h 0 fs)) (fields-same ok k (rows s) c)
+      ∙ ap (λ (ms : List Method). of (parentIn s o c) (hasChildrenIn s o c) (fieldsIn O s o (rows s) c) ms (numbered s h 0 (fieldsIn O s o (rows s) c))) (methods-same ok k (rows s) c)
+      ∙ ap (λ (ns : List (List ℕ)). of (parentIn s o c) (hasChildrenIn s o c) (fieldsIn O s o (rows s) c) (methodsIn O s o (rows s) c) ns) (numbered-same s h [] 0 (fieldsIn O s o (rows s) c))
     where
       h : List Moment
-      h = history s
+      h = history O s
 
       c : ℕ
       c = 256 + r
@@ -79,21 +78,21 @@ module _ {s : Sheet} (ok : PastFour s) {o : Store} (k : StoreReads s o) where
       of p d fs ms ns = (22 ∷ p ∷ bit d ∷ length fs ∷ length ms ∷ []) ∷ ns ++ map (λ m. 24 ∷ m .name ∷ m .fun ∷ []) ms
 
   -- the rows of one sheet row
-  pub rows-same : (r : ℕ) → r < rows s → map (λ vs. eight (r ∷ vs)) (rowsOf s (history s) r) ≡ rowsIn s o r
+  pub rows-same : (r : ℕ) → r < rows s → map (λ vs. eight (r ∷ vs)) (rowsOf O s (history O s) r) ≡ rowsIn O s o r
   unfolding rowsIn
   rows-same r l =
       by-kind (is s 29 r) (is s 50 r) (is s 51 r) (is s 55 r) (is s 54 r) (is s 52 r) (is s 6 r) (is s 4 r) (λ vs. eight (r ∷ vs))
-      (letRow s h r) (identifierRow s h r) (hostRow s h r) (instanceRow s h r) (memberRow s h r) (literalRows s h r) (functionRows s h r) (classRows s h r)
-      (literalRowsIn s o r) (functionRowsIn s o r) (classRowsIn s o r) words
+      (letRow s h r) (identifierRow s h r) (hostRow s h r) (instanceRow s h r) (memberRow O s h r) (literalRows s h r) (functionRows s h r) (classRows O s h r)
+      (literalRowsIn s o r) (functionRowsIn s o r) (classRowsIn O s o r) words
       (if eqb (cell (o .table) r 4) 0 then words else []) (if eqb (cell (o .table) r 0) 0 then [] else words)
       (kind-apart (kind s r) 50 51 tt) (kind-apart (kind s r) 50 55 tt)
       (k .lets r l) (k .hosts r l) (k .instances r l) (k .identifiers r l) (k .members r l) (literal-rows r l) (function-rows r l) (class-rows r)
     where
       h : List Moment
-      h = history s
+      h = history O s
 
       words : List (List ℕ)
       words = answerRow r (rowWords (o .table) r) ∷ []
 
-  pub answers-same : answers s (history s) ≡ answersIn s o
-  answers-same = concat-same (λ r. map (λ vs. eight (r ∷ vs)) (rowsOf s (history s) r)) (rowsIn s o) (from 0 (rows s)) (λ r m. rows-same r (omega (arith, from-mem r 0 (rows s) m)))
+  pub answers-same : answers O s (history O s) ≡ answersIn O s o
+  answers-same = concat-same (λ r. map (λ vs. eight (r ∷ vs)) (rowsOf O s (history O s) r)) (rowsIn O s o) (from 0 (rows s)) (λ r m. rows-same r (omega (arith, from-mem r 0 (rows s) m)))

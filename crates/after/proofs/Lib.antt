@@ -1,10 +1,9 @@
 -- What follows the walk, read off what the walk stored, is what the definition says. A reader who trusts the check needs Theorems alone; the rest
 -- are steps to it.
 pub mod Theorems
--- rows in range, the parents of classes, and that all classes named are known
+-- rows in range, and the parents of classes
 pub mod Ranges
 pub mod Parents
-pub mod Known
 -- the questions 18 to 21, the fields, the answer rows
 pub mod Climbs
 pub mod Fields

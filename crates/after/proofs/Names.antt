@@ -7,19 +7,17 @@ use Prim.Native.Nat.{ℕ, zero, suc, _-_}
 use lib.Dec.{eqb, leb, T, T-not, eqb→eq}
 use Rattle.definition.specs.Basics.{if_then_else_, filter, any, first, unlike, _∈?_}
 use Rattle.definition.specs.Sheet.{Sheet, a, is, kidsOf}
-use Rattle.definition.specs.Outside.{Method, recordOf}
-use Rattle.definition.specs.Classes.{ownMethods, methodNamed, mergeFields, mergeMethods}
+use Rattle.definition.specs.Outside.{Outside, Method, recordOf}
+use Rattle.definition.specs.Classes.{ownMethods, mergeFields, mergeMethods, methodOf, methodAt}
 use Rattle.definition.proofs.Lists.Tests.{and-left, and-right, decide, if-true, if-false, eqb-of}
 use Rattle.definition.proofs.Lists.Members.{Nodup, nodup-none, nodup-one, nodup-filter, nodup-append, filter-mem, mem-test, mem-map, map-append, map-map}
 use Rattle.definition.proofs.Format.Tree.{class-names}
+use Rattle.definition.proofs.Classes.{recorded}
 use Rattle.machine.specs.Machine.{Store}
-use Rattle.machine.specs.Reads.{StoreReads, PastFour}
+use Rattle.machine.specs.Reads.{PastFour}
 use Rattle.machine.proofs.Lists.{eqb-same}
-use Rattle.after.specs.Inherited.{parentIn, methodsIn, methodNamesIn}
+use Rattle.after.specs.Inherited.{parentIn, methodsIn, methodNamesIn, isClassRow}
 use Rattle.after.proofs.Ranges.{row-of-kind, past-facts}
-use Rattle.after.proofs.Parents.{parents}
-use Rattle.after.proofs.Known.{isKnown, parent-known}
-use Rattle.after.proofs.Climbs.{known-row}
 
 abbrev namesOf : List Method → List ℕ
 namesOf ms = map (λ m. m .name) ms
@@ -74,73 +72,65 @@ unlike-nodup (x ∷ xs) h =
     nodup-one (λ m. T-not (any (eqb x) xs) (and-left (not (any (eqb x) xs)) (unlike eqb xs) h) (mem-test x xs m)) (unlike-nodup xs (and-right (not (any (eqb x) xs)) (unlike eqb xs) h))
 
 -- a method is found by its name
-found-name : (ms : List Method) → Nodup (namesOf ms) → (m : Method) → Mem m ms → methodNamed (m .name) ms ≡ m .fun
-found-name (x ∷ ms) (nodup-one h n) m (here e) = ap (λ (y : Method). y .fun) (if-true (eqb (x .name) (m .name)) x _ (eqb-of (x .name) (m .name) (ap (λ (y : Method). y .name) (sym e))) ∙ sym e)
+found-name : (ms : List Method) → Nodup (namesOf ms) → (m : Method) → Mem m ms → methodOf (m .name) ms ≡ m
+found-name (x ∷ ms) (nodup-one h n) m (here e) = if-true (eqb (x .name) (m .name)) x _ (eqb-of (x .name) (m .name) (ap (λ (y : Method). y .name) (sym e))) ∙ sym e
 found-name (x ∷ ms) (nodup-one h n) m (there q) = go (decide (eqb (x .name) (m .name))) (found-name ms n m q)
   where
-    go : T (eqb (x .name) (m .name)) ⊎ T (not (eqb (x .name) (m .name))) → methodNamed (m .name) ms ≡ m .fun → methodNamed (m .name) (x ∷ ms) ≡ m .fun
+    go : T (eqb (x .name) (m .name)) ⊎ T (not (eqb (x .name) (m .name))) → methodOf (m .name) ms ≡ m → methodOf (m .name) (x ∷ ms) ≡ m
     go (inl t) i = absurd (h (Memᴰ·cast (eqb→eq (x .name) (m .name) t) (mem-map (λ m. m .name) m ms q)))
-    go (inr t) i = ap (λ (y : Method). y .fun) (if-false (eqb (x .name) (m .name)) x _ t) ∙ i
+    go (inr t) i = if-false (eqb (x .name) (m .name)) x _ t ∙ i
 
 map-self : {A : Type 0} (f : A → A) (xs : List A) → ((x : A) → Mem x xs → f x ≡ x) → map f xs ≡ xs
 map-self f [] h = refl
 map-self {A} f (x ∷ xs) h = ap (λ (y : A). y ∷ map f xs) (h x (here refl)) ∙ ap (λ (l : List A). x ∷ l) (map-self f xs (λ y m. h y (there m)))
 
 -- a list of methods is read off its names
-pub by-names : (ms : List Method) → Nodup (namesOf ms) → ms ≡ map (λ n. record { name = n; fun = methodNamed n ms }) (namesOf ms)
-by-names ms n =
-    sym (map-map (λ j. record { name = j; fun = methodNamed j ms }) (λ m. m .name) ms
-    ∙ map-self (λ m. record { name = m .name; fun = methodNamed (m .name) ms }) ms (λ m q. ap (λ (f : ℕ). record { name = m .name; fun = f }) (found-name ms n m q)))
+abbrev pub methodBy : List Method → ℕ → Method
+methodBy ms n = record { name = n; fun = methodOf n ms .fun; params = methodOf n ms .params }
 
-pub method-names : (s : Sheet) (o : Store) (n c : ℕ) → namesOf (methodsIn s o n c) ≡ methodNamesIn s o n c
+pub by-names : (ms : List Method) → Nodup (namesOf ms) → ms ≡ map (methodBy ms) (namesOf ms)
+by-names ms n =
+    sym (map-map (methodBy ms) (λ m. m .name) ms
+    ∙ map-self (λ m. methodBy ms (m .name)) ms (λ m q. ap (λ (x : Method). record { name = m .name; fun = x .fun; params = x .params }) (found-name ms n m q)))
+
+pub method-names : (O : Outside) (s : Sheet) (o : Store) (n c : ℕ) → namesOf (methodsIn O s o n c) ≡ methodNamesIn O s o n c
 unfolding methodsIn methodNamesIn
-method-names s o zero c = refl
-method-names s o (suc n) c = go (eqb (parentIn s o c) 0) (method-names s o n (parentIn s o c))
+method-names O s o zero c = refl
+method-names O s o (suc n) c = go (eqb (parentIn s o c) 0) (method-names O s o n (parentIn s o c))
   where
     own : List Method
-    own = ownMethods s c
+    own = ownMethods O s c
 
-    go : (t : Bool) → namesOf (methodsIn s o n (parentIn s o c)) ≡ methodNamesIn s o n (parentIn s o c)
-        → namesOf (if t then own else mergeMethods (methodsIn s o n (parentIn s o c)) own) ≡ (if t then namesOf own else mergeFields (methodNamesIn s o n (parentIn s o c)) (namesOf own))
+    go : (t : Bool) → namesOf (methodsIn O s o n (parentIn s o c)) ≡ methodNamesIn O s o n (parentIn s o c)
+        → namesOf (if t then own else mergeMethods (methodsIn O s o n (parentIn s o c)) own) ≡ (if t then namesOf own else mergeFields (methodNamesIn O s o n (parentIn s o c)) (namesOf own))
     go true e = refl
-    go false e = merged-names (methodsIn s o n (parentIn s o c)) own ∙ ap (λ (ns : List ℕ). mergeFields ns (namesOf own)) e
+    go false e = merged-names (methodsIn O s o n (parentIn s o c)) own ∙ ap (λ (ns : List ℕ). mergeFields ns (namesOf own)) e
 
--- no class from outside has methods
-outside-methods : (c : ℕ) → recordOf c .methods ≡ []
-outside-methods c = go (eqb 100 c) (eqb 101 c) (eqb 102 c)
-  where
-    go : (t u v : Bool) → (if t then recordOf 100 else if u then recordOf 101 else if v then recordOf 102 else recordOf 0) .methods ≡ []
-    go true u v = refl
-    go false true v = refl
-    go false false true = refl
-    go false false false = refl
-
-module _ {s : Sheet} (ok : PastFour s) where
-  own-nodup : (c : ℕ) → T (isKnown s c) → Nodup (namesOf (ownMethods s c))
-  own-nodup c h = go (leb 256 c) (λ t. t)
+module _ {O : Outside} {s : Sheet} (ok : PastFour O s) where
+  own-nodup : (c : ℕ) → Nodup (namesOf (ownMethods O s c))
+  own-nodup c = go (isClassRow s c) (λ t. t)
     where
-      listed : T (leb 256 c) → Nodup (namesOf (map (λ f. record { name = a s f; fun = f }) (kidsOf s 6 (c - 256))))
+      listed : T (isClassRow s c) → Nodup (namesOf (map (methodAt s) (kidsOf s 6 (c - 256))))
       listed t =
-          let u : T (is s 4 (c - 256)) = and-right (leb 256 c) (is s 4 (c - 256)) (known-row s c h t) in
-          subst Nodup (sym (map-map (λ m. m .name) (λ f. record { name = a s f; fun = f }) (kidsOf s 6 (c - 256))))
+          let u : T (is s 4 (c - 256)) = and-right (leb 256 c) (is s 4 (c - 256)) t in
+          subst Nodup (sym (map-map (λ m. m .name) (methodAt s) (kidsOf s 6 (c - 256))))
           (unlike-nodup (map (a s) (kidsOf s 6 (c - 256))) (class-names (ok .names) s (past-facts ok) (c - 256) (row-of-kind ok 3 (c - 256) u) u .1))
 
-      go : (t : Bool) → (T t → T (leb 256 c)) → Nodup (namesOf (if t then map (λ f. record { name = a s f; fun = f }) (kidsOf s 6 (c - 256)) else recordOf c .methods))
+      go : (t : Bool) → (T t → T (isClassRow s c)) → Nodup (namesOf (if t then map (methodAt s) (kidsOf s 6 (c - 256)) else recordOf O c .methods))
       go true f = listed (f tt)
-      go false f = subst (λ (ms : List Method). Nodup (namesOf ms)) (sym (outside-methods c)) nodup-none
+      go false f = unlike-nodup (namesOf (recordOf O c .methods)) (recorded O (λ x. unlike eqb (namesOf (x .methods))) tt (ok .outside .methods-apart) c)
 
-  module _ {o : Store} (k : StoreReads s o) where
-    names-nodup : (n c : ℕ) → T (isKnown s c) → Nodup (methodNamesIn s o n c)
-    unfolding methodNamesIn
-    names-nodup zero c h = nodup-none
-    names-nodup (suc n) c h = go (eqb (parentIn s o c) 0) (names-nodup n (parentIn s o c) (subst (λ (p : ℕ). T (isKnown s p)) (parents ok k c) (parent-known s c)))
-      where
-        go : (t : Bool) → Nodup (methodNamesIn s o n (parentIn s o c)) → Nodup (if t then namesOf (ownMethods s c) else mergeFields (methodNamesIn s o n (parentIn s o c)) (namesOf (ownMethods s c)))
-        go true p = own-nodup c h
-        go false p = merged-nodup p (own-nodup c h)
+  names-nodup : (o : Store) (n c : ℕ) → Nodup (methodNamesIn O s o n c)
+  unfolding methodNamesIn
+  names-nodup o zero c = nodup-none
+  names-nodup o (suc n) c = go (eqb (parentIn s o c) 0) (names-nodup o n (parentIn s o c))
+    where
+      go : (t : Bool) → Nodup (methodNamesIn O s o n (parentIn s o c)) → Nodup (if t then namesOf (ownMethods O s c) else mergeFields (methodNamesIn O s o n (parentIn s o c)) (namesOf (ownMethods O s c)))
+      go true p = own-nodup c
+      go false p = merged-nodup p (own-nodup c)
 
-    -- the methods of a known class, read off their names
-    pub methods-by-name : (n c : ℕ) → T (isKnown s c) → methodsIn s o n c ≡ map (λ m. record { name = m; fun = methodNamed m (methodsIn s o n c) }) (methodNamesIn s o n c)
-    methods-by-name n c h =
-        by-names (methodsIn s o n c) (subst Nodup (sym (method-names s o n c)) (names-nodup n c h))
-        ∙ ap (map (λ m. record { name = m; fun = methodNamed m (methodsIn s o n c) })) (method-names s o n c)
+  -- the methods of a class, read off their names
+  pub methods-by-name : (o : Store) (n c : ℕ) → methodsIn O s o n c ≡ map (methodBy (methodsIn O s o n c)) (methodNamesIn O s o n c)
+  methods-by-name o n c =
+      by-names (methodsIn O s o n c) (subst Nodup (sym (method-names O s o n c)) (names-nodup o n c))
+      ∙ ap (map (methodBy (methodsIn O s o n c))) (method-names O s o n c)

@@ -7,6 +7,7 @@ use native.Mathlib.Omega.{arith}
 use lib.ListN.{length, List·getD-eq-default}
 use lib.Dec.{eqb, leb, ltb, T, eqb→eq, ltb→lt, nltb→le}
 use Rattle.definition.specs.Sheet.{Sheet, kind, rows, is}
+use Rattle.definition.specs.Outside.{Outside}
 use Rattle.definition.specs.Format.{sheetFits}
 use Rattle.definition.specs.Outcome.{rowsFit}
 use Rattle.definition.proofs.Lists.Tests.{and-left, true-of, decide}
@@ -21,7 +22,7 @@ pub rows-whole : (s : Sheet) → T (rowsFit s) → 8 * rows s ≡ length s
 rows-whole s h =
     eqb→eq (8 * rows s) (length s) (and-left (eqb (8 * rows s) (length s)) (leb 1 (rows s)) (and-left (eqb (8 * rows s) (length s) && leb 1 (rows s)) (leb (rows s) 2048) h))
 
-module _ {s : Sheet} (ok : PastFour s) where
+module _ {O : Outside} {s : Sheet} (ok : PastFour O s) where
   -- no row beyond the sheet has a kind
   pub row-of-kind : (k r : ℕ) → T (is s (suc k) r) → r < rows s
   row-of-kind k r t = go (decide (ltb r (rows s)))
@@ -38,8 +39,8 @@ module _ {s : Sheet} (ok : PastFour s) where
       go (inl h) = ltb→lt r (rows s) h
       go (inr h) = absurd (beyond (λ l. omega (arith, nltb→le r (rows s) h)))
 
-  pub past-fits : Fits s
-  past-fits = fits (ok .names) s (some-row s (ok .whole)) (true-of (sheetFits (ok .names) s) (ok .fitting))
+  pub past-fits : Fits O s
+  past-fits = fits (ok .names) s (ok .outside) (some-row s (ok .whole)) (true-of (sheetFits (ok .names) s) (ok .fitting))
 
   pub past-facts : SheetFacts (ok .names) s
   past-facts = sheet-facts (ok .names) s (ok .fitting)

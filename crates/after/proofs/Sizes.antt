@@ -5,18 +5,19 @@ use mathlib.Core.Bool.{Bool, true, false, not, _&&_}
 use Prim.Native.Nat.{ℕ, zero, suc, _+_, _-_, _*_, _≤_}
 use native.Mathlib.Omega.{arith}
 use lib.ListN.{length, length-append, length-map}
-use lib.Dec.{eqb, leb}
+use lib.Dec.{eqb, leb, leb→le}
 use Rattle.definition.specs.Basics.{if_then_else_, filter, distinct, count, _∈?_}
 use Rattle.definition.specs.Sheet.{Sheet, next, child, a, rows, chain, kids, is, kidsOf}
-use Rattle.definition.specs.Outside.{Method, recordOf}
+use Rattle.definition.specs.Outside.{Outside, Method, recordOf}
 use Rattle.definition.specs.Walk.{Event, enter, leave, loop, declare, bring, visit, walk}
 use Rattle.definition.specs.Scope.{Stack, Moment, step, moments, start, history, visited, visits, within}
-use Rattle.definition.specs.Classes.{ownMethods, classOf, registered, ownFields, mergeFields, parentOf, fields}
+use Rattle.definition.specs.Classes.{ownMethods, classOf, registered, ownFields, mergeFields, parentOf, fields, methodAt}
 use Rattle.definition.specs.Bounds.{isVisit}
 use Rattle.definition.proofs.Walk.Bounds.{visits-bound}
+use Rattle.definition.proofs.Classes.{recorded}
 use Rattle.machine.specs.Machine.{Store}
 use Rattle.machine.specs.Reads.{PastFour}
-use Rattle.after.specs.Inherited.{parentIn, methodNamesIn}
+use Rattle.after.specs.Inherited.{parentIn, methodNamesIn, isClassRow}
 use Rattle.machine.proofs.Theorems.{rows-few}
 use Rattle.after.proofs.Ranges.{past-fits}
 
@@ -58,98 +59,80 @@ visits-length s j hd z (visit r ∷ es) = go (is s (suc j) r) (visits-length s j
     go true l = omega arith
     go false l = omega arith
 
-outside-length : (c : ℕ) → length (recordOf c .fields) ≤ 9
-outside-length c = go (eqb 100 c) (eqb 101 c) (eqb 102 c)
-  where
-    go : (t u v : Bool) → length ((if t then recordOf 100 else if u then recordOf 101 else if v then recordOf 102 else recordOf 0) .fields) ≤ 9
-    go true u v = omega arith
-    go false true v = omega arith
-    go false false true = omega arith
-    go false false false = omega arith
+module _ {O : Outside} {s : Sheet} (ok : PastFour O s) where
+  visited-length : length (visits s (history O s) 21) ≤ rows s
+  visited-length = omega (arith, visits-length s 20 (rw (past-fits ok .header)) (start O) (walk s), visits-bound (past-fits ok))
 
-module _ {s : Sheet} (ok : PastFour s) where
-  visited-length : length (visits s (history s) 21) ≤ rows s
-  visited-length = omega (arith, visits-length s 20 (rw (past-fits ok .header)) start (walk s), visits-bound (past-fits ok))
-
-  registered-length : (c : ℕ) → length (registered s (history s) c) ≤ rows s
+  registered-length : (c : ℕ) → length (registered s (history O s) c) ≤ rows s
   registered-length c =
-      omega (arith, length-map ms (λ m. a s (child s (visited (m .event)))), filter-length (λ m. is s 54 (child s (visited (m .event))) && eqb (classOf s (within s m)) c) (visits s (history s) 21), visited-length)
+      omega (arith, length-map ms (λ m. a s (child s (visited (m .event)))), filter-length (λ m. is s 54 (child s (visited (m .event))) && eqb (classOf s (within s m)) c) (visits s (history O s) 21), visited-length)
     where
       ms : List Moment
-      ms = filter (λ m. is s 54 (child s (visited (m .event))) && eqb (classOf s (within s m)) c) (visits s (history s) 21)
+      ms = filter (λ m. is s 54 (child s (visited (m .event))) && eqb (classOf s (within s m)) c) (visits s (history O s) 21)
 
-  -- own fields are at most two for each row, or nine
-  own-length : (c : ℕ) → length (ownFields s (history s) c) ≤ 4096
-  own-length c = go (leb 256 c)
+  -- own fields are at most two for each row, or 8,192
+  own-length : (c : ℕ) → length (ownFields O s (history O s) c) ≤ 8192
+  own-length c = go (isClassRow s c)
     where
       both : List ℕ
-      both = map (a s) (kidsOf s 10 (c - 256)) ++ registered s (history s) (c - 256)
+      both = map (a s) (kidsOf s 10 (c - 256)) ++ registered s (history O s) (c - 256)
 
-      go : (t : Bool) → length (if t then distinct eqb both else recordOf c .fields) ≤ 4096
+      go : (t : Bool) → length (if t then distinct eqb both else recordOf O c .fields) ≤ 8192
       go true =
           omega (
             arith,
             distinct-length eqb both,
-            length-append (map (a s) (kidsOf s 10 (c - 256))) (registered s (history s) (c - 256)),
+            length-append (map (a s) (kidsOf s 10 (c - 256))) (registered s (history O s) (c - 256)),
             length-map (kidsOf s 10 (c - 256)) (a s),
             filter-length (is s 10) (kids s (c - 256)),
             chain-length (rows s) s (child s (c - 256)),
             registered-length (c - 256),
             rows-few s (ok .whole),
           )
-      go false = omega (arith, outside-length c)
+      go false = leb→le (length (recordOf O c .fields)) 8192 (recorded O (λ x. leb (length (x .fields)) 8192) tt (ok .outside .few-fields) c)
 
-  fields-length : (n c : ℕ) → length (fields s (history s) n c) ≤ n * 4096
+  fields-length : (n c : ℕ) → length (fields O s (history O s) n c) ≤ n * 8192
   fields-length zero c = omega arith
-  fields-length (suc n) c = go (eqb (parentOf s (history s) c) 0) (fields-length n (parentOf s (history s) c))
+  fields-length (suc n) c = go (eqb (parentOf s (history O s) c) 0) (fields-length n (parentOf s (history O s) c))
     where
       up : List ℕ
-      up = fields s (history s) n (parentOf s (history s) c)
+      up = fields O s (history O s) n (parentOf s (history O s) c)
 
       own : List ℕ
-      own = ownFields s (history s) c
+      own = ownFields O s (history O s) c
 
-      go : (t : Bool) → length up ≤ n * 4096 → length (if t then own else mergeFields up own) ≤ suc n * 4096
+      go : (t : Bool) → length up ≤ n * 8192 → length (if t then own else mergeFields up own) ≤ suc n * 8192
       go true l = omega (arith, own-length c)
       go false l = omega (arith, own-length c, length-append up (filter (λ j. not (j ∈? up)) own), filter-length (λ j. not (j ∈? up)) own)
 
-  pub fields-few : (c : ℕ) → length (fields s (history s) (rows s) c) ≤ 16777216
+  pub fields-few : (c : ℕ) → length (fields O s (history O s) (rows s) c) ≤ 16777216
   fields-few c = omega (arith, fields-length (rows s) c, rows-few s (ok .whole))
 
 -- methods: at most one for each row and ancestor
-methods-outside : (c : ℕ) → length (recordOf c .methods) ≤ 0
-methods-outside c = go (eqb 100 c) (eqb 101 c) (eqb 102 c)
-  where
-    go : (t u v : Bool) → length ((if t then recordOf 100 else if u then recordOf 101 else if v then recordOf 102 else recordOf 0) .methods) ≤ 0
-    go true u v = omega arith
-    go false true v = omega arith
-    go false false true = omega arith
-    go false false false = omega arith
-
-own-methods-length : (s : Sheet) (c : ℕ) → length (map (λ m. m .name) (ownMethods s c)) ≤ rows s
-own-methods-length s c = omega (arith, length-map (ownMethods s c) (λ m. m .name), go (leb 256 c))
+own-methods-length : {O : Outside} {s : Sheet} → PastFour O s → (c : ℕ) → length (map (λ m. m .name) (ownMethods O s c)) ≤ 8192
+own-methods-length {O} {s} ok c = omega (arith, length-map (ownMethods O s c) (λ m. m .name), go (isClassRow s c))
   where
     fs : List ℕ
     fs = kidsOf s 6 (c - 256)
 
-    go : (t : Bool) → length (if t then map (λ f. record { name = a s f; fun = f }) fs else recordOf c .methods) ≤ rows s
-    go true = omega (arith, length-map {B = Method} fs (λ f. record { name = a s f; fun = f }), filter-length (is s 6) (kids s (c - 256)), chain-length (rows s) s (child s (c - 256)))
-    go false = omega (arith, methods-outside c)
+    go : (t : Bool) → length (if t then map (methodAt s) fs else recordOf O c .methods) ≤ 8192
+    go true = omega (arith, rows-few s (ok .whole), length-map {B = Method} fs (methodAt s), filter-length (is s 6) (kids s (c - 256)), chain-length (rows s) s (child s (c - 256)))
+    go false = leb→le (length (recordOf O c .methods)) 8192 (recorded O (λ x. leb (length (x .methods)) 8192) tt (ok .outside .few-methods) c)
 
-methods-length : (s : Sheet) (o : Store) → rows s ≤ 2048 → (n c : ℕ) → length (methodNamesIn s o n c) ≤ n * 2048
+methods-length : {O : Outside} {s : Sheet} → PastFour O s → (o : Store) (n c : ℕ) → length (methodNamesIn O s o n c) ≤ n * 8192
 unfolding methodNamesIn
-methods-length s o l zero c = omega arith
-methods-length s o l (suc n) c = go (eqb (parentIn s o c) 0) (methods-length s o l n (parentIn s o c))
+methods-length ok o zero c = omega arith
+methods-length {O} {s} ok o (suc n) c = go (eqb (parentIn s o c) 0) (methods-length ok o n (parentIn s o c))
   where
     up : List ℕ
-    up = methodNamesIn s o n (parentIn s o c)
+    up = methodNamesIn O s o n (parentIn s o c)
 
     own : List ℕ
-    own = map (λ m. m .name) (ownMethods s c)
+    own = map (λ m. m .name) (ownMethods O s c)
 
-    go : (t : Bool) → length up ≤ n * 2048 → length (if t then own else mergeFields up own) ≤ suc n * 2048
-    go true h = omega (arith, own-methods-length s c)
-    go false h = omega (arith, own-methods-length s c, length-append up (filter (λ j. not (j ∈? up)) own), filter-length (λ j. not (j ∈? up)) own)
+    go : (t : Bool) → length up ≤ n * 8192 → length (if t then own else mergeFields up own) ≤ suc n * 8192
+    go true h = omega (arith, own-methods-length ok c)
+    go false h = omega (arith, own-methods-length ok c, length-append up (filter (λ j. not (j ∈? up)) own), filter-length (λ j. not (j ∈? up)) own)
 
-pub methods-few : {s : Sheet} → PastFour s → (o : Store) (c : ℕ) → length (methodNamesIn s o (rows s) c) ≤ 16777216
-methods-few {s} ok o c = omega (arith, methods-length s o (rows-few s (ok .whole)) (rows s) c, rows-few s (ok .whole))
+pub methods-few : {O : Outside} {s : Sheet} → PastFour O s → (o : Store) (c : ℕ) → length (methodNamesIn O s o (rows s) c) ≤ 16777216
+methods-few {O} {s} ok o c = omega (arith, methods-length ok o (rows s) c, rows-few s (ok .whole))

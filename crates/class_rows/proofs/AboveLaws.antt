@@ -9,7 +9,7 @@ use lib.ListN.{length, getD, List·getD-eq-default}
 use borrow.Author.Tests.{eq-eqb, ne-eqb, ltb-true, le-leb, lt-leb, leb-true}
 use Rattle.definition.specs.Basics.{if_then_else_}
 use Rattle.definition.specs.Sheet.{rows}
-use Rattle.definition.specs.Outside.{Method}
+use Rattle.definition.specs.Outside.{Outside, Method}
 use Rattle.definition.specs.Classes.{methodNamed}
 use Rattle.machine.specs.Machine.{Store as Stored}
 use Rattle.after.specs.Inherited.{parentIn, methodsIn}
@@ -51,7 +51,7 @@ module _ (w : List ℕ) (at j : ℕ) where
   above-methods f g = rw (ne-eqb at 0 f, ne-eqb j 10 g)
 
 -- The parent p of the class of row r, and its entry.
-module _ {s t q places w : List ℕ} {r k : ℕ} (h : Placed s t q places w r k) (l : r < rows s) {p at : ℕ} (e : (o : Store) → p ≡ parentIn s (storeOf o t q) (256 + r)) (f : at ≡ placeOf places p) where
+module _ {O : Outside} {s t q places w : List ℕ} {r k : ℕ} (h : Placed O s t q places w r k) (l : r < rows s) {p at : ℕ} (e : (o : Store) → p ≡ parentIn s (storeOf o t q) (256 + r)) (f : at ≡ placeOf places p) where
   found : (i : ℕ) → at ≡ suc i → (256 ≤ p) × (getD places (p - 256) 0 ≡ suc i)
   unfolding placeOf
   found i z = go (leb 256 p) refl (sym f ∙ z)
@@ -60,24 +60,24 @@ module _ {s t q places w : List ℕ} {r k : ℕ} (h : Placed s t q places w r k)
       go true b g = (leb-true 256 p b, g)
       go false b g = absurd (omega arith)
 
-  parent-stands : (i : ℕ) → at ≡ suc i → (o : Store) → Stands s (storeOf o t q) w k (p - 256) i
+  parent-stands : (i : ℕ) → at ≡ suc i → (o : Store) → Stands O s (storeOf o t q) w k (p - 256) i
   parent-stands i z o = h .told (p - 256) i (found i z .1) .1 o
 
   -- the names of the parent, with one class less to climb
-  parent-names : (i : ℕ) → at ≡ suc i → (o : Store) (j : ℕ) → namesIn s (storeOf o t q) j (rows s) (256 + (p - 256)) ≡ namesIn s (storeOf o t q) j (rows s - 1) (parentIn s (storeOf o t q) (256 + r))
+  parent-names : (i : ℕ) → at ≡ suc i → (o : Store) (j : ℕ) → namesIn O s (storeOf o t q) j (rows s) (256 + (p - 256)) ≡ namesIn O s (storeOf o t q) j (rows s - 1) (parentIn s (storeOf o t q) (256 + r))
   parent-names i z o j =
       let b : 256 + (p - 256) ≡ p = omega (arith, found i z .0) in
       sym (parent-stands i z o .stable j (rows s - 1) (omega (arith, h .told (p - 256) i (found i z .1) .0)))
-      ∙ ap (namesIn s (storeOf o t q) j (rows s - 1)) (b ∙ e o)
+      ∙ ap (namesIn O s (storeOf o t q) j (rows s - 1)) (b ∙ e o)
 
   parent-functions : (i : ℕ) → at ≡ suc i → (o : Store)
-      → map (functionIn s (storeOf o t q) (rows s) (256 + (p - 256))) (namesIn s (storeOf o t q) 6 (rows s) (256 + (p - 256)))
-      ≡ map (functionIn s (storeOf o t q) (rows s - 1) (parentIn s (storeOf o t q) (256 + r))) (namesIn s (storeOf o t q) 6 (rows s - 1) (parentIn s (storeOf o t q) (256 + r)))
+      → map (functionIn O s (storeOf o t q) (rows s) (256 + (p - 256))) (namesIn O s (storeOf o t q) 6 (rows s) (256 + (p - 256)))
+      ≡ map (functionIn O s (storeOf o t q) (rows s - 1) (parentIn s (storeOf o t q) (256 + r))) (namesIn O s (storeOf o t q) 6 (rows s - 1) (parentIn s (storeOf o t q) (256 + r)))
   parent-functions i z o =
       let b : 256 + (p - 256) ≡ p = omega (arith, found i z .0) in
-      ap (λ (ms : List Method). map (λ (m : ℕ). methodNamed m ms) (namesIn s (storeOf o t q) 6 (rows s) (256 + (p - 256))))
-      (sym (parent-stands i z o .stableMethods (rows s - 1) (omega (arith, h .told (p - 256) i (found i z .1) .0))) ∙ ap (methodsIn s (storeOf o t q) (rows s - 1)) (b ∙ e o))
-      ∙ ap (map (functionIn s (storeOf o t q) (rows s - 1) (parentIn s (storeOf o t q) (256 + r)))) (parent-names i z o 6)
+      ap (λ (ms : List Method). map (λ (m : ℕ). methodNamed m ms) (namesIn O s (storeOf o t q) 6 (rows s) (256 + (p - 256))))
+      (sym (parent-stands i z o .stableMethods (rows s - 1) (omega (arith, h .told (p - 256) i (found i z .1) .0))) ∙ ap (methodsIn O s (storeOf o t q) (rows s - 1)) (b ∙ e o))
+      ∙ ap (map (functionIn O s (storeOf o t q) (rows s - 1) (parentIn s (storeOf o t q) (256 + r)))) (parent-names i z o 6)
 
   pub entry-fits : at ≤ length w / 8
   entry-fits = go at refl
@@ -86,7 +86,7 @@ module _ {s t q places w : List ℕ} {r k : ℕ} (h : Placed s t q places w r k)
       go zero z = omega arith
       go (suc i) z = omega (arith, parent-stands i z (record { used = 0; calls = 0 }) .within)
 
-  fields-above : (i : ℕ) → at ≡ suc i → (o : Store) → Shows s (storeOf o t q) 10 (256 + r) w k (aboveOf w (suc i) 10)
+  fields-above : (i : ℕ) → at ≡ suc i → (o : Store) → Shows O s (storeOf o t q) 10 (256 + r) w k (aboveOf w (suc i) 10)
   unfolding aboveOf
   fields-above i z o =
       let st = parent-stands i z o in
@@ -99,7 +99,7 @@ module _ {s t q places w : List ℕ} {r k : ℕ} (h : Placed s t q places w r k)
         functions = λ g. absurd (g refl);
       }
 
-  methods-above : (i : ℕ) → at ≡ suc i → (o : Store) → Shows s (storeOf o t q) 6 (256 + r) w k (aboveOf w (suc i) 6)
+  methods-above : (i : ℕ) → at ≡ suc i → (o : Store) → Shows O s (storeOf o t q) 6 (256 + r) w k (aboveOf w (suc i) 6)
   unfolding aboveOf
   methods-above i z o =
       let st = parent-stands i z o in
@@ -112,46 +112,46 @@ module _ {s t q places w : List ℕ} {r k : ℕ} (h : Placed s t q places w r k)
         functions = λ g. st .functions ∙ parent-functions i z o;
       }
 
-  shown-by : (j : ℕ) → ((i : ℕ) → at ≡ suc i → (o : Store) → Shows s (storeOf o t q) j (256 + r) w k (aboveOf w (suc i) j)) → Shown s t q j (256 + r) w k (aboveOf w at j)
+  shown-by : (j : ℕ) → ((i : ℕ) → at ≡ suc i → (o : Store) → Shows O s (storeOf o t q) j (256 + r) w k (aboveOf w (suc i) j)) → Shown O s t q j (256 + r) w k (aboveOf w at j)
   unfolding aboveOf
   shown-by j g n o = go at refl n
     where
-      go : (x : ℕ) → at ≡ x → (aboveOf w x j .row ≡ 0 → ⊥) → Shows s (storeOf o t q) j (256 + r) w k (aboveOf w x j)
+      go : (x : ℕ) → at ≡ x → (aboveOf w x j .row ≡ 0 → ⊥) → Shows O s (storeOf o t q) j (256 + r) w k (aboveOf w x j)
       go zero z m = absurd (m refl)
       go (suc i) z m = g i z o
 
-  pub fields-shown : {a : Above} → a ≡ aboveOf w at 10 → Shown s t q 10 (256 + r) w k a
-  fields-shown g = subst (Shown s t q 10 (256 + r) w k) (sym g) (shown-by 10 fields-above)
+  pub fields-shown : {a : Above} → a ≡ aboveOf w at 10 → Shown O s t q 10 (256 + r) w k a
+  fields-shown g = subst (Shown O s t q 10 (256 + r) w k) (sym g) (shown-by 10 fields-above)
 
-  pub methods-shown : {a : Above} → a ≡ aboveOf w at 6 → Shown s t q 6 (256 + r) w k a
-  methods-shown g = subst (Shown s t q 6 (256 + r) w k) (sym g) (shown-by 6 methods-above)
+  pub methods-shown : {a : Above} → a ≡ aboveOf w at 6 → Shown O s t q 6 (256 + r) w k a
+  methods-shown g = subst (Shown O s t q 6 (256 + r) w k) (sym g) (shown-by 6 methods-above)
 
   -- the line of parents ends
   parent-below : (i : ℕ) → at ≡ suc i → (p - 256 < r) × ((o : Store) → parentIn s (storeOf o t q) (256 + r) ≡ 256 + (p - 256))
   parent-below i z = (h .told (p - 256) i (found i z .1) .0, λ o. omega (arith, e o, found i z .0))
 
   pub line-steady : true ≡ (not (eqb at 0) || (ltb p 256 && ltb 0 r)) → (o : Store)
-      → ((j : ℕ) → Steady s (storeOf o t q) (namesIn s (storeOf o t q) j) r) × Steady s (storeOf o t q) (methodsIn s (storeOf o t q)) r
+      → ((j : ℕ) → Steady O s (storeOf o t q) (namesIn O s (storeOf o t q) j) r) × Steady O s (storeOf o t q) (methodsIn O s (storeOf o t q)) r
   line-steady g o = go at refl g
     where
       st : Stored
       st = storeOf o t q
 
-      outside : (u v : Bool) → ltb p 256 ≡ u → ltb 0 r ≡ v → true ≡ (u && v) → ((j : ℕ) → Steady s st (namesIn s st j) r) × Steady s st (methodsIn s st) r
+      outside : (u v : Bool) → ltb p 256 ≡ u → ltb 0 r ≡ v → true ≡ (u && v) → ((j : ℕ) → Steady O s st (namesIn O s st j) r) × Steady O s st (methodsIn O s st) r
       outside true true b c d =
-          (names-outside s st r l (ltb-true 0 r c) (omega (arith, ltb-true p 256 b, e o)), methods-outside s st r l (ltb-true 0 r c) (omega (arith, ltb-true p 256 b, e o)))
+          (names-outside O s st r l (ltb-true 0 r c) (omega (arith, ltb-true p 256 b, e o)), methods-outside O s st r l (ltb-true 0 r c) (omega (arith, ltb-true p 256 b, e o)))
       outside true false b c d = absurd (subst T d tt)
       outside false v b c d = absurd (subst T d tt)
 
-      go : (x : ℕ) → at ≡ x → true ≡ (not (eqb x 0) || (ltb p 256 && ltb 0 r)) → ((j : ℕ) → Steady s st (namesIn s st j) r) × Steady s st (methodsIn s st) r
+      go : (x : ℕ) → at ≡ x → true ≡ (not (eqb x 0) || (ltb p 256 && ltb 0 r)) → ((j : ℕ) → Steady O s st (namesIn O s st j) r) × Steady O s st (methodsIn O s st) r
       go zero z d = outside (ltb p 256) (ltb 0 r) refl refl d
       go (suc i) z d = (
-        λ j. names-below s st r l (p - 256) (parent-below i z .0) (parent-below i z .1 o) j (parent-stands i z o .stable j),
-        methods-below s st r l (p - 256) (parent-below i z .0) (parent-below i z .1 o) (parent-stands i z o .stableMethods),
+        λ j. names-below O s st r l (p - 256) (parent-below i z .0) (parent-below i z .1 o) j (parent-stands i z o .stable j),
+        methods-below O s st r l (p - 256) (parent-below i z .0) (parent-below i z .1 o) (parent-stands i z o .stableMethods),
       )
 
 -- The names above stay, and are as many as told.
-pub shown-kept : {s t q : List ℕ} {j c : ℕ} {w y : List ℕ} {k n : ℕ} {a : Above} (rs : List (List ℕ)) → sink n y ≡ emitAll rs (sink k w) → Shown s t q j c w k a → Shown s t q j c y n a
+pub shown-kept : {O : Outside} {s t q : List ℕ} {j c : ℕ} {w y : List ℕ} {k n : ℕ} {a : Above} (rs : List (List ℕ)) → sink n y ≡ emitAll rs (sink k w) → Shown O s t q j c w k a → Shown O s t q j c y n a
 shown-kept {s} {t} {q} {j} {c} {w} {y} {k} {n} {a} rs e h f o =
     record {
       below = m .below;
@@ -168,13 +168,13 @@ shown-kept {s} {t} {q} {j} {c} {w} {y} {k} {n} {a} rs e h f o =
     m : Kept (a .row + a .count) (sink k w) (sink n y)
     m = subst (Kept (a .row + a .count) (sink k w)) (sym e) (all-kept (a .row + a .count) rs (sink k w) (h f o .below) (h f o .within))
 
-pub shown-counted : {s t q : List ℕ} {j c : ℕ} {w : List ℕ} {k : ℕ} {a : Above} → Shown s t q j c w k a → Counted s t q j c a
+pub shown-counted : {O : Outside} {s t q : List ℕ} {j c : ℕ} {w : List ℕ} {k : ℕ} {a : Above} → Shown O s t q j c w k a → Counted O s t q j c a
 shown-counted {j = j} {w = w} {a = a} h f o = (h f o .parent, sym (column-length w (nameColumn j) (a .row) (a .count)) ∙ ap length (h f o .names))
 
 -- The same of what is wanted of the class of row r.
-module _ (s t q : List ℕ) {r j : ℕ} {u : Wanted} (h : Wants r j u) where
-  pub shown-wanted : {w : List ℕ} {k : ℕ} {a : Above} → Shown s t q j (256 + r) w k a → Shown s t q (u .kind) (u .whole) w k a
+module _ (O : Outside) (s t q : List ℕ) {r j : ℕ} {u : Wanted} (h : Wants r j u) where
+  pub shown-wanted : {w : List ℕ} {k : ℕ} {a : Above} → Shown O s t q j (256 + r) w k a → Shown O s t q (u .kind) (u .whole) w k a
   shown-wanted g = rw (h .kindIs, h .wholeIs) g
 
-  pub counted-wanted : {a : Above} → Counted s t q j (256 + r) a → Counted s t q (u .kind) (u .whole) a
+  pub counted-wanted : {a : Above} → Counted O s t q j (256 + r) a → Counted O s t q (u .kind) (u .whole) a
   counted-wanted g = rw (h .kindIs, h .wholeIs) g

@@ -9,6 +9,7 @@ use lib.ListN.{length, getD, length-append}
 use borrow.Author.Tests.{eq-eqb, ne-eqb, eqb-true, eqb-false}
 use Rattle.definition.specs.Basics.{if_then_else_, from}
 use Rattle.definition.specs.Sheet.{Sheet, rows}
+use Rattle.definition.specs.Outside.{Outside, OutsideFits}
 use Rattle.definition.specs.Classes.{ownMethods, methodNamed}
 use Rattle.machine.specs.Machine.{Store as Stored}
 use Rattle.after.specs.Inherited.{parentIn}
@@ -23,96 +24,96 @@ use Rattle.class_rows.proofs.KeptLaws.{Kept, emit-kept, kept-then}
 use Rattle.class_rows.proofs.PutLaws.{put-none, names-after, slot-counts}
 
 -- A copied row, by its kind.
-module _ (s : Sheet) (w : Wanted) (v : List ℕ) (i k : ℕ) where
-  pub copied-field : w .kind ≡ 10 → w .row ∷ 23 ∷ k ∷ getD v (8 * i + 3) 0 ∷ 0 ∷ 0 ∷ 0 ∷ 0 ∷ [] ≡ copiedRow s w v i k
+module _ (O : Outside) (s : Sheet) (w : Wanted) (v : List ℕ) (i k : ℕ) where
+  pub copied-field : w .kind ≡ 10 → w .row ∷ 23 ∷ k ∷ getD v (8 * i + 3) 0 ∷ 0 ∷ 0 ∷ 0 ∷ 0 ∷ [] ≡ copiedRow O s w v i k
   unfolding copiedRow
   copied-field e = rw (eq-eqb (w .kind) 10 e)
 
   pub copied-method : (x : ℕ) → (w .kind ≡ 10 → ⊥)
-      → x ≡ (if eqb (methodNamed (getD v (8 * i + 2) 0) (ownMethods s (w .whole))) 0 then getD v (8 * i + 3) 0 else methodNamed (getD v (8 * i + 2) 0) (ownMethods s (w .whole)))
-      → w .row ∷ 24 ∷ getD v (8 * i + 2) 0 ∷ x ∷ 0 ∷ 0 ∷ 0 ∷ 0 ∷ [] ≡ copiedRow s w v i k
+      → x ≡ (if eqb (methodNamed (getD v (8 * i + 2) 0) (ownMethods O s (w .whole))) 0 then getD v (8 * i + 3) 0 else methodNamed (getD v (8 * i + 2) 0) (ownMethods O s (w .whole)))
+      → w .row ∷ 24 ∷ getD v (8 * i + 2) 0 ∷ x ∷ 0 ∷ 0 ∷ 0 ∷ 0 ∷ [] ≡ copiedRow O s w v i k
   unfolding copiedRow
   copied-method x f e = rw (ne-eqb (w .kind) 10 f, e)
 
 -- The rows of a range, copied one after another.
-module _ (s : Sheet) (w : Wanted) where
-  copied-same : (u v : List ℕ) (i k : ℕ) → getD u (8 * i + 2) 0 ≡ getD v (8 * i + 2) 0 → getD u (8 * i + 3) 0 ≡ getD v (8 * i + 3) 0 → copiedRow s w u i k ≡ copiedRow s w v i k
+module _ (O : Outside) (s : Sheet) (w : Wanted) where
+  copied-same : (u v : List ℕ) (i k : ℕ) → getD u (8 * i + 2) 0 ≡ getD v (8 * i + 2) 0 → getD u (8 * i + 3) 0 ≡ getD v (8 * i + 3) 0 → copiedRow O s w u i k ≡ copiedRow O s w v i k
   unfolding copiedRow
   copied-same u v i k e f = rw (e, f)
 
   module _ (v : List ℕ) (i n : ℕ) (k : Filled) where
-    pub copied-end : n ≤ 0 → k ≡ putAll (copiedRow s w v) (from i n) k
-    copied-end l = let e : n ≡ 0 = omega arith in put-none (copiedRow s w v) k ∙ ap (λ (m : ℕ). putAll (copiedRow s w v) (from i m) k) (sym e)
+    pub copied-end : n ≤ 0 → k ≡ putAll (copiedRow O s w v) (from i n) k
+    copied-end l = let e : n ≡ 0 = omega arith in put-none (copiedRow O s w v) k ∙ ap (λ (m : ℕ). putAll (copiedRow O s w v) (from i m) k) (sym e)
 
     -- one row more: m bounds the rows to copy, and x is what is written then
-    module _ (l : 0 < n) {j m : ℕ} (b : i + n ≤ m) (h : Kept m (sink j v) (k .done)) {x : Filled} (e : x ≡ put (copiedRow s w (k .done .words)) i k) where
+    module _ (l : 0 < n) {j m : ℕ} (b : i + n ≤ m) (h : Kept m (sink j v) (k .done)) {x : Filled} (e : x ≡ put (copiedRow O s w (k .done .words)) i k) where
       pub copied-kept : m ≤ length v / 8 → Kept m (sink j v) (x .done)
       unfolding put
       copied-kept g =
-          let f = emit-kept m (copiedRow s w (k .done .words) i (k .slot)) (k .done) (h .below) (omega (arith, h .lengths)) in
+          let f = emit-kept m (copiedRow O s w (k .done .words) i (k .slot)) (k .done) (h .below) (omega (arith, h .lengths)) in
           rw e (kept-then h f)
 
-      pub copied-next : putAll (copiedRow s w v) (from (i + 1) (n - 1)) x ≡ putAll (copiedRow s w v) (from i n) k
+      pub copied-next : putAll (copiedRow O s w v) (from (i + 1) (n - 1)) x ≡ putAll (copiedRow O s w v) (from i n) k
       unfolding putAll put
       copied-next =
           let c : i + 1 ≡ suc i = omega arith in
           let d : n ≡ suc (n - 1) = omega arith in
-          let g : copiedRow s w (k .done .words) i (k .slot) ≡ copiedRow s w v i (k .slot) = copied-same (k .done .words) v i (k .slot) (h .same (8 * i + 2) (omega arith)) (h .same (8 * i + 3) (omega arith)) in
-          ap (λ (a : ℕ). putAll (copiedRow s w v) (from a (n - 1)) x) c
-          ∙ ap (putAll (copiedRow s w v) (from (suc i) (n - 1))) (e ∙ rw g)
-          ∙ sym (ap (λ (a : ℕ). putAll (copiedRow s w v) (from i a) k) d)
+          let g : copiedRow O s w (k .done .words) i (k .slot) ≡ copiedRow O s w v i (k .slot) = copied-same (k .done .words) v i (k .slot) (h .same (8 * i + 2) (omega arith)) (h .same (8 * i + 3) (omega arith)) in
+          ap (λ (a : ℕ). putAll (copiedRow O s w v) (from a (n - 1)) x) c
+          ∙ ap (putAll (copiedRow O s w v) (from (suc i) (n - 1))) (e ∙ rw g)
+          ∙ sym (ap (λ (a : ℕ). putAll (copiedRow O s w v) (from i a) k) d)
 
 -- A copied row is the row that tells the name, if it tells the function that the parent has.
-module _ (s : Sheet) (o : Stored) (w : Wanted) (l : 0 < rows s) (g : parentIn s o (w .whole) ≡ 0 → ⊥) where
-  own-else : (m : ℕ) {f : ℕ} → f ≡ functionIn s o (rows s - 1) (parentIn s o (w .whole)) m
-      → (if eqb (methodNamed m (ownMethods s (w .whole))) 0 then f else methodNamed m (ownMethods s (w .whole))) ≡ functionIn s o (rows s) (w .whole) m
+module _ {O : Outside} (known : OutsideFits O) (s : Sheet) (o : Stored) (w : Wanted) (l : 0 < rows s) (g : parentIn s o (w .whole) ≡ 0 → ⊥) where
+  own-else : (m : ℕ) {f : ℕ} → f ≡ functionIn O s o (rows s - 1) (parentIn s o (w .whole)) m
+      → (if eqb (methodNamed m (ownMethods O s (w .whole))) 0 then f else methodNamed m (ownMethods O s (w .whole))) ≡ functionIn O s o (rows s) (w .whole) m
   own-else m {f} e = go (eqb own 0) refl
     where
       own : ℕ
-      own = methodNamed m (ownMethods s (w .whole))
+      own = methodNamed m (ownMethods O s (w .whole))
 
-      go : (t : Bool) → eqb own 0 ≡ t → (if t then f else own) ≡ functionIn s o (rows s) (w .whole) m
-      go true h = e ∙ method-up s o m (rows s) (w .whole) l refl (eqb-true own 0 h) refl g
-      go false h = method-here s o m (rows s) (w .whole) l refl (eqb-false own 0 h)
+      go : (t : Bool) → eqb own 0 ≡ t → (if t then f else own) ≡ functionIn O s o (rows s) (w .whole) m
+      go true h = e ∙ method-up known s o m (rows s) (w .whole) l refl (eqb-true own 0 h) refl g
+      go false h = method-here known s o m (rows s) (w .whole) l refl (eqb-false own 0 h)
 
-  copied-row : (v : List ℕ) (i m k : ℕ) → getD v (8 * i + nameColumn (w .kind)) 0 ≡ m → ((w .kind ≡ 10 → ⊥) → getD v (8 * i + 3) 0 ≡ functionIn s o (rows s - 1) (parentIn s o (w .whole)) m)
-      → copiedRow s w v i k ≡ nameRow s o w m k
+  copied-row : (v : List ℕ) (i m k : ℕ) → getD v (8 * i + nameColumn (w .kind)) 0 ≡ m → ((w .kind ≡ 10 → ⊥) → getD v (8 * i + 3) 0 ≡ functionIn O s o (rows s - 1) (parentIn s o (w .whole)) m)
+      → copiedRow O s w v i k ≡ nameRow O s o w m k
   unfolding copiedRow nameRow
   copied-row v i m k e f = go (eqb (w .kind) 10) refl e
     where
-      go : (t : Bool) → eqb (w .kind) 10 ≡ t → getD v (8 * i + (if t then 3 else 2)) 0 ≡ m → copiedRow s w v i k ≡ nameRow s o w m k
+      go : (t : Bool) → eqb (w .kind) 10 ≡ t → getD v (8 * i + (if t then 3 else 2)) 0 ≡ m → copiedRow O s w v i k ≡ nameRow O s o w m k
       go true h d = rw (h, d)
       go false h d = rw (h, d, own-else m (f (eqb-false (w .kind) 10 h)))
 
   pub copied-all : (v ms : List ℕ) (i n : ℕ) (k : Filled) → column v (nameColumn (w .kind)) i n ≡ ms
-      → ((w .kind ≡ 10 → ⊥) → column v 3 i n ≡ map (functionIn s o (rows s - 1) (parentIn s o (w .whole))) ms) → putAll (copiedRow s w v) (from i n) k ≡ putAll (nameRow s o w) ms k
+      → ((w .kind ≡ 10 → ⊥) → column v 3 i n ≡ map (functionIn O s o (rows s - 1) (parentIn s o (w .whole))) ms) → putAll (copiedRow O s w v) (from i n) k ≡ putAll (nameRow O s o w) ms k
   unfolding putAll put
   copied-all v [] i zero k e f = refl
   copied-all v (m ∷ ms) i zero k e f = absurd (omega (arith, ap length e))
   copied-all v [] i (suc n) k e f = absurd (omega (arith, ap length e))
   copied-all v (m ∷ ms) i (suc n) k e f =
-      let d : copiedRow s w v i (k .slot) ≡ nameRow s o w m (k .slot) = copied-row v i m (k .slot) (ap (λ (l : List ℕ). getD l 0 0) e) (λ h. ap (λ (l : List ℕ). getD l 0 0) (f h)) in
-      copied-all v ms (suc i) n (put (copiedRow s w v) i k) (ap tail e) (λ h. ap tail (f h)) ∙ rw d
+      let d : copiedRow O s w v i (k .slot) ≡ nameRow O s o w m (k .slot) = copied-row v i m (k .slot) (ap (λ (l : List ℕ). getD l 0 0) e) (λ h. ap (λ (l : List ℕ). getD l 0 0) (f h)) in
+      copied-all v ms (suc i) n (put (copiedRow O s w v) i k) (ap tail e) (λ h. ap tail (f h)) ∙ rw d
 
-module _ (f : ℕ → ℕ → List ℕ) (s : Sheet) (o : Stored) (j c : ℕ) (k : Filled) (l : 0 < rows s) {p : ℕ} (e : p ≡ parentIn s o c) (g : parentIn s o c ≡ 0 → ⊥) where
+module _ (O : Outside) (f : ℕ → ℕ → List ℕ) (s : Sheet) (o : Stored) (j c : ℕ) (k : Filled) (l : 0 < rows s) {p : ℕ} (e : p ≡ parentIn s o c) (g : parentIn s o c ≡ 0 → ⊥) where
   -- what stands above, then the own names that are new
-  pub line-after : {ms : List ℕ} {x y : Filled} → ms ≡ namesIn s o j (rows s - 1) (parentIn s o c) → x ≡ putAll f ms k
-      → y ≡ putAll f (newOf (inherited s o j (rows s - 1) p) (ownIn s o j c)) x → y ≡ putAll f (namesIn s o j (rows s) c) k
-  line-after d u v = names-after f s o j (rows s) c k (λ z. omega arith) e (λ z. g (sym e ∙ z)) (u ∙ ap (λ (ms : List ℕ). putAll f ms k) (d ∙ ap (namesIn s o j (rows s - 1)) (sym e))) v
+  pub line-after : {ms : List ℕ} {x y : Filled} → ms ≡ namesIn O s o j (rows s - 1) (parentIn s o c) → x ≡ putAll f ms k
+      → y ≡ putAll f (newOf (inherited O s o j (rows s - 1) p) (ownIn O s o j c)) x → y ≡ putAll f (namesIn O s o j (rows s) c) k
+  line-after d u v = names-after O f s o j (rows s) c k (λ z. omega arith) e (λ z. g (sym e ∙ z)) (u ∙ ap (λ (ms : List ℕ). putAll f ms k) (d ∙ ap (namesIn O s o j (rows s - 1)) (sym e))) v
 
-  pub line-counted : {x : Filled} → k .slot ≤ 4294967295 → k .slot ≡ length (namesIn s o j (rows s - 1) (parentIn s o c))
-      → x ≡ putAll f (newOf (inherited s o j (rows s - 1) p) (ownIn s o j c)) k → x .slot ≡ min (length (namesIn s o j (rows s) c)) 4294967295
+  pub line-counted : {x : Filled} → k .slot ≤ 4294967295 → k .slot ≡ length (namesIn O s o j (rows s - 1) (parentIn s o c))
+      → x ≡ putAll f (newOf (inherited O s o j (rows s - 1) p) (ownIn O s o j c)) k → x .slot ≡ min (length (namesIn O s o j (rows s) c)) 4294967295
   unfolding inherited
   line-counted b d u =
-      ap (λ (y : Filled). y .slot) u ∙ slot-counts f (newOf (inherited s o j (rows s - 1) p) (ownIn s o j c)) k b
-      ∙ ap (λ (i : ℕ). min i 4294967295) (ap (λ (i : ℕ). i + length (newOf (inherited s o j (rows s - 1) p) (ownIn s o j c))) (d ∙ ap length up) ∙ sym whole)
+      ap (λ (y : Filled). y .slot) u ∙ slot-counts f (newOf (inherited O s o j (rows s - 1) p) (ownIn O s o j c)) k b
+      ∙ ap (λ (i : ℕ). min i 4294967295) (ap (λ (i : ℕ). i + length (newOf (inherited O s o j (rows s - 1) p) (ownIn O s o j c))) (d ∙ ap length up) ∙ sym whole)
     where
-      up : namesIn s o j (rows s - 1) (parentIn s o c) ≡ inherited s o j (rows s - 1) p
-      up = ap (namesIn s o j (rows s - 1)) (sym e) ∙ rw (ne-eqb p 0 (λ z. g (sym e ∙ z)))
+      up : namesIn O s o j (rows s - 1) (parentIn s o c) ≡ inherited O s o j (rows s - 1) p
+      up = ap (namesIn O s o j (rows s - 1)) (sym e) ∙ rw (ne-eqb p 0 (λ z. g (sym e ∙ z)))
 
-      whole : length (namesIn s o j (rows s) c) ≡ length (inherited s o j (rows s - 1) p) + length (newOf (inherited s o j (rows s - 1) p) (ownIn s o j c))
+      whole : length (namesIn O s o j (rows s) c) ≡ length (inherited O s o j (rows s - 1) p) + length (newOf (inherited O s o j (rows s - 1) p) (ownIn O s o j c))
       whole =
           let z : rows s ≡ suc (rows s - 1) = omega arith in
-          ap (λ (n : ℕ). length (namesIn s o j n c)) z ∙ ap length (names-split s o j (rows s - 1) c)
-          ∙ length-append (inherited s o j (rows s - 1) (parentIn s o c)) (newOf (inherited s o j (rows s - 1) (parentIn s o c)) (ownIn s o j c))
-          ∙ ap (λ (p : ℕ). length (inherited s o j (rows s - 1) p) + length (newOf (inherited s o j (rows s - 1) p) (ownIn s o j c))) (sym e)
+          ap (λ (n : ℕ). length (namesIn O s o j n c)) z ∙ ap length (names-split O s o j (rows s - 1) c)
+          ∙ length-append (inherited O s o j (rows s - 1) (parentIn s o c)) (newOf (inherited O s o j (rows s - 1) (parentIn s o c)) (ownIn O s o j c))
+          ∙ ap (λ (p : ℕ). length (inherited O s o j (rows s - 1) p) + length (newOf (inherited O s o j (rows s - 1) p) (ownIn O s o j c))) (sym e)

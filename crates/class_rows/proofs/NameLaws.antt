@@ -8,8 +8,8 @@ use lib.Dec.{eqb, leb, ltb}
 use borrow.Author.Tests.{eq-eqb, ne-eqb, eqb-true, eqb-false, lt-ltb, le-ltb, ltb-true, ltb-false, le-leb, lt-leb, leb-true}
 use Rattle.definition.specs.Basics.{if_then_else_, filter, head, from, _∈?_}
 use Rattle.definition.specs.Sheet.{Sheet, kind, next, child, a, rows, chain, is, kidsOf}
-use Rattle.definition.specs.Outside.{Method, ClassRecord, recordOf}
-use Rattle.definition.specs.Classes.{ownMethods}
+use Rattle.definition.specs.Outside.{Outside, Method, ClassRecord, recordOf, core}
+use Rattle.definition.specs.Classes.{ownMethods, methodAt}
 use Rattle.machine.specs.Machine.{Store, Node, cell, listAt, chainTo, hasKey}
 use Rattle.machine.specs.Reads.{listedFields}
 use Rattle.machine.proofs.Lists.{eqb-same, any-append}
@@ -65,8 +65,8 @@ class-from s c e = go (leb 256 c) refl e
 
 -- The fields of the classes from outside.
 
-pub outside-has : (c n m : ℕ) {x : Bool} → c ≡ n → x ≡ (m ∈? recordOf n .fields) → x ≡ (m ∈? recordOf c .fields)
-outside-has c n m e h = h ∙ sym (ap (λ (k : ℕ). m ∈? recordOf k .fields) e)
+pub outside-has : (c n m : ℕ) {x : Bool} → c ≡ n → x ≡ (m ∈? recordOf core n .fields) → x ≡ (m ∈? recordOf core c .fields)
+outside-has c n m e h = h ∙ sym (ap (λ (k : ℕ). m ∈? recordOf core k .fields) e)
 
 pub pair-first : (m x y : ℕ) → m ≡ x → eqb m x ≡ (m ∈? (x ∷ y ∷ []))
 pair-first m x y e = rw (eq-eqb m x e)
@@ -74,10 +74,10 @@ pair-first m x y e = rw (eq-eqb m x e)
 pub pair-second : (m x y : ℕ) → (m ≡ x → ⊥) → eqb m y ≡ (m ∈? (x ∷ y ∷ []))
 pair-second m x y f = rw (ne-eqb m x f) (sym (or-false (eqb m y)))
 
-fields-none : (c : ℕ) → (c ≡ 100 → ⊥) → (c ≡ 101 → ⊥) → (c ≡ 102 → ⊥) → recordOf c .fields ≡ []
+fields-none : (c : ℕ) → (c ≡ 100 → ⊥) → (c ≡ 101 → ⊥) → (c ≡ 102 → ⊥) → recordOf core c .fields ≡ []
 fields-none c f g h = rw (ne-eqb 100 c (λ e. f (sym e)), ne-eqb 101 c (λ e. g (sym e)), ne-eqb 102 c (λ e. h (sym e)))
 
-pub outside-none : (c m : ℕ) → (c ≡ 100 → ⊥) → (c ≡ 101 → ⊥) → (c ≡ 102 → ⊥) → false ≡ (m ∈? recordOf c .fields)
+pub outside-none : (c m : ℕ) → (c ≡ 100 → ⊥) → (c ≡ 101 → ⊥) → (c ≡ 102 → ⊥) → false ≡ (m ∈? recordOf core c .fields)
 outside-none c m f g h = sym (ap (λ (l : List ℕ). m ∈? l) (fields-none c f g h))
 
 -- Own fields.
@@ -86,39 +86,47 @@ keys-in : (m : ℕ) (ys : List Node) → (m ∈? map (λ y. y .key) ys) ≡ hasK
 keys-in m [] = refl
 keys-in m (y ∷ ys) = rw (eqb-same m (y .key), keys-in m ys)
 
-module _ (s : Sheet) (o : Store) (c m : ℕ) where
-  pub field-outside : {x : Bool} → false ≡ isClassRow s c → x ≡ (m ∈? recordOf c .fields) → x ≡ (m ∈? ownFieldsIn s o c)
+module _ (O : Outside) (s : Sheet) (o : Store) (c m : ℕ) where
+  pub field-outside : {x : Bool} → false ≡ isClassRow s c → x ≡ (m ∈? recordOf O c .fields) → x ≡ (m ∈? ownFieldsIn O s o c)
   unfolding ownFieldsIn
-  field-outside f e = e ∙ ap (λ (t : Bool). m ∈? (if t then listedFields s (c - 256) ++ map (λ y. y .key) (listAt o (8 * (c - 256) + 7)) else recordOf c .fields)) f
+  field-outside f e = e ∙ ap (λ (t : Bool). m ∈? (if t then listedFields s (c - 256) ++ map (λ y. y .key) (listAt o (8 * (c - 256) + 7)) else recordOf O c .fields)) f
 
-  field-class : true ≡ isClassRow s c → (m ∈? ownFieldsIn s o c) ≡ ((m ∈? listedFields s (c - 256)) || hasKey m (listAt o (8 * (c - 256) + 7)))
+  field-class : true ≡ isClassRow s c → (m ∈? ownFieldsIn O s o c) ≡ ((m ∈? listedFields s (c - 256)) || hasKey m (listAt o (8 * (c - 256) + 7)))
   unfolding ownFieldsIn
   field-class f =
-      sym (ap (λ (t : Bool). m ∈? (if t then listedFields s (c - 256) ++ map (λ y. y .key) (listAt o (8 * (c - 256) + 7)) else recordOf c .fields)) f)
+      sym (ap (λ (t : Bool). m ∈? (if t then listedFields s (c - 256) ++ map (λ y. y .key) (listAt o (8 * (c - 256) + 7)) else recordOf O c .fields)) f)
       ∙ any-append (eqb m) (listedFields s (c - 256)) (map (λ y. y .key) (listAt o (8 * (c - 256) + 7)))
       ∙ ap (λ (t : Bool). (m ∈? listedFields s (c - 256)) || t) (keys-in m (listAt o (8 * (c - 256) + 7)))
 
-  pub field-listed : true ≡ isClassRow s c → true ≡ (m ∈? listedFields s (c - 256)) → true ≡ (m ∈? ownFieldsIn s o c)
+  pub field-listed : true ≡ isClassRow s c → true ≡ (m ∈? listedFields s (c - 256)) → true ≡ (m ∈? ownFieldsIn O s o c)
   field-listed f e = sym (field-class f ∙ rw (sym e))
 
-  pub field-stored : {x : Bool} {p : ℕ} → true ≡ isClassRow s c → false ≡ (m ∈? listedFields s (c - 256)) → p ≡ cell (o .table) (c - 256) 7 → x ≡ hasKey m (chainTo (o .nodes) p) → x ≡ (m ∈? ownFieldsIn s o c)
+  pub field-stored : {x : Bool} {p : ℕ} → true ≡ isClassRow s c → false ≡ (m ∈? listedFields s (c - 256)) → p ≡ cell (o .table) (c - 256) 7 → x ≡ hasKey m (chainTo (o .nodes) p) → x ≡ (m ∈? ownFieldsIn O s o c)
   unfolding listAt
   field-stored f e w h = h ∙ ap (λ (p : ℕ). hasKey m (chainTo (o .nodes) p)) w ∙ sym (field-class f ∙ rw (sym e))
 
 -- Own names.
 
-module _ (s : Sheet) (o : Store) (j c m : ℕ) {x : Bool} where
-  pub own-field : j ≡ 10 → x ≡ (m ∈? ownFieldsIn s o c) → x ≡ (m ∈? ownIn s o j c)
+module _ (O : Outside) (s : Sheet) (o : Store) (j c m : ℕ) {x : Bool} where
+  pub own-field : j ≡ 10 → x ≡ (m ∈? ownFieldsIn O s o c) → x ≡ (m ∈? ownIn O s o j c)
   unfolding ownIn
   own-field e h = rw (eq-eqb j 10 e) h
 
-  pub own-other : (j ≡ 10 → ⊥) → 256 ≤ c → x ≡ (m ∈? map (a s) (kidsOf s j (c - 256))) → x ≡ (m ∈? ownIn s o j c)
+  pub own-other : (j ≡ 10 → ⊥) → true ≡ isClassRow s c → x ≡ (m ∈? map (a s) (kidsOf s j (c - 256))) → x ≡ (m ∈? ownIn O s o j c)
   unfolding ownIn
-  own-other f l h = rw (ne-eqb j 10 f, le-leb 256 c l) h
+  own-other f l h = rw (ne-eqb j 10 f, sym l) h
 
-pub own-none : (s : Sheet) (o : Store) (j c m : ℕ) → (j ≡ 10 → ⊥) → c < 256 → false ≡ (m ∈? ownIn s o j c)
+-- no class from outside has methods
+pub methods-none : (c : ℕ) → recordOf core c .methods ≡ []
+methods-none c = if-methods (eqb 100 c) _ _ refl (if-methods (eqb 101 c) _ _ refl (if-methods (eqb 102 c) _ _ refl refl))
+  where
+    if-methods : (t : Bool) (x y : ClassRecord) → x .methods ≡ [] → y .methods ≡ [] → if_then_else_ {A = ClassRecord} t x y .methods ≡ []
+    if-methods true x y e h = e
+    if-methods false x y e h = h
+
+pub own-none : (s : Sheet) (o : Store) (j c m : ℕ) → (j ≡ 10 → ⊥) → false ≡ isClassRow s c → false ≡ (m ∈? ownIn core s o j c)
 unfolding ownIn
-own-none s o j c m f l = rw (ne-eqb j 10 f, lt-leb 256 c l)
+own-none s o j c m f l = rw (ne-eqb j 10 f, sym l, methods-none c)
 
 -- Names after inheritance.
 
@@ -138,21 +146,21 @@ filter-all [] = refl
 filter-all (x ∷ xs) = ap (λ (l : List ℕ). x ∷ l) (filter-all xs)
 
 -- the inherited names, then the new ones
-pub names-split : (s : Sheet) (o : Store) (j n c : ℕ) → namesIn s o j (suc n) c ≡ inherited s o j n (parentIn s o c) ++ newOf (inherited s o j n (parentIn s o c)) (ownIn s o j c)
+pub names-split : (O : Outside) (s : Sheet) (o : Store) (j n c : ℕ) → namesIn O s o j (suc n) c ≡ inherited O s o j n (parentIn s o c) ++ newOf (inherited O s o j n (parentIn s o c)) (ownIn O s o j c)
 unfolding namesIn inherited
-names-split s o j n c = go (eqb (parentIn s o c) 0) (namesIn s o j n (parentIn s o c)) (ownIn s o j c)
+names-split O s o j n c = go (eqb (parentIn s o c) 0) (namesIn O s o j n (parentIn s o c)) (ownIn O s o j c)
   where
     go : (t : Bool) (up own : List ℕ) → (if t then own else up ++ newOf up own) ≡ (if t then [] else up) ++ newOf (if t then [] else up) own
     go true up own = sym (filter-all own)
     go false up own = refl
 
-names-step : (s : Sheet) (o : Store) (j n c m : ℕ) → (m ∈? namesIn s o j (suc n) c) ≡ ((m ∈? ownIn s o j c) || (m ∈? inherited s o j n (parentIn s o c)))
-names-step s o j n c m =
-    ap (λ (l : List ℕ). m ∈? l) (names-split s o j n c) ∙ any-append (eqb m) up (newOf up (ownIn s o j c))
-    ∙ ap (λ (t : Bool). (m ∈? up) || t) (in-filter (λ x. not (x ∈? up)) m (ownIn s o j c)) ∙ go (m ∈? up) (m ∈? ownIn s o j c)
+names-step : (O : Outside) (s : Sheet) (o : Store) (j n c m : ℕ) → (m ∈? namesIn O s o j (suc n) c) ≡ ((m ∈? ownIn O s o j c) || (m ∈? inherited O s o j n (parentIn s o c)))
+names-step O s o j n c m =
+    ap (λ (l : List ℕ). m ∈? l) (names-split O s o j n c) ∙ any-append (eqb m) up (newOf up (ownIn O s o j c))
+    ∙ ap (λ (t : Bool). (m ∈? up) || t) (in-filter (λ x. not (x ∈? up)) m (ownIn O s o j c)) ∙ go (m ∈? up) (m ∈? ownIn O s o j c)
   where
     up : List ℕ
-    up = inherited s o j n (parentIn s o c)
+    up = inherited O s o j n (parentIn s o c)
 
     go : (u v : Bool) → (u || (v && not u)) ≡ (v || u)
     go true true = refl
@@ -160,65 +168,58 @@ names-step s o j n c m =
     go false true = refl
     go false false = refl
 
-pub inherits-none : (s : Sheet) (o : Store) (j n p m : ℕ) → p ≡ 0 → false ≡ (m ∈? inherited s o j n p)
+pub inherits-none : (O : Outside) (s : Sheet) (o : Store) (j n p m : ℕ) → p ≡ 0 → false ≡ (m ∈? inherited O s o j n p)
 unfolding inherited
-inherits-none s o j n p m e = rw (eq-eqb p 0 e)
+inherits-none O s o j n p m e = rw (eq-eqb p 0 e)
 
-pub inherits-some : (s : Sheet) (o : Store) (j n p m : ℕ) {x : Bool} → (p ≡ 0 → ⊥) → x ≡ (m ∈? namesIn s o j n p) → x ≡ (m ∈? inherited s o j n p)
+pub inherits-some : (O : Outside) (s : Sheet) (o : Store) (j n p m : ℕ) {x : Bool} → (p ≡ 0 → ⊥) → x ≡ (m ∈? namesIn O s o j n p) → x ≡ (m ∈? inherited O s o j n p)
 unfolding inherited
-inherits-some s o j n p m f e = rw (ne-eqb p 0 f) e
+inherits-some O s o j n p m f e = rw (ne-eqb p 0 f) e
 
-pub names-none : (s : Sheet) (o : Store) (j n c m : ℕ) → n ≤ 0 → false ≡ (m ∈? namesIn s o j n c)
+pub names-none : (O : Outside) (s : Sheet) (o : Store) (j n c m : ℕ) → n ≤ 0 → false ≡ (m ∈? namesIn O s o j n c)
 unfolding namesIn
-names-none s o j zero c m l = refl
-names-none s o j (suc n) c m l = absurd (omega arith)
+names-none O s o j zero c m l = refl
+names-none O s o j (suc n) c m l = absurd (omega arith)
 
 -- above class c, with n classes left to climb, stands class p
-module _ (s : Sheet) (o : Store) (j n c m : ℕ) (l : 0 < n) where
-  step : (m ∈? namesIn s o j n c) ≡ ((m ∈? ownIn s o j c) || (m ∈? inherited s o j (n - 1) (parentIn s o c)))
-  step = let e : n ≡ suc (n - 1) = omega arith in ap (λ (k : ℕ). m ∈? namesIn s o j k c) e ∙ names-step s o j (n - 1) c m
+module _ (O : Outside) (s : Sheet) (o : Store) (j n c m : ℕ) (l : 0 < n) where
+  step : (m ∈? namesIn O s o j n c) ≡ ((m ∈? ownIn O s o j c) || (m ∈? inherited O s o j (n - 1) (parentIn s o c)))
+  step = let e : n ≡ suc (n - 1) = omega arith in ap (λ (k : ℕ). m ∈? namesIn O s o j k c) e ∙ names-step O s o j (n - 1) c m
 
-  pub names-own : true ≡ (m ∈? ownIn s o j c) → true ≡ (m ∈? namesIn s o j n c)
+  pub names-own : true ≡ (m ∈? ownIn O s o j c) → true ≡ (m ∈? namesIn O s o j n c)
   names-own e = sym (step ∙ rw (sym e))
 
-  module _ (f : false ≡ (m ∈? ownIn s o j c)) {p : ℕ} (e : p ≡ parentIn s o c) where
-    others : (m ∈? inherited s o j (n - 1) p) ≡ (m ∈? namesIn s o j n c)
+  module _ (f : false ≡ (m ∈? ownIn O s o j c)) {p : ℕ} (e : p ≡ parentIn s o c) where
+    others : (m ∈? inherited O s o j (n - 1) p) ≡ (m ∈? namesIn O s o j n c)
     others = sym (step ∙ rw (sym f, sym e))
 
-    pub names-top : p ≡ 0 → false ≡ (m ∈? namesIn s o j n c)
-    names-top z = inherits-none s o j (n - 1) p m z ∙ others
+    pub names-top : p ≡ 0 → false ≡ (m ∈? namesIn O s o j n c)
+    names-top z = inherits-none O s o j (n - 1) p m z ∙ others
 
-    pub names-up : (p ≡ 0 → ⊥) → (m ∈? namesIn s o j (n - 1) p) ≡ (m ∈? namesIn s o j n c)
-    names-up z = inherits-some s o j (n - 1) p m z refl ∙ others
+    pub names-up : (p ≡ 0 → ⊥) → (m ∈? namesIn O s o j (n - 1) p) ≡ (m ∈? namesIn O s o j n c)
+    names-up z = inherits-some O s o j (n - 1) p m z refl ∙ others
 
 -- Fields and methods.
 
-pub names-fields : (s : Sheet) (o : Store) (n c : ℕ) → namesIn s o 10 n c ≡ fieldsIn s o n c
+pub names-fields : (O : Outside) (s : Sheet) (o : Store) (n c : ℕ) → namesIn O s o 10 n c ≡ fieldsIn O s o n c
 unfolding namesIn fieldsIn ownIn
-names-fields s o zero c = refl
-names-fields s o (suc n) c = rw (names-fields s o n (parentIn s o c))
+names-fields O s o zero c = refl
+names-fields O s o (suc n) c = rw (names-fields O s o n (parentIn s o c))
 
-methods-none : (c : ℕ) → recordOf c .methods ≡ []
-methods-none c = if-methods (eqb 100 c) _ _ refl (if-methods (eqb 101 c) _ _ refl (if-methods (eqb 102 c) _ _ refl refl))
-  where
-    if-methods : (t : Bool) (x y : ClassRecord) → x .methods ≡ [] → y .methods ≡ [] → if_then_else_ {A = ClassRecord} t x y .methods ≡ []
-    if-methods true x y e h = e
-    if-methods false x y e h = h
-
-map-names : (s : Sheet) (ks : List ℕ) → map (a s) ks ≡ map (λ (m : Method). m .name) (map (λ f. record { name = a s f; fun = f }) ks)
+map-names : (s : Sheet) (ks : List ℕ) → map (a s) ks ≡ map (λ (m : Method). m .name) (map (methodAt s) ks)
 map-names s [] = refl
 map-names s (k ∷ ks) = rw (map-names s ks)
 
-own-methods : (s : Sheet) (o : Store) (c : ℕ) → ownIn s o 6 c ≡ map (λ (m : Method). m .name) (ownMethods s c)
+own-methods : (O : Outside) (s : Sheet) (o : Store) (c : ℕ) → ownIn O s o 6 c ≡ map (λ (m : Method). m .name) (ownMethods O s c)
 unfolding ownIn
-own-methods s o c = go (leb 256 c)
+own-methods O s o c = go (isClassRow s c)
   where
-    go : (t : Bool) → (if t then map (a s) (kidsOf s 6 (c - 256)) else [])
-        ≡ map (λ (m : Method). m .name) (if t then map (λ f. record { name = a s f; fun = f }) (kidsOf s 6 (c - 256)) else recordOf c .methods)
+    go : (t : Bool) → (if t then map (a s) (kidsOf s 6 (c - 256)) else map (λ m. m .name) (recordOf O c .methods))
+        ≡ map (λ (m : Method). m .name) (if t then map (methodAt s) (kidsOf s 6 (c - 256)) else recordOf O c .methods)
     go true = map-names s (kidsOf s 6 (c - 256))
-    go false = sym (ap (map (λ (m : Method). m .name)) (methods-none c))
+    go false = refl
 
-pub names-methods : (s : Sheet) (o : Store) (n c : ℕ) → namesIn s o 6 n c ≡ methodNamesIn s o n c
+pub names-methods : (O : Outside) (s : Sheet) (o : Store) (n c : ℕ) → namesIn O s o 6 n c ≡ methodNamesIn O s o n c
 unfolding namesIn methodNamesIn
-names-methods s o zero c = refl
-names-methods s o (suc n) c = rw (names-methods s o n (parentIn s o c), own-methods s o c)
+names-methods O s o zero c = refl
+names-methods O s o (suc n) c = rw (names-methods O s o n (parentIn s o c), own-methods O s o c)

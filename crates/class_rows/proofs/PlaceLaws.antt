@@ -9,6 +9,7 @@ use lib.ListN.{length, getD, set, take, drop, length-append, length-take, length
 use lib.Seq.{take-at, drop-at, getD-set-same, getD-set-other}
 use borrow.Author.Tests.{eqb-true, eqb-false}
 use Rattle.definition.specs.Sheet.{Sheet, rows}
+use Rattle.definition.specs.Outside.{Outside}
 use Rattle.definition.specs.Classes.{methodNamed}
 use Rattle.definition.specs.Answer.{eight, numbered}
 use Rattle.definition.proofs.Lists.Members.{map-append}
@@ -78,58 +79,58 @@ module _ (s : Sheet) (r : ℕ) where
       ∙ ap (λ (i : ℕ). i + length (map (λ n. 24 ∷ n ∷ g n ∷ []) ns)) (numbered-length 0 fs) ∙ ap (λ (i : ℕ). length fs + i) (length-map ns (λ n. 24 ∷ n ∷ g n ∷ [])))
 
 -- The class of row r, written after k rows, where all its rows fit.
-module _ (s : Sheet) (o : Stored) (w : List ℕ) (k r n : ℕ) {y : List ℕ} (e : sink n y ≡ emitAll (map (λ vs. eight (r ∷ vs)) (classRowsNamed s o r)) (sink k w)) (b : n ≤ length w / 8) where
+module _ (O : Outside) (s : Sheet) (o : Stored) (w : List ℕ) (k r n : ℕ) {y : List ℕ} (e : sink n y ≡ emitAll (map (λ vs. eight (r ∷ vs)) (classRowsNamed O s o r)) (sink k w)) (b : n ≤ length w / 8) where
   abbrev fs : List ℕ
-  fs = fieldsIn s o (rows s) (256 + r)
+  fs = fieldsIn O s o (rows s) (256 + r)
 
   abbrev ns : List ℕ
-  ns = methodNamesIn s o (rows s) (256 + r)
+  ns = methodNamesIn O s o (rows s) (256 + r)
 
   abbrev fun : ℕ → ℕ
-  fun n = methodNamed n (methodsIn s o (rows s) (256 + r))
+  fun n = methodNamed n (methodsIn O s o (rows s) (256 + r))
 
-  counted : length (classRowsNamed s o r) ≡ suc (length fs + length ns)
+  counted : length (classRowsNamed O s o r) ≡ suc (length fs + length ns)
   unfolding classRowsNamed headWords
-  counted = class-length s r (headWords s o r) fs ns fun
+  counted = class-length s r (headWords O s o r) fs ns fun
 
-  fit : k + length (classRowsNamed s o r) ≤ length w / 8
+  fit : k + length (classRowsNamed O s o r) ≤ length w / 8
   fit =
-      let c : emitAll (map (λ vs. eight (r ∷ vs)) (classRowsNamed s o r)) (sink k w) .count ≤ length w / 8 = omega (arith, ap (λ (x : Sink). x .count) e) in
-      omega (arith, all-fit (map (λ vs. eight (r ∷ vs)) (classRowsNamed s o r)) (sink k w) c, length-map (classRowsNamed s o r) (λ vs. eight (r ∷ vs)))
+      let c : emitAll (map (λ vs. eight (r ∷ vs)) (classRowsNamed O s o r)) (sink k w) .count ≤ length w / 8 = omega (arith, ap (λ (x : Sink). x .count) e) in
+      omega (arith, all-fit (map (λ vs. eight (r ∷ vs)) (classRowsNamed O s o r)) (sink k w) c, length-map (classRowsNamed O s o r) (λ vs. eight (r ∷ vs)))
 
-  written : (c : ℕ) → c < 8 → (n ≡ k + length (classRowsNamed s o r)) × (column y c k (length (classRowsNamed s o r)) ≡ map (word s r c) (classRowsNamed s o r))
+  written : (c : ℕ) → c < 8 → (n ≡ k + length (classRowsNamed O s o r)) × (column y c k (length (classRowsNamed O s o r)) ≡ map (word s r c) (classRowsNamed O s o r))
   written c l =
-      let h = all-written (λ vs. eight (r ∷ vs)) (λ vs. simp (length-take, length-append, length-replicate) (omega arith)) c l (classRowsNamed s o r) (sink k w) fit in
-      (ap (λ (x : Sink). x .count) e ∙ h .0, ap (λ (x : Sink). column (x .words) c k (length (classRowsNamed s o r))) e ∙ h .1)
+      let h = all-written (λ vs. eight (r ∷ vs)) (λ vs. simp (length-take, length-append, length-replicate) (omega arith)) c l (classRowsNamed O s o r) (sink k w) fit in
+      (ap (λ (x : Sink). x .count) e ∙ h .0, ap (λ (x : Sink). column (x .words) c k (length (classRowsNamed O s o r))) e ∙ h .1)
 
-  columns : (c : ℕ) → c < 8 → column y c k (suc (length fs + length ns)) ≡ map (word s r c) (headWords s o r ∷ numbered s [] 0 fs ++ map (λ n. 24 ∷ n ∷ fun n ∷ []) ns)
+  columns : (c : ℕ) → c < 8 → column y c k (suc (length fs + length ns)) ≡ map (word s r c) (headWords O s o r ∷ numbered s [] 0 fs ++ map (λ n. 24 ∷ n ∷ fun n ∷ []) ns)
   unfolding classRowsNamed headWords
   columns c l = ap (column y c k) (sym counted) ∙ written c l .1
 
-  pub stands-now : length y ≡ length w → ((j : ℕ) → Steady s o (namesIn s o j) r) → Steady s o (methodsIn s o) r → Stands s o y n r k
+  pub stands-now : length y ≡ length w → ((j : ℕ) → Steady O s o (namesIn O s o j) r) → Steady O s o (methodsIn O s o) r → Stands O s o y n r k
   unfolding headWords
   stands-now l h u =
       record {
         below = rw (f, g) (omega (arith, written 0 (omega arith) .0, counted));
         within = rw (f, g, l) (omega (arith, fit, counted));
-        fields = rw f (head-word s r y k (headWords s o r) fs ns fun columns 4 (omega arith));
-        methods = rw g (head-word s r y k (headWords s o r) fs ns fun columns 5 (omega arith));
-        fieldNames = rw f (field-column s r y k (headWords s o r) fs ns fun columns);
-        methodNames = rw (f, g) (method-column s r y k (headWords s o r) fs ns fun columns);
-        functions = rw (f, g) (function-column s r y k (headWords s o r) fs ns fun columns);
+        fields = rw f (head-word s r y k (headWords O s o r) fs ns fun columns 4 (omega arith));
+        methods = rw g (head-word s r y k (headWords O s o r) fs ns fun columns 5 (omega arith));
+        fieldNames = rw f (field-column s r y k (headWords O s o r) fs ns fun columns);
+        methodNames = rw (f, g) (method-column s r y k (headWords O s o r) fs ns fun columns);
+        functions = rw (f, g) (function-column s r y k (headWords O s o r) fs ns fun columns);
         stable = h;
         stableMethods = u;
       }
     where
-      f : namesIn s o 10 (rows s) (256 + r) ≡ fs
-      f = names-fields s o (rows s) (256 + r)
+      f : namesIn O s o 10 (rows s) (256 + r) ≡ fs
+      f = names-fields O s o (rows s) (256 + r)
 
-      g : namesIn s o 6 (rows s) (256 + r) ≡ ns
-      g = names-methods s o (rows s) (256 + r)
+      g : namesIn O s o 6 (rows s) (256 + r) ≡ ns
+      g = names-methods O s o (rows s) (256 + r)
 
 -- Rows written later leave a class where it stands.
-pub stands-kept : {s : Sheet} {o : Stored} {w y : List ℕ} {k n r p : ℕ} (rs : List (List ℕ)) → sink n y ≡ emitAll rs (sink k w) → Stands s o w k r p → Stands s o y n r p
-stands-kept {s} {o} {w} {y} {k} {n} {r} {p} rs e h =
+pub stands-kept : {O : Outside} {s : Sheet} {o : Stored} {w y : List ℕ} {k n r p : ℕ} (rs : List (List ℕ)) → sink n y ≡ emitAll rs (sink k w) → Stands O s o w k r p → Stands O s o y n r p
+stands-kept {O} {s} {o} {w} {y} {k} {n} {r} {p} rs e h =
     record {
       below = m .below;
       within = omega (arith, h .within, m .lengths);
@@ -143,25 +144,25 @@ stands-kept {s} {o} {w} {y} {k} {n} {r} {p} rs e h =
     }
   where
     fn : List ℕ
-    fn = namesIn s o 10 (rows s) (256 + r)
+    fn = namesIn O s o 10 (rows s) (256 + r)
 
     mn : List ℕ
-    mn = namesIn s o 6 (rows s) (256 + r)
+    mn = namesIn O s o 6 (rows s) (256 + r)
 
     m : Kept (p + suc (length fn + length mn)) (sink k w) (sink n y)
     m = subst (Kept (p + suc (length fn + length mn)) (sink k w)) (sym e) (all-kept (p + suc (length fn + length mn)) rs (sink k w) (h .below) (h .within))
 
-module _ {s t q places w : List ℕ} {r k : ℕ} (h : Placed s t q places w r k) {y : List ℕ} {n : ℕ} (rs : List (List ℕ)) (e : sink n y ≡ emitAll rs (sink k w)) where
-  pub placed-kept : Placed s t q places y (r + 1) n
+module _ {O : Outside} {s t q places w : List ℕ} {r k : ℕ} (h : Placed O s t q places w r k) {y : List ℕ} {n : ℕ} (rs : List (List ℕ)) (e : sink n y ≡ emitAll rs (sink k w)) where
+  pub placed-kept : Placed O s t q places y (r + 1) n
   placed-kept = record { room = h .room; told = λ j p g. (omega (arith, h .told j p g .0), λ o. stands-kept rs e (h .told j p g .1 o)) }
 
   -- and with the place of row r
-  pub placed-more : ((o : Store) → Stands s (storeOf o t q) y n r k) → r < length places → Placed s t q (set places r (k + 1)) y (r + 1) n
+  pub placed-more : ((o : Store) → Stands O s (storeOf o t q) y n r k) → r < length places → Placed O s t q (set places r (k + 1)) y (r + 1) n
   placed-more f l = record { room = omega (arith, h .room, length-set places r (k + 1)); told = λ j p g. go j p (eqb j r) refl g }
     where
-      go : (j p : ℕ) (u : Bool) → eqb j r ≡ u → getD (set places r (k + 1)) j 0 ≡ suc p → (j < r + 1) × ((o : Store) → Stands s (storeOf o t q) y n j p)
+      go : (j p : ℕ) (u : Bool) → eqb j r ≡ u → getD (set places r (k + 1)) j 0 ≡ suc p → (j < r + 1) × ((o : Store) → Stands O s (storeOf o t q) y n j p)
       go j p true i g =
           let a : j ≡ r = eqb-true j r i in
           let b : k ≡ p = omega (arith, g, ap (λ (x : ℕ). getD (set places r (k + 1)) x 0) a, getD-set-same places r (k + 1) 0 l) in
-          (omega arith, λ o. subst (λ (x : ℕ). Stands s (storeOf o t q) y n x p) (sym a) (subst (λ (x : ℕ). Stands s (storeOf o t q) y n r x) b (f o)))
+          (omega arith, λ o. subst (λ (x : ℕ). Stands O s (storeOf o t q) y n x p) (sym a) (subst (λ (x : ℕ). Stands O s (storeOf o t q) y n r x) b (f o)))
       go j p false i g = placed-kept .told j p (sym (getD-set-other places r j (k + 1) 0 (eqb-false j r i)) ∙ g)

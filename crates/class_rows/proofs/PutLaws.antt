@@ -9,7 +9,7 @@ use lib.ListN.{length}
 use borrow.Author.Tests.{eq-eqb, ne-eqb, lt-ltb, le-ltb, ltb-true, ltb-false, le-leb, lt-leb}
 use Rattle.definition.specs.Basics.{filter, from, _∈?_}
 use Rattle.definition.specs.Sheet.{Sheet, kind, next, child, a, rows, chain, is, kidsOf}
-use Rattle.definition.specs.Outside.{recordOf}
+use Rattle.definition.specs.Outside.{Outside, recordOf, core}
 use Rattle.definition.specs.Classes.{methodNamed}
 use Rattle.definition.proofs.Lists.Members.{filter-append}
 use Rattle.machine.specs.Machine.{Store, Node, oneMore, cell, nodeWord, nodeAt, previous, chainTo, listAt}
@@ -20,7 +20,7 @@ use Rattle.sink.specs.Sink.{Sink, emit}
 use Rattle.class_rows.specs.Names.{ownIn, namesIn, inherited, newOf}
 use Rattle.class_rows.specs.Put.{Filled, nameRow, put, putAll}
 use Rattle.class_rows.specs.declared.put.Wanted.{Wanted}
-use Rattle.class_rows.proofs.NameLaws.{names-split}
+use Rattle.class_rows.proofs.NameLaws.{names-split, methods-none}
 
 pub more-fits : (n : ℕ) → n < 4294967295 → n + 1 ≡ oneMore n
 more-fits n l = let e : n + 1 ≡ suc n = omega arith in rw (lt-ltb n 4294967295 l, e)
@@ -29,14 +29,14 @@ pub more-full : (n : ℕ) → 4294967295 ≤ n → n ≡ oneMore n
 more-full n l = rw (le-ltb n 4294967295 l)
 
 -- the row that tells a name
-pub row-field : (s : Sheet) (o : Store) (w : Wanted) (m i : ℕ) → w .kind ≡ 10 → w .row ∷ 23 ∷ i ∷ m ∷ 0 ∷ 0 ∷ 0 ∷ 0 ∷ [] ≡ nameRow s o w m i
+pub row-field : (O : Outside) (s : Sheet) (o : Store) (w : Wanted) (m i : ℕ) → w .kind ≡ 10 → w .row ∷ 23 ∷ i ∷ m ∷ 0 ∷ 0 ∷ 0 ∷ 0 ∷ [] ≡ nameRow O s o w m i
 unfolding nameRow
-row-field s o w m i e = rw (eq-eqb (w .kind) 10 e)
+row-field O s o w m i e = rw (eq-eqb (w .kind) 10 e)
 
-pub row-method : (s : Sheet) (o : Store) (w : Wanted) (m i x : ℕ) → (w .kind ≡ 10 → ⊥) → x ≡ methodNamed m (methodsIn s o (rows s) (w .whole))
-    → w .row ∷ 24 ∷ m ∷ x ∷ 0 ∷ 0 ∷ 0 ∷ 0 ∷ [] ≡ nameRow s o w m i
+pub row-method : (O : Outside) (s : Sheet) (o : Store) (w : Wanted) (m i x : ℕ) → (w .kind ≡ 10 → ⊥) → x ≡ methodNamed m (methodsIn O s o (rows s) (w .whole))
+    → w .row ∷ 24 ∷ m ∷ x ∷ 0 ∷ 0 ∷ 0 ∷ 0 ∷ [] ≡ nameRow O s o w m i
 unfolding nameRow
-row-method s o w m i x f e = rw (ne-eqb (w .kind) 10 f, e)
+row-method O s o w m i x f e = rw (ne-eqb (w .kind) 10 f, e)
 
 -- A name, and the names of a list, by the row f that tells a name at a slot; up are the inherited names.
 module _ (f : ℕ → ℕ → List ℕ) where
@@ -153,53 +153,53 @@ module _ (f : ℕ → ℕ → List ℕ) (up q : List ℕ) (p : ℕ) (k : Filled)
 
 -- Own names.
 module _ (f : ℕ → ℕ → List ℕ) (up : List ℕ) (c : ℕ) (k : Filled) where
-  pub outside-put : (n : ℕ) {x : Filled} → c ≡ n → x ≡ putAll f (newOf up (recordOf n .fields)) k → x ≡ putAll f (newOf up (recordOf c .fields)) k
-  outside-put n e h = h ∙ sym (ap (λ (i : ℕ). putAll f (newOf up (recordOf i .fields)) k) e)
+  pub outside-put : (n : ℕ) {x : Filled} → c ≡ n → x ≡ putAll f (newOf up (recordOf core n .fields)) k → x ≡ putAll f (newOf up (recordOf core c .fields)) k
+  outside-put n e h = h ∙ sym (ap (λ (i : ℕ). putAll f (newOf up (recordOf core i .fields)) k) e)
 
-  pub outside-left : (c ≡ 100 → ⊥) → (c ≡ 101 → ⊥) → (c ≡ 102 → ⊥) → k ≡ putAll f (newOf up (recordOf c .fields)) k
+  pub outside-left : (c ≡ 100 → ⊥) → (c ≡ 101 → ⊥) → (c ≡ 102 → ⊥) → k ≡ putAll f (newOf up (recordOf core c .fields)) k
   outside-left g h i = rw (ne-eqb 100 c (λ e. g (sym e)), ne-eqb 101 c (λ e. h (sym e)), ne-eqb 102 c (λ e. i (sym e))) (put-none f k)
 
   module _ (s : Sheet) (o : Store) (j : ℕ) where
     -- the fields of a class row: listed, then stored
     pub own-fields : {p : ℕ} {x y : Filled} → j ≡ 10 → true ≡ isClassRow s c → x ≡ putAll f (newOf up (map (a s) (kidsOf s j (c - 256)))) k → p ≡ cell (o .table) (c - 256) 7
-        → y ≡ putAll f (newOf up (keysTo (o .nodes) p)) x → y ≡ putAll f (newOf up (ownIn s o j c)) k
+        → y ≡ putAll f (newOf up (keysTo (o .nodes) p)) x → y ≡ putAll f (newOf up (ownIn core s o j c)) k
     unfolding ownIn ownFieldsIn listAt
     own-fields {p} e t h w i = rw (e, sym t) (new-both f up (listedFields s (c - 256)) (keysTo (o .nodes) (cell (o .table) (c - 256) 7)) k (rw e at h) (rw w at i))
 
-    pub own-outside : {x : Filled} → j ≡ 10 → false ≡ isClassRow s c → x ≡ putAll f (newOf up (recordOf c .fields)) k → x ≡ putAll f (newOf up (ownIn s o j c)) k
+    pub own-outside : {x : Filled} → j ≡ 10 → false ≡ isClassRow s c → x ≡ putAll f (newOf up (recordOf core c .fields)) k → x ≡ putAll f (newOf up (ownIn core s o j c)) k
     unfolding ownIn ownFieldsIn
     own-outside e t h = rw (e, sym t) h
 
-    pub own-children : {x : Filled} → (j ≡ 10 → ⊥) → 256 ≤ c → x ≡ putAll f (newOf up (map (a s) (kidsOf s j (c - 256)))) k → x ≡ putAll f (newOf up (ownIn s o j c)) k
+    pub own-children : {x : Filled} → (j ≡ 10 → ⊥) → true ≡ isClassRow s c → x ≡ putAll f (newOf up (map (a s) (kidsOf s j (c - 256)))) k → x ≡ putAll f (newOf up (ownIn core s o j c)) k
     unfolding ownIn
-    own-children e l h = rw (ne-eqb j 10 e, le-leb 256 c l) h
+    own-children e l h = rw (ne-eqb j 10 e, sym l) h
 
-    pub own-nothing : (j ≡ 10 → ⊥) → c < 256 → k ≡ putAll f (newOf up (ownIn s o j c)) k
+    pub own-nothing : (j ≡ 10 → ⊥) → false ≡ isClassRow s c → k ≡ putAll f (newOf up (ownIn core s o j c)) k
     unfolding ownIn
-    own-nothing e l = rw (ne-eqb j 10 e, lt-leb 256 c l) (put-none f k)
+    own-nothing e l = rw (ne-eqb j 10 e, sym l, methods-none c) (put-none f k)
 
 -- Names after inheritance: above class c, with n classes left to climb, stands class p.
-pub names-zero : (f : ℕ → ℕ → List ℕ) (s : Sheet) (o : Store) (j n c : ℕ) (k : Filled) → n ≡ 0 → k ≡ putAll f (namesIn s o j n c) k
+pub names-zero : (O : Outside) (f : ℕ → ℕ → List ℕ) (s : Sheet) (o : Store) (j n c : ℕ) (k : Filled) → n ≡ 0 → k ≡ putAll f (namesIn O s o j n c) k
 unfolding namesIn
-names-zero f s o j zero c k e = put-none f k
-names-zero f s o j (suc n) c k e = absurd (omega arith)
+names-zero O f s o j zero c k e = put-none f k
+names-zero O f s o j (suc n) c k e = absurd (omega arith)
 
-module _ (f : ℕ → ℕ → List ℕ) (s : Sheet) (o : Store) (j n c : ℕ) (k : Filled) (l : n ≡ 0 → ⊥) {p : ℕ} (e : p ≡ parentIn s o c) where
-  split : inherited s o j (n - 1) p ++ newOf (inherited s o j (n - 1) p) (ownIn s o j c) ≡ namesIn s o j n c
+module _ (O : Outside) (f : ℕ → ℕ → List ℕ) (s : Sheet) (o : Store) (j n c : ℕ) (k : Filled) (l : n ≡ 0 → ⊥) {p : ℕ} (e : p ≡ parentIn s o c) where
+  split : inherited O s o j (n - 1) p ++ newOf (inherited O s o j (n - 1) p) (ownIn O s o j c) ≡ namesIn O s o j n c
   split =
       let z : n ≡ suc (n - 1) = omega arith in
-      ap (λ (i : ℕ). inherited s o j (n - 1) i ++ newOf (inherited s o j (n - 1) i) (ownIn s o j c)) e
-      ∙ sym (ap (λ (i : ℕ). namesIn s o j i c) z ∙ names-split s o j (n - 1) c)
+      ap (λ (i : ℕ). inherited O s o j (n - 1) i ++ newOf (inherited O s o j (n - 1) i) (ownIn O s o j c)) e
+      ∙ sym (ap (λ (i : ℕ). namesIn O s o j i c) z ∙ names-split O s o j (n - 1) c)
 
-  both : {x y : Filled} → x ≡ putAll f (inherited s o j (n - 1) p) k → y ≡ putAll f (newOf (inherited s o j (n - 1) p) (ownIn s o j c)) x → y ≡ putAll f (namesIn s o j n c) k
+  both : {x y : Filled} → x ≡ putAll f (inherited O s o j (n - 1) p) k → y ≡ putAll f (newOf (inherited O s o j (n - 1) p) (ownIn O s o j c)) x → y ≡ putAll f (namesIn O s o j n c) k
   both g h =
-      put-then f (inherited s o j (n - 1) p) (newOf (inherited s o j (n - 1) p) (ownIn s o j c)) k g h ∙ ap (λ (ms : List ℕ). putAll f ms k) split
+      put-then f (inherited O s o j (n - 1) p) (newOf (inherited O s o j (n - 1) p) (ownIn O s o j c)) k g h ∙ ap (λ (ms : List ℕ). putAll f ms k) split
 
-  pub names-first : {y : Filled} → p ≡ 0 → y ≡ putAll f (newOf (inherited s o j (n - 1) p) (ownIn s o j c)) k → y ≡ putAll f (namesIn s o j n c) k
+  pub names-first : {y : Filled} → p ≡ 0 → y ≡ putAll f (newOf (inherited O s o j (n - 1) p) (ownIn O s o j c)) k → y ≡ putAll f (namesIn O s o j n c) k
   unfolding inherited
   names-first z h = both (rw (eq-eqb p 0 z) (put-none f k)) h
 
-  pub names-after : {x y : Filled} → (p ≡ 0 → ⊥) → x ≡ putAll f (namesIn s o j (n - 1) p) k → y ≡ putAll f (newOf (inherited s o j (n - 1) p) (ownIn s o j c)) x → y ≡ putAll f (namesIn s o j n c) k
+  pub names-after : {x y : Filled} → (p ≡ 0 → ⊥) → x ≡ putAll f (namesIn O s o j (n - 1) p) k → y ≡ putAll f (newOf (inherited O s o j (n - 1) p) (ownIn O s o j c)) x → y ≡ putAll f (namesIn O s o j n c) k
   unfolding inherited
   names-after z g h = both (rw (ne-eqb p 0 z) g) h
 

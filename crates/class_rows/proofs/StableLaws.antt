@@ -7,12 +7,13 @@ use lib.Dec.{eqb}
 use borrow.Author.Tests.{lt-leb}
 use Rattle.definition.specs.Basics.{if_then_else_}
 use Rattle.definition.specs.Sheet.{Sheet, rows}
+use Rattle.definition.specs.Outside.{Outside}
 use Rattle.definition.specs.Classes.{ownMethods, mergeFields, mergeMethods}
 use Rattle.machine.specs.Machine.{Store as Stored}
 use Rattle.after.specs.Inherited.{parentIn, methodsIn}
 use Rattle.class_rows.specs.Names.{ownIn, namesIn}
 
-module _ (s : Sheet) (o : Stored) where
+module _ (O : Outside) (s : Sheet) (o : Stored) where
   -- What f gives for the class of row r is the same for all climbs of more than r classes.
   abbrev pub Steady : {A : Type 0} → (ℕ → ℕ → List A) → ℕ → Type 0
   Steady f r = (n : ℕ) → r < n → f n (256 + r) ≡ f (rows s) (256 + r)
@@ -43,25 +44,25 @@ module _ (s : Sheet) (o : Stored) where
     steady-below : (i : ℕ) → i < r → parentIn s o (256 + r) ≡ 256 + i → Steady f i → Steady f r
     steady-below i b e h = steady-from (f (rows s) (256 + i)) (λ m g. ap (f m) e ∙ h m (omega arith))
 
-  names-by-parent : (j n c : ℕ) → namesIn s o j (suc n) c ≡ (if eqb (parentIn s o c) 0 then ownIn s o j c else mergeFields (namesIn s o j n (parentIn s o c)) (ownIn s o j c))
+  names-by-parent : (j n c : ℕ) → namesIn O s o j (suc n) c ≡ (if eqb (parentIn s o c) 0 then ownIn O s o j c else mergeFields (namesIn O s o j n (parentIn s o c)) (ownIn O s o j c))
   unfolding namesIn
   names-by-parent j n c = refl
 
-  methods-by-parent : (n c : ℕ) → methodsIn s o (suc n) c ≡ (if eqb (parentIn s o c) 0 then ownMethods s c else mergeMethods (methodsIn s o n (parentIn s o c)) (ownMethods s c))
+  methods-by-parent : (n c : ℕ) → methodsIn O s o (suc n) c ≡ (if eqb (parentIn s o c) 0 then ownMethods O s c else mergeMethods (methodsIn O s o n (parentIn s o c)) (ownMethods O s c))
   unfolding methodsIn
   methods-by-parent n c = refl
 
   module _ (r : ℕ) (l : r < rows s) where
     -- below a class from outside, or with no parent
-    pub names-outside : 0 < r → parentIn s o (256 + r) < 256 → (j : ℕ) → Steady (namesIn s o j) r
-    names-outside z b j = steady-outside (namesIn s o j) (ownIn s o j) mergeFields (names-by-parent j) r l z b
+    pub names-outside : 0 < r → parentIn s o (256 + r) < 256 → (j : ℕ) → Steady (namesIn O s o j) r
+    names-outside z b j = steady-outside (namesIn O s o j) (ownIn O s o j) mergeFields (names-by-parent j) r l z b
 
-    pub methods-outside : 0 < r → parentIn s o (256 + r) < 256 → Steady (methodsIn s o) r
-    methods-outside z b = steady-outside (methodsIn s o) (ownMethods s) mergeMethods methods-by-parent r l z b
+    pub methods-outside : 0 < r → parentIn s o (256 + r) < 256 → Steady (methodsIn O s o) r
+    methods-outside z b = steady-outside (methodsIn O s o) (ownMethods O s) mergeMethods methods-by-parent r l z b
 
     -- below the class of row i
-    pub names-below : (i : ℕ) → i < r → parentIn s o (256 + r) ≡ 256 + i → (j : ℕ) → Steady (namesIn s o j) i → Steady (namesIn s o j) r
-    names-below i b e j h = steady-below (namesIn s o j) (ownIn s o j) mergeFields (names-by-parent j) r l i b e h
+    pub names-below : (i : ℕ) → i < r → parentIn s o (256 + r) ≡ 256 + i → (j : ℕ) → Steady (namesIn O s o j) i → Steady (namesIn O s o j) r
+    names-below i b e j h = steady-below (namesIn O s o j) (ownIn O s o j) mergeFields (names-by-parent j) r l i b e h
 
-    pub methods-below : (i : ℕ) → i < r → parentIn s o (256 + r) ≡ 256 + i → Steady (methodsIn s o) i → Steady (methodsIn s o) r
-    methods-below i b e h = steady-below (methodsIn s o) (ownMethods s) mergeMethods methods-by-parent r l i b e h
+    pub methods-below : (i : ℕ) → i < r → parentIn s o (256 + r) ≡ 256 + i → Steady (methodsIn O s o) i → Steady (methodsIn O s o) r
+    methods-below i b e h = steady-below (methodsIn O s o) (ownMethods O s) mergeMethods methods-by-parent r l i b e h

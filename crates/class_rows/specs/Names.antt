@@ -8,25 +8,26 @@ use lib.ListN.{length, getD, set}
 use Rattle.definition.specs.Basics.{if_then_else_, filter, bit, _∈?_}
 use Rattle.definition.specs.Sheet.{Sheet, a, rows, is, kidsOf}
 use Rattle.definition.specs.Classes.{mergeFields}
+use Rattle.definition.specs.Outside.{Outside, recordOf}
 use Rattle.machine.specs.Machine.{Store as Stored, cell}
-use Rattle.after.specs.Inherited.{parentIn, ownFieldsIn, fieldsIn, methodNamesIn, hasChildrenIn}
+use Rattle.after.specs.Inherited.{parentIn, ownFieldsIn, fieldsIn, methodNamesIn, hasChildrenIn, isClassRow}
 use Rattle.store.specs.Stored.{storeOf}
 use Rattle.store.specs.declared.nodes.Store.{Store}
 
 -- the own names of class c
-unfoldable pub ownIn : Sheet → Stored → ℕ → ℕ → List ℕ
-ownIn s o j c = if eqb j 10 then ownFieldsIn s o c else if leb 256 c then map (a s) (kidsOf s j (c - 256)) else []
+unfoldable pub ownIn : Outside → Sheet → Stored → ℕ → ℕ → List ℕ
+ownIn O s o j c = if eqb j 10 then ownFieldsIn O s o c else if isClassRow s c then map (a s) (kidsOf s j (c - 256)) else map (λ m. m .name) (recordOf O c .methods)
 
 -- the names of class c after inheritance; n bounds the climb
-unfoldable pub namesIn : Sheet → Stored → ℕ → ℕ → ℕ → List ℕ
-namesIn s o j zero c = []
-namesIn s o j (suc n) c =
-    let up : List ℕ = namesIn s o j n (parentIn s o c) in
-    if eqb (parentIn s o c) 0 then ownIn s o j c else mergeFields up (ownIn s o j c)
+unfoldable pub namesIn : Outside → Sheet → Stored → ℕ → ℕ → ℕ → List ℕ
+namesIn O s o j zero c = []
+namesIn O s o j (suc n) c =
+    let up : List ℕ = namesIn O s o j n (parentIn s o c) in
+    if eqb (parentIn s o c) 0 then ownIn O s o j c else mergeFields up (ownIn O s o j c)
 
 -- the names that a class inherits from its parent p; no class has number 0
-unfoldable pub inherited : Sheet → Stored → ℕ → ℕ → ℕ → List ℕ
-inherited s o j n p = if eqb p 0 then [] else namesIn s o j n p
+unfoldable pub inherited : Outside → Sheet → Stored → ℕ → ℕ → ℕ → List ℕ
+inherited O s o j n p = if eqb p 0 then [] else namesIn O s o j n p
 
 -- the names of a list that are not inherited
 abbrev pub newOf : List ℕ → List ℕ → List ℕ
@@ -42,15 +43,15 @@ pub record ParentMarks (s t marks : List ℕ) : Type 0 where
   pub told : (o : Store) (q : List ℕ) (j : ℕ) → j < rows s → not (eqb (getD marks j 0) 0) ≡ hasChildrenIn s (storeOf o t q) (256 + j)
 
 -- Row r stands in a sheet that is not too long, with the marks of its parents, and its fields and methods can be counted in a word.
-pub record ClassReady (s t q marks : List ℕ) (r : ℕ) : Type 0 where
+pub record ClassReady (O : Outside) (s t q marks : List ℕ) (r : ℕ) : Type 0 where
   pub row : r < rows s
   pub short : length s ≤ 16384
   pub marked : ParentMarks s t marks
-  pub fields : (o : Store) → length (fieldsIn s (storeOf o t q) (rows s) (256 + r)) ≤ 4294967295
-  pub methods : (o : Store) → length (methodNamesIn s (storeOf o t q) (rows s) (256 + r)) ≤ 4294967295
+  pub fields : (o : Store) → length (fieldsIn O s (storeOf o t q) (rows s) (256 + r)) ≤ 4294967295
+  pub methods : (o : Store) → length (methodNamesIn O s (storeOf o t q) (rows s) (256 + r)) ≤ 4294967295
 
 -- the code and the values of the first row of the class of row r
-unfoldable pub headWords : Sheet → Stored → ℕ → List ℕ
-headWords s o r =
-    22 ∷ parentIn s o (256 + r) ∷ bit (hasChildrenIn s o (256 + r)) ∷ length (fieldsIn s o (rows s) (256 + r))
-    ∷ length (methodNamesIn s o (rows s) (256 + r)) ∷ []
+unfoldable pub headWords : Outside → Sheet → Stored → ℕ → List ℕ
+headWords O s o r =
+    22 ∷ parentIn s o (256 + r) ∷ bit (hasChildrenIn s o (256 + r)) ∷ length (fieldsIn O s o (rows s) (256 + r))
+    ∷ length (methodNamesIn O s o (rows s) (256 + r)) ∷ []

@@ -6,6 +6,7 @@ use lib.Dec.{eqb}
 use lib.ListN.{getD}
 use Rattle.definition.specs.Basics.{if_then_else_}
 use Rattle.definition.specs.Sheet.{Sheet, rows}
+use Rattle.definition.specs.Outside.{Outside}
 use Rattle.definition.specs.Classes.{methodNamed, ownMethods}
 use Rattle.machine.specs.Machine.{Store as Stored, oneMore}
 use Rattle.after.specs.Inherited.{methodsIn}
@@ -35,10 +36,10 @@ abbrev pub wordsOf : AnswerRow → List ℕ
 wordsOf x = x .row ∷ x .code ∷ x .one ∷ x .two ∷ x .three ∷ x .four ∷ 0 ∷ 0 ∷ []
 
 -- the row that tells name m: a field by its slot, a method by its function
-unfoldable pub nameRow : Sheet → Stored → Wanted → ℕ → ℕ → List ℕ
-nameRow s o w m i =
+unfoldable pub nameRow : Outside → Sheet → Stored → Wanted → ℕ → ℕ → List ℕ
+nameRow O s o w m i =
     if eqb (w .kind) 10 then w .row ∷ 23 ∷ i ∷ m ∷ 0 ∷ 0 ∷ 0 ∷ 0 ∷ []
-    else w .row ∷ 24 ∷ m ∷ methodNamed m (methodsIn s o (rows s) (w .whole)) ∷ 0 ∷ 0 ∷ 0 ∷ 0 ∷ []
+    else w .row ∷ 24 ∷ m ∷ methodNamed m (methodsIn O s o (rows s) (w .whole)) ∷ 0 ∷ 0 ∷ 0 ∷ 0 ∷ []
 
 -- one name more, and the names of a list, by the row f that tells a name at a slot
 unfoldable pub put : (ℕ → ℕ → List ℕ) → ℕ → Filled → Filled
@@ -49,13 +50,13 @@ putAll f [] k = k
 putAll f (m ∷ ms) k = putAll f ms (put f m k)
 
 -- the names of a list that are not inherited from the parent p
-abbrev pub putNew : Sheet → Stored → Wanted → Passed → List ℕ → Filled → Filled
-putNew s o w p ms k = putAll (nameRow s o w) (newOf (inherited s o (w .kind) (p .left) (p .class)) ms) k
+abbrev pub putNew : Outside → Sheet → Stored → Wanted → Passed → List ℕ → Filled → Filled
+putNew O s o w p ms k = putAll (nameRow O s o w) (newOf (inherited O s o (w .kind) (p .left) (p .class)) ms) k
 
 -- the row that tells the name of row i of the words v, at slot k: a method by the own function of that name, else by that of row i
-unfoldable pub copiedRow : Sheet → Wanted → List ℕ → ℕ → ℕ → List ℕ
-copiedRow s w v i k =
+unfoldable pub copiedRow : Outside → Sheet → Wanted → List ℕ → ℕ → ℕ → List ℕ
+copiedRow O s w v i k =
     let m : ℕ = getD v (8 * i + 2) 0 in
     let f : ℕ = getD v (8 * i + 3) 0 in
-    let own : ℕ = methodNamed m (ownMethods s (w .whole)) in
+    let own : ℕ = methodNamed m (ownMethods O s (w .whole)) in
     if eqb (w .kind) 10 then w .row ∷ 23 ∷ k ∷ f ∷ 0 ∷ 0 ∷ 0 ∷ 0 ∷ [] else w .row ∷ 24 ∷ m ∷ (if eqb own 0 then f else own) ∷ 0 ∷ 0 ∷ 0 ∷ 0 ∷ []

@@ -1,17 +1,17 @@
 // Which names a class has: its own, and after inheritance. The kind of the rows tells the names: 10 fields, 6 methods.
 ghost use mathlib.Core.Path.{_≡_};
 ghost use Rattle.definition.specs.Basics.{from, _∈?_};
-ghost use Rattle.definition.specs.Outside.{recordOf};
+ghost use Rattle.definition.specs.Outside.{core, recordOf};
 ghost use Rattle.after.specs.Inherited.{ownFieldsIn};
 ghost use Rattle.store.specs.Stored.{storeOf};
 ghost use Rattle.store.specs.declared.nodes.Store.{Store};
 ghost use Rattle.class_rows.specs.Names.{ownIn, namesIn, inherited};
 use ast::ClassId;
 use ast::FIRST_CLASS;
-use inherit::is_class_row;
 use inherit::parent_of;
 use store::nodes::has_key;
 use tree::lists::has_named;
+use tree::lists::is_class_row;
 use tree::words::word;
 
 // Is `m` among the `n` numbers from `i` on?
@@ -23,7 +23,7 @@ fn in_range(m: u32, i: u32, n: u32) -> bool
 
 // Has a class from outside the sheet a field of name `m`?
 fn is_outside_field(c: ClassId, m: u32) -> bool
-    ensures { λ x. ⌜ x ≡ (m ∈? recordOf (c .0) .fields) ⌝ }
+    ensures { λ x. ⌜ x ≡ (m ∈? recordOf core (c .0) .fields) ⌝ }
 {
     let n = c.0;
     match n {
@@ -36,7 +36,7 @@ fn is_outside_field(c: ClassId, m: u32) -> bool
 
 // Has a class an own field of name `m`?
 fn is_own_field(s: &[u32], t: &[u32], q: &[u32], c: ClassId, m: u32) -> bool
-    ensures { λ x. ⌜ ((o : Store) → x ≡ (m ∈? ownFieldsIn (now (s .entry)) (storeOf o (now (t .entry)) (now (q .entry))) (c .0))) ⌝ }
+    ensures { λ x. ⌜ ((o : Store) → x ≡ (m ∈? ownFieldsIn core (now (s .entry)) (storeOf o (now (t .entry)) (now (q .entry))) (c .0))) ⌝ }
 {
     if is_class_row(s, c.0) {
         let r = c.0 - FIRST_CLASS;
@@ -50,20 +50,20 @@ fn is_own_field(s: &[u32], t: &[u32], q: &[u32], c: ClassId, m: u32) -> bool
 
 // Is `m` an own name of a class?
 fn is_own(s: &[u32], t: &[u32], q: &[u32], kind: u32, c: ClassId, m: u32) -> bool
-    ensures { λ x. ⌜ ((o : Store) → x ≡ (m ∈? ownIn (now (s .entry)) (storeOf o (now (t .entry)) (now (q .entry))) kind (c .0))) ⌝ }
+    ensures { λ x. ⌜ ((o : Store) → x ≡ (m ∈? ownIn core (now (s .entry)) (storeOf o (now (t .entry)) (now (q .entry))) kind (c .0))) ⌝ }
 {
     if kind == 10 {
         return is_own_field(s, t, q, c, m);
     }
-    if c.0 < FIRST_CLASS {
-        return false;
+    if is_class_row(s, c.0) {
+        return has_named(s, c.0 - FIRST_CLASS, kind, m);
     }
-    has_named(s, c.0 - FIRST_CLASS, kind, m)
+    false
 }
 
 // Is `m` a name of class `c` after inheritance? It climbs at most `n` classes.
 pub fn has_name(s: &[u32], t: &[u32], q: &[u32], kind: u32, n: usize, c: ClassId, m: u32) -> bool
-    ensures { λ x. ⌜ ((o : Store) → x ≡ (m ∈? namesIn (now (s .entry)) (storeOf o (now (t .entry)) (now (q .entry))) kind n (c .0))) ⌝ }
+    ensures { λ x. ⌜ ((o : Store) → x ≡ (m ∈? namesIn core (now (s .entry)) (storeOf o (now (t .entry)) (now (q .entry))) kind n (c .0))) ⌝ }
 {
     let mut at = c.0;
     let mut left = n;
@@ -91,7 +91,7 @@ pub fn is_inherited(
     p: ClassId,
     m: u32,
 ) -> bool
-    ensures { λ x. ⌜ ((o : Store) → x ≡ (m ∈? inherited (now (s .entry)) (storeOf o (now (t .entry)) (now (q .entry))) kind n (p .0))) ⌝ }
+    ensures { λ x. ⌜ ((o : Store) → x ≡ (m ∈? inherited core (now (s .entry)) (storeOf o (now (t .entry)) (now (q .entry))) kind n (p .0))) ⌝ }
 {
     if p.0 == 0 {
         return false;

@@ -7,6 +7,7 @@ ghost use lib.Dec.{eqb};
 ghost use lib.ListN.{length, getD};
 ghost use Rattle.definition.specs.Basics.{bit};
 ghost use Rattle.definition.specs.Answer.{eight};
+ghost use Rattle.definition.specs.Outside.{core};
 ghost use Rattle.after.specs.Rows.{classRowsNamed};
 ghost use Rattle.sink.specs.Sink.{sink, emitAll};
 ghost use Rattle.store.specs.Stored.{storeOf};
@@ -70,8 +71,8 @@ fn class_head(
     methods: Above,
     r: u32,
 ) -> AnswerRow
-    requires { ⌜ (ClassReady (now s) (now t) (now q) (now marks) r) × (Counted (now s) (now t) (now q) 10 (256 + r) fields) × (Counted (now s) (now t) (now q) 6 (256 + r) methods) ⌝ }
-    ensures { λ x. ⌜ ((o : Store) → wordsOf x ≡ eight (r ∷ headWords (now (s .entry)) (storeOf o (now (t .entry)) (now (q .entry))) r)) ⌝ }
+    requires { ⌜ (ClassReady core (now s) (now t) (now q) (now marks) r) × (Counted core (now s) (now t) (now q) 10 (256 + r) fields) × (Counted core (now s) (now t) (now q) 6 (256 + r) methods) ⌝ }
+    ensures { λ x. ⌜ ((o : Store) → wordsOf x ≡ eight (r ∷ headWords core (now (s .entry)) (storeOf o (now (t .entry)) (now (q .entry))) r)) ⌝ }
 {
     let parent = parent_of(s, t, ClassId(FIRST_CLASS + r)).0;
     let children = mark_bit(marks, r);
@@ -99,8 +100,8 @@ fn write_class(
     k: usize,
     out: &mut [u32],
 ) -> usize
-    requires { ⌜ (ClassReady (now s) (now t) (now q) (now marks) r) × (Shown (now s) (now t) (now q) 10 (256 + r) (now out) k fields) × (Shown (now s) (now t) (now q) 6 (256 + r) (now out) k methods) ⌝ }
-    ensures { λ x. ⌜ ((o : Store) → sink x (now (out .exit)) ≡ emitAll (map (λ vs. eight (r ∷ vs)) (classRowsNamed (now (s .entry)) (storeOf o (now (t .entry)) (now (q .entry))) r)) (sink k (now (out .entry)))) ⌝ }
+    requires { ⌜ (ClassReady core (now s) (now t) (now q) (now marks) r) × (Shown core (now s) (now t) (now q) 10 (256 + r) (now out) k fields) × (Shown core (now s) (now t) (now q) 6 (256 + r) (now out) k methods) ⌝ }
+    ensures { λ x. ⌜ ((o : Store) → sink x (now (out .exit)) ≡ emitAll (map (λ vs. eight (r ∷ vs)) (classRowsNamed core (now (s .entry)) (storeOf o (now (t .entry)) (now (q .entry))) r)) (sink k (now (out .entry)))) ⌝ }
 {
     let head = class_head(s, t, q, marks, fields, methods, r);
     let first = Written {
@@ -127,8 +128,8 @@ pub fn emit_class(
     k: usize,
     out: &mut [u32],
 ) -> usize
-    requires { ⌜ (ClassReady (now s) (now t) (now q) (now marks) r) × (Placed (now s) (now t) (now q) (now places) (now out) r k) ⌝ }
-    ensures { λ x. ⌜ ((o : Store) → sink x (now (out .exit)) ≡ emitAll (map (λ vs. eight (r ∷ vs)) (classRowsNamed (now (s .entry)) (storeOf o (now (t .entry)) (now (q .entry))) r)) (sink k (now (out .entry)))) × (Placed (now (s .entry)) (now (t .entry)) (now (q .entry)) (now (places .exit)) (now (out .exit)) (r + 1) x) ⌝ }
+    requires { ⌜ (ClassReady core (now s) (now t) (now q) (now marks) r) × (Placed core (now s) (now t) (now q) (now places) (now out) r k) ⌝ }
+    ensures { λ x. ⌜ ((o : Store) → sink x (now (out .exit)) ≡ emitAll (map (λ vs. eight (r ∷ vs)) (classRowsNamed core (now (s .entry)) (storeOf o (now (t .entry)) (now (q .entry))) r)) (sink k (now (out .entry)))) × (Placed core (now (s .entry)) (now (t .entry)) (now (q .entry)) (now (places .exit)) (now (out .exit)) (r + 1) x) ⌝ }
 {
     let room = out.len() / 8;
     if room <= k {

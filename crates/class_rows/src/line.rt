@@ -3,6 +3,7 @@ ghost use mathlib.Core.Path.{_≡_};
 ghost use Prim.Native.Nat.{_<_, min};
 ghost use lib.ListN.{length};
 ghost use Rattle.definition.specs.Sheet.{rows};
+ghost use Rattle.definition.specs.Outside.{core};
 ghost use Rattle.store.specs.Stored.{storeOf};
 ghost use Rattle.store.specs.declared.nodes.Store.{Store};
 ghost use Rattle.class_rows.specs.Names.{namesIn};
@@ -29,8 +30,8 @@ pub fn put_line(
     k: Written,
     out: &mut [u32],
 ) -> Written
-    requires { ⌜ (0 < rows (now s)) × (Shown (now s) (now t) (now q) (w .kind) (w .whole) (now out) (k .count) a) ⌝ }
-    ensures { λ x. ⌜ ((o : Store) → filled x (now (out .exit)) ≡ putAll (nameRow (now (s .entry)) (storeOf o (now (t .entry)) (now (q .entry))) w) (namesIn (now (s .entry)) (storeOf o (now (t .entry)) (now (q .entry))) (w .kind) (rows (now (s .entry))) (w .whole)) (filled k (now (out .entry)))) ⌝ }
+    requires { ⌜ (0 < rows (now s)) × (Shown core (now s) (now t) (now q) (w .kind) (w .whole) (now out) (k .count) a) ⌝ }
+    ensures { λ x. ⌜ ((o : Store) → filled x (now (out .exit)) ≡ putAll (nameRow core (now (s .entry)) (storeOf o (now (t .entry)) (now (q .entry))) w) (namesIn core (now (s .entry)) (storeOf o (now (t .entry)) (now (q .entry))) (w .kind) (rows (now (s .entry))) (w .whole)) (filled k (now (out .entry)))) ⌝ }
 {
     let n = s.len() / 8;
     let c = ClassId(w.whole);
@@ -47,8 +48,8 @@ pub fn put_line(
 
 // How many names the wanted class has, or the largest number of a word.
 pub fn count_line(s: &[u32], t: &[u32], q: &[u32], w: Wanted, a: Above) -> u32
-    requires { ⌜ (0 < rows (now s)) × (Counted (now s) (now t) (now q) (w .kind) (w .whole) a) ⌝ }
-    ensures { λ x. ⌜ ((o : Store) → x ≡ min (length (namesIn (now (s .entry)) (storeOf o (now (t .entry)) (now (q .entry))) (w .kind) (rows (now (s .entry))) (w .whole))) 4294967295) ⌝ }
+    requires { ⌜ (0 < rows (now s)) × (Counted core (now s) (now t) (now q) (w .kind) (w .whole) a) ⌝ }
+    ensures { λ x. ⌜ ((o : Store) → x ≡ min (length (namesIn core (now (s .entry)) (storeOf o (now (t .entry)) (now (q .entry))) (w .kind) (rows (now (s .entry))) (w .whole))) 4294967295) ⌝ }
 {
     let n = s.len() / 8;
     let c = ClassId(w.whole);

@@ -5,7 +5,7 @@ ghost use Prim.Native.Nat.{ℕ, _+_, _≤_, min};
 ghost use lib.ListN.{length};
 ghost use Rattle.definition.specs.Basics.{from};
 ghost use Rattle.definition.specs.Sheet.{a, kidsOf};
-ghost use Rattle.definition.specs.Outside.{recordOf};
+ghost use Rattle.definition.specs.Outside.{core, recordOf};
 ghost use Rattle.machine.specs.Machine.{chainTo};
 ghost use Rattle.store.specs.Stored.{storeOf};
 ghost use Rattle.store.specs.declared.nodes.Store.{Store};
@@ -15,13 +15,13 @@ use crate::held::is_inherited;
 use ast::ClassId;
 use ast::FIRST_CLASS;
 use inherit::find_method;
-use inherit::is_class_row;
 use inherit::parent_of;
 use sink::AnswerRow;
 use sink::emit;
 use store::nodes::node_before;
 use store::nodes::node_word;
 use symbols::decl::one_more;
+use tree::lists::is_class_row;
 use tree::words::word;
 
 // Whose names are written, and which: the kind of their rows, the class's row, the class's number.
@@ -45,7 +45,7 @@ pub struct Passed {
 
 // The row that tells name `m` at slot `i`.
 fn name_row(s: &[u32], t: &[u32], w: Wanted, m: u32, i: u32) -> AnswerRow
-    ensures { λ x. ⌜ ((o : Store) (q : List ℕ) → wordsOf x ≡ nameRow (now (s .entry)) (storeOf o (now (t .entry)) q) w m i) ⌝ }
+    ensures { λ x. ⌜ ((o : Store) (q : List ℕ) → wordsOf x ≡ nameRow core (now (s .entry)) (storeOf o (now (t .entry)) q) w m i) ⌝ }
 {
     if w.kind == 10 {
         return AnswerRow {
@@ -70,7 +70,7 @@ fn name_row(s: &[u32], t: &[u32], w: Wanted, m: u32, i: u32) -> AnswerRow
 
 // One name more.
 fn put_name(s: &[u32], t: &[u32], w: Wanted, m: u32, k: Written, out: &mut [u32]) -> Written
-    ensures { λ x. ⌜ ((o : Store) (q : List ℕ) → filled x (now (out .exit)) ≡ put (nameRow (now (s .entry)) (storeOf o (now (t .entry)) q) w) m (filled k (now (out .entry)))) ⌝ }
+    ensures { λ x. ⌜ ((o : Store) (q : List ℕ) → filled x (now (out .exit)) ≡ put (nameRow core (now (s .entry)) (storeOf o (now (t .entry)) q) w) m (filled k (now (out .entry)))) ⌝ }
 {
     let x = name_row(s, t, w, m, k.slot);
     let count = emit(out, k.count, x);
@@ -92,7 +92,7 @@ fn put_new(
     k: Written,
     out: &mut [u32],
 ) -> Written
-    ensures { λ x. ⌜ ((o : Store) → filled x (now (out .exit)) ≡ putNew (now (s .entry)) (storeOf o (now (t .entry)) (now (q .entry))) w p (m ∷ []) (filled k (now (out .entry)))) ⌝ }
+    ensures { λ x. ⌜ ((o : Store) → filled x (now (out .exit)) ≡ putNew core (now (s .entry)) (storeOf o (now (t .entry)) (now (q .entry))) w p (m ∷ []) (filled k (now (out .entry)))) ⌝ }
 {
     if is_inherited(s, t, q, w.kind, p.left, ClassId(p.class), m) {
         return k;
@@ -113,7 +113,7 @@ fn put_range(
     out: &mut [u32],
 ) -> Written
     requires { ⌜ i + n ≤ 256 ⌝ }
-    ensures { λ x. ⌜ ((o : Store) → filled x (now (out .exit)) ≡ putNew (now (s .entry)) (storeOf o (now (t .entry)) (now (q .entry))) w p (from i n) (filled k (now (out .entry)))) ⌝ }
+    ensures { λ x. ⌜ ((o : Store) → filled x (now (out .exit)) ≡ putNew core (now (s .entry)) (storeOf o (now (t .entry)) (now (q .entry))) w p (from i n) (filled k (now (out .entry)))) ⌝ }
 {
     let mut done = k;
     let mut at = i;
@@ -137,7 +137,7 @@ fn put_outside(
     k: Written,
     out: &mut [u32],
 ) -> Written
-    ensures { λ x. ⌜ ((o : Store) → filled x (now (out .exit)) ≡ putNew (now (s .entry)) (storeOf o (now (t .entry)) (now (q .entry))) w p (recordOf (c .0) .fields) (filled k (now (out .entry)))) ⌝ }
+    ensures { λ x. ⌜ ((o : Store) → filled x (now (out .exit)) ≡ putNew core (now (s .entry)) (storeOf o (now (t .entry)) (now (q .entry))) w p (recordOf core (c .0) .fields) (filled k (now (out .entry)))) ⌝ }
 {
     let n = c.0;
     match n {
@@ -162,7 +162,7 @@ fn put_listed(
     k: Written,
     out: &mut [u32],
 ) -> Written
-    ensures { λ x. ⌜ ((o : Store) → filled x (now (out .exit)) ≡ putNew (now (s .entry)) (storeOf o (now (t .entry)) (now (q .entry))) w p (map (a (now (s .entry))) (kidsOf (now (s .entry)) (w .kind) r)) (filled k (now (out .entry)))) ⌝ }
+    ensures { λ x. ⌜ ((o : Store) → filled x (now (out .exit)) ≡ putNew core (now (s .entry)) (storeOf o (now (t .entry)) (now (q .entry))) w p (map (a (now (s .entry))) (kidsOf (now (s .entry)) (w .kind) r)) (filled k (now (out .entry)))) ⌝ }
 {
     let mut done = k;
     let mut left = s.len() / 8;
@@ -192,7 +192,7 @@ fn put_stored(
     k: Written,
     out: &mut [u32],
 ) -> Written
-    ensures { λ x. ⌜ ((o : Store) → filled x (now (out .exit)) ≡ putNew (now (s .entry)) (storeOf o (now (t .entry)) (now (q .entry))) w p (map (λ y. y .key) (chainTo (now (q .entry)) last)) (filled k (now (out .entry)))) ⌝ }
+    ensures { λ x. ⌜ ((o : Store) → filled x (now (out .exit)) ≡ putNew core (now (s .entry)) (storeOf o (now (t .entry)) (now (q .entry))) w p (map (λ y. y .key) (chainTo (now (q .entry)) last)) (filled k (now (out .entry)))) ⌝ }
 {
     if last == 0 {
         return k;
@@ -214,7 +214,7 @@ pub fn put_own(
     k: Written,
     out: &mut [u32],
 ) -> Written
-    ensures { λ x. ⌜ ((o : Store) → filled x (now (out .exit)) ≡ putNew (now (s .entry)) (storeOf o (now (t .entry)) (now (q .entry))) w p (ownIn (now (s .entry)) (storeOf o (now (t .entry)) (now (q .entry))) (w .kind) (c .0)) (filled k (now (out .entry)))) ⌝ }
+    ensures { λ x. ⌜ ((o : Store) → filled x (now (out .exit)) ≡ putNew core (now (s .entry)) (storeOf o (now (t .entry)) (now (q .entry))) w p (ownIn core (now (s .entry)) (storeOf o (now (t .entry)) (now (q .entry))) (w .kind) (c .0)) (filled k (now (out .entry)))) ⌝ }
 {
     if w.kind == 10 {
         if is_class_row(s, c.0) {
@@ -224,10 +224,10 @@ pub fn put_own(
         }
         return put_outside(s, t, q, w, p, c, k, out);
     }
-    if c.0 < FIRST_CLASS {
-        return k;
+    if is_class_row(s, c.0) {
+        return put_listed(s, t, q, w, p, c.0 - FIRST_CLASS, k, out);
     }
-    put_listed(s, t, q, w, p, c.0 - FIRST_CLASS, k, out)
+    k
 }
 
 // The names of class `c`: the inherited, then the own ones that are new. It climbs at most `n` classes.
@@ -241,7 +241,7 @@ pub fn put_names(
     k: Written,
     out: &mut [u32],
 ) -> Written
-    ensures { λ x. ⌜ ((o : Store) → filled x (now (out .exit)) ≡ putAll (nameRow (now (s .entry)) (storeOf o (now (t .entry)) (now (q .entry))) w) (namesIn (now (s .entry)) (storeOf o (now (t .entry)) (now (q .entry))) (w .kind) n (c .0)) (filled k (now (out .entry)))) ⌝ }
+    ensures { λ x. ⌜ ((o : Store) → filled x (now (out .exit)) ≡ putAll (nameRow core (now (s .entry)) (storeOf o (now (t .entry)) (now (q .entry))) w) (namesIn core (now (s .entry)) (storeOf o (now (t .entry)) (now (q .entry))) (w .kind) n (c .0)) (filled k (now (out .entry)))) ⌝ }
 {
     if n == 0 {
         return k;
@@ -260,7 +260,7 @@ pub fn put_names(
 
 // How many names class `c` has, or the largest number of a word. Nothing is written: not one row fits.
 pub fn count_names(s: &[u32], t: &[u32], q: &[u32], w: Wanted, n: usize, c: ClassId) -> u32
-    ensures { λ x. ⌜ ((o : Store) → x ≡ min (length (namesIn (now (s .entry)) (storeOf o (now (t .entry)) (now (q .entry))) (w .kind) n (c .0))) 4294967295) ⌝ }
+    ensures { λ x. ⌜ ((o : Store) → x ≡ min (length (namesIn core (now (s .entry)) (storeOf o (now (t .entry)) (now (q .entry))) (w .kind) n (c .0))) 4294967295) ⌝ }
 {
     let mut none = [0u32; 1];
     let start = Written { count: 0, slot: 0 };

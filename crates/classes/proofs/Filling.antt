@@ -9,6 +9,7 @@ use lib.ListN.{length, getD}
 use lib.Dec.{eqb, T}
 use Rattle.definition.specs.Basics.{if_then_else_, first, from, _∈?_}
 use Rattle.definition.specs.Sheet.{Sheet, next, child, a, rows, kids}
+use Rattle.definition.specs.Outside.{Outside}
 use Rattle.definition.specs.Classes.{classOf}
 use Rattle.definition.proofs.Lists.Tests.{ℕ-trichotomy}
 use Rattle.definition.proofs.Format.Links.{Rises, LinkFacts, linker, kid-bounds, child-held, next-held}
@@ -46,7 +47,7 @@ row-length : (s : Sheet) (r : ℕ) (t : List ℕ) → length (rowDone s r t) ≡
 unfolding rowDone
 row-length s r t = linked-length (next s r) _ (childDone s r t) ∙ linked-length (child s r) (kidsClass s r) t
 
-module _ (s : Sheet) (ok : PastFour s) where
+module _ (O : Outside) (s : Sheet) (ok : PastFour O s) where
   fa : SheetFacts (ok .names) s
   fa = sheet-facts (ok .names) s (ok .fitting)
 

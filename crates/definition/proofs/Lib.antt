@@ -5,3 +5,5 @@ pub mod Lists
 pub mod Format
 pub mod Walk
 pub mod Closure
+-- the classes of a sheet
+pub mod Classes

@@ -2,8 +2,10 @@
 use mathlib.Core.Path.{_≡_, sym, subst}
 use mathlib.Core.List.{List}
 use Prim.Native.Nat.{ℕ}
+use native.Mathlib.Omega.{arith}
 use lib.Dec.{T}
 use Rattle.definition.specs.Sheet.{Sheet}
+use Rattle.definition.specs.Outside.{core, OutsideFits}
 use Rattle.definition.specs.Names.{nameCount}
 use Rattle.definition.specs.Format.{sheetFits}
 use Rattle.definition.specs.Outcome.{rowsFit, outcome}
@@ -15,13 +17,17 @@ use Rattle.definition.proofs.Walk.Fitting.{fits}
 use Rattle.definition.proofs.Walk.Bounds.{walk-bounds}
 use Rattle.definition.proofs.Closure.Demand.{demand-3}
 
+-- what stands outside a plain sheet
+pub core-fits : OutsideFits core
+core-fits = record { outward = tt; apart = tt; few = omega arith; few-fields = tt; few-methods = tt; methods-apart = tt; functions-some = tt }
+
 -- Demand 3, whole: of the words of a sheet, the bytes of its names and the number of words of the lent buffer, where no
 -- question gets a no, the closure claim holds of the answer rows.
-pub closure-claim : (s : Sheet) (names : List ℕ) (lent : ℕ) → outcome s names lent .number ≡ 0 → Demand3 s (outcome s names lent .rows)
+pub closure-claim : (s : Sheet) (names : List ℕ) (lent : ℕ) → outcome s names lent .number ≡ 0 → Demand3 core s (outcome s names lent .rows)
 closure-claim s names lent e =
     let x : Accepted s names lent = accepted s names lent e in
-    subst (Demand3 s) (sym (x .rows)) (demand-3 (fits (nameCount names) s (some-row s (x .whole)) (true-of (sheetFits (nameCount names) s) (x .fitting))))
+    subst (Demand3 core s) (sym (x .rows)) (demand-3 (fits (nameCount names) s core-fits (some-row s (x .whole)) (true-of (sheetFits (nameCount names) s) (x .fitting))))
 
 -- How long the walk is, of every sheet past questions 1 and 3, with n names.
 pub walk-bounded : (s : Sheet) (n : ℕ) → T (rowsFit s) → T (sheetFits n s) → WalkBounds s
-walk-bounded s n whole fitting = walk-bounds (fits n s (some-row s whole) (true-of (sheetFits n s) fitting))
+walk-bounded s n whole fitting = walk-bounds (fits n s core-fits (some-row s whole) (true-of (sheetFits n s) fitting))

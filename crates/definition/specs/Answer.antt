@@ -1,13 +1,13 @@
 -- The answer rows, in rising sheet row.
-use mathlib.Core.Bool.{Bool, not, _&&_}
+use mathlib.Core.Bool.{Bool, not, _&&_, _||_}
 use mathlib.Core.List.{List, [], _∷_, _++_, map}
-use Prim.Native.Nat.{ℕ, suc, _+_}
-use lib.ListN.{length, take, replicate}
-use lib.Dec.{eqb}
+use Prim.Native.Nat.{ℕ, zero, suc, _+_, _-_}
+use lib.ListN.{length, getD, set, take, replicate}
+use lib.Dec.{eqb, ltb}
 use Rattle.definition.specs.Basics.{if_then_else_, filter, concatMap, from, bit}
 use Rattle.definition.specs.Sheet.{Sheet, child, a, b, rows, is, holder}
 use Rattle.definition.specs.Meaning.{isClass, classNumber}
-use Rattle.definition.specs.Outside.{Method}
+use Rattle.definition.specs.Outside.{Outside, Method}
 use Rattle.definition.specs.Scope.{Moment, lookup, visited, visits, visitOf, declaringOf, declaration, within}
 use Rattle.definition.specs.Slots.{code, openLocals, localCount}
 use Rattle.definition.specs.Capture.{useAt, captures, seenFrom, sources, escaping}
@@ -37,12 +37,6 @@ module _ (s : Sheet) (h : List Moment) where
       map (λ m. seenFrom s h (within s m) (useAt s m))
       (filter (λ m. not (isCalleeBase s r && isClass (useAt s m .means))) (visitOf h r))
 
-  -- a member: the function where it is a class method's callee
-  abbrev pub memberRow : ℕ → List (List ℕ)
-  memberRow r =
-      map (λ m. 1 ∷ methodNamed (a s r) (ownMethods s (receiver s (visited (m .event)) (m .stack))) ∷ [])
-      (filter (λ m. eqb (child s (visited (m .event))) r) classCalls)
-
   -- MAIN_UNIT: true in the main function itself
   abbrev pub hostRow : ℕ → List (List ℕ)
   hostRow r = map (λ m. (if eqb (within s m) (b s 0) then 7 else 8) ∷ []) (visitOf h r)
@@ -66,29 +60,59 @@ module _ (s : Sheet) (h : List Moment) where
   numbered i [] = []
   numbered i (n ∷ ns) = (23 ∷ i ∷ n ∷ []) ∷ numbered (suc i) ns
 
+module _ (O : Outside) (s : Sheet) (h : List Moment) where
+  -- a member: the function where it is a class method's callee
+  abbrev pub memberRow : ℕ → List (List ℕ)
+  memberRow r =
+      map (λ m. 1 ∷ methodNamed (a s r) (ownMethods O s (receiver s (visited (m .event)) (m .stack))) ∷ [])
+      (filter (λ m. eqb (child s (visited (m .event))) r) (classCalls s h))
+
   -- a class: its counts, its fields by slot, its methods
   abbrev pub classRows : ℕ → List (List ℕ)
   classRows r =
       let c : ℕ = 256 + r in
-      let fs : List ℕ = fields s h (rows s) c in
-      let ms : List Method = methods s h (rows s) c in
+      let fs : List ℕ = fields O s h (rows s) c in
+      let ms : List Method = methods O s h (rows s) c in
       (22 ∷ parentOf s h c ∷ bit (hasChildren s h c) ∷ length fs ∷ length ms ∷ [])
-      ∷ numbered 0 fs
+      ∷ numbered s h 0 fs
       ++ map (λ m. 24 ∷ m .name ∷ m .fun ∷ []) ms
 
   -- the answer rows of sheet row r, without its number
   abbrev pub rowsOf : ℕ → List (List ℕ)
   rowsOf r =
-      if is s 29 r then letRow r
-      else if is s 50 r then identifierRow r
-      else if is s 51 r then hostRow r
-      else if is s 55 r then instanceRow r
+      if is s 29 r then letRow s h r
+      else if is s 50 r then identifierRow s h r
+      else if is s 51 r then hostRow s h r
+      else if is s 55 r then instanceRow s h r
       else if is s 54 r then memberRow r
-      else if is s 52 r then literalRows r
-      else if is s 6 r then functionRows r
+      else if is s 52 r then literalRows s h r
+      else if is s 6 r then functionRows s h r
       else if is s 4 r then classRows r
       else []
 
   -- all answer rows
   abbrev pub answers : List (List ℕ)
   answers = concatMap (λ r. map (λ vs. eight (r ∷ vs)) (rowsOf r)) (from 0 (rows s))
+
+-- A function as answer rows number it, over base n: one of the sheet is raised by it, one of an earlier entry has its own number.
+abbrev pub raisedFunction : ℕ → ℕ → ℕ
+raisedFunction n f = if ltb f 2048 then f + n else f - 2048
+
+-- a class: those of the core keep their numbers
+abbrev pub raisedClass : ℕ → ℕ → ℕ
+raisedClass n c = if ltb c 256 then c else 256 + raisedFunction n (c - 256)
+
+-- an answer row with its functions and classes so numbered
+abbrev pub raisedRow : ℕ → List ℕ → List ℕ
+raisedRow n x =
+    let c : ℕ = getD x 1 0 in
+    if eqb c 1 then set x 2 (raisedFunction n (getD x 2 0))
+    else if eqb c 2 || eqb c 22 then set x 2 (raisedClass n (getD x 2 0))
+    else if eqb c 4 || eqb c 5 then set x 3 (getD x 3 0 + n)
+    else if eqb c 24 then set x 3 (raisedFunction n (getD x 3 0))
+    else x
+
+-- the answer rows over base n; over base 0 there is no earlier entry, and nothing to raise
+abbrev pub raised : ℕ → List (List ℕ) → List (List ℕ)
+raised zero out = out
+raised (suc n) out = map (raisedRow (suc n)) out

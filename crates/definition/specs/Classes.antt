@@ -7,32 +7,40 @@ use lib.Dec.{eqb, leb}
 use Rattle.definition.specs.Basics.{if_then_else_, filter, any, first, final, distinct, largest, from, _∈?_}
 use Rattle.definition.specs.Sheet.{Sheet, child, a, b, rows, is, kidsOf, holder}
 use Rattle.definition.specs.Meaning.{classNumber}
-use Rattle.definition.specs.Outside.{Method, isRecorded, recordOf}
+use Rattle.definition.specs.Outside.{Outside, Method, isRecorded, recordOf}
 use Rattle.definition.specs.Scope.{Moment, lookup, visited, visits, within}
 
 -- is it a class of the sheet? They are numbered 256 + row
-abbrev pub ofSheet : ℕ → Bool
-ofSheet c = leb 256 c
+abbrev pub ofSheet : Sheet → ℕ → Bool
+ofSheet s c = leb 256 c && is s 4 (c - 256)
 
 -- has a class a record? Those of the sheet have, and some from outside
-abbrev pub hasRecord : ℕ → Bool
-hasRecord c = ofSheet c || isRecorded c
+abbrev pub hasRecord : Outside → Sheet → ℕ → Bool
+hasRecord O s c = ofSheet s c || isRecorded O c
 
 -- the name of a class that has a record
-abbrev pub className : Sheet → ℕ → ℕ
-className s c = if ofSheet c then a s (c - 256) else recordOf c .name
+abbrev pub className : Outside → Sheet → ℕ → ℕ
+className O s c = if ofSheet s c then a s (c - 256) else recordOf O c .name
+
+-- how many parameters a function of the sheet has
+abbrev pub arity : Sheet → ℕ → ℕ
+arity s f = length (kidsOf s 11 f)
+
+-- the method of function row f
+abbrev pub methodAt : Sheet → ℕ → Method
+methodAt s f = record { name = a s f; fun = f; params = arity s f }
 
 -- the own methods of a class
-abbrev pub ownMethods : Sheet → ℕ → List Method
-ownMethods s c = if ofSheet c then map (λ f. record { name = a s f; fun = f }) (kidsOf s 6 (c - 256)) else recordOf c .methods
+abbrev pub ownMethods : Outside → Sheet → ℕ → List Method
+ownMethods O s c = if ofSheet s c then map (methodAt s) (kidsOf s 6 (c - 256)) else recordOf O c .methods
+
+-- the method of a name in a list, or one of no function
+abbrev pub methodOf : ℕ → List Method → Method
+methodOf n ms = first (λ m. eqb (m .name) n) (record { name = 0; fun = 0; params = 0 }) ms
 
 -- the function of the method of a name in a list, or 0
 abbrev pub methodNamed : ℕ → List Method → ℕ
-methodNamed n ms = first (λ m. eqb (m .name) n) (record { name = 0; fun = 0 }) ms .fun
-
--- how many parameters a function has
-abbrev pub arity : Sheet → ℕ → ℕ
-arity s f = length (kidsOf s 11 f)
+methodNamed n ms = methodOf n ms .fun
 
 -- the class row of a method or of a literal's function, or 0
 abbrev pub classOf : Sheet → ℕ → ℕ
@@ -55,28 +63,29 @@ module _ (s : Sheet) (h : List Moment) where
       map (λ m. a s (child s (visited (m .event))))
       (filter (λ m. is s 54 (child s (visited (m .event))) && eqb (classOf s (within s m)) c) (visits s h 21))
 
-  -- the own fields of a class, by slot
-  abbrev pub ownFields : ℕ → List ℕ
-  ownFields c =
-      if ofSheet c then distinct eqb (map (a s) (kidsOf s 10 (c - 256)) ++ registered (c - 256)) else recordOf c .fields
-
   -- the parent of a class, or 0: what the parent's name means at the class declaration
   abbrev pub parentOf : ℕ → ℕ
   parentOf c =
-      if ofSheet c
+      if ofSheet s c
       then largest (final (map (λ m. classNumber (lookup (b s (c - 256)) (m .stack))) (filter (λ m. eqb (a s (visited (m .event))) (c - 256)) (visits s h 30))))
       else 0
-
-  -- the fields of a class after inheritance, by slot; n bounds the climb
-  abbrev pub fields : ℕ → ℕ → List ℕ
-  fields zero c = []
-  fields (suc n) c = let up = fields n (parentOf c) in if eqb (parentOf c) 0 then ownFields c else mergeFields up (ownFields c)
-
-  -- the methods of a class after inheritance; n bounds the climb
-  abbrev pub methods : ℕ → ℕ → List Method
-  methods zero c = []
-  methods (suc n) c = let up = methods n (parentOf c) in if eqb (parentOf c) 0 then ownMethods s c else mergeMethods up (ownMethods s c)
 
   -- is a class the parent of some class of the sheet?
   abbrev pub hasChildren : ℕ → Bool
   hasChildren c = any (λ r. is s 4 r && eqb (parentOf (256 + r)) c) (from 0 (rows s))
+
+module _ (O : Outside) (s : Sheet) (h : List Moment) where
+  -- the own fields of a class, by slot
+  abbrev pub ownFields : ℕ → List ℕ
+  ownFields c =
+      if ofSheet s c then distinct eqb (map (a s) (kidsOf s 10 (c - 256)) ++ registered s h (c - 256)) else recordOf O c .fields
+
+  -- the fields of a class after inheritance, by slot; n bounds the climb
+  abbrev pub fields : ℕ → ℕ → List ℕ
+  fields zero c = []
+  fields (suc n) c = let up = fields n (parentOf s h c) in if eqb (parentOf s h c) 0 then ownFields c else mergeFields up (ownFields c)
+
+  -- the methods of a class after inheritance; n bounds the climb
+  abbrev pub methods : ℕ → ℕ → List Method
+  methods zero c = []
+  methods (suc n) c = let up = methods n (parentOf s h c) in if eqb (parentOf s h c) 0 then ownMethods O s c else mergeMethods up (ownMethods O s c)

@@ -9,10 +9,11 @@ use Rattle.definition.specs.Sheet.{Sheet, file, line, column, rows}
 use Rattle.definition.specs.Names.{namesFit, nameCount}
 use Rattle.definition.specs.Format.{sheetFits, depthsFit}
 use Rattle.definition.specs.Text.{sheetOf, textOf}
+use Rattle.definition.specs.Outside.{Outside, core}
 use Rattle.definition.specs.Scope.{Moment, history}
 use Rattle.definition.specs.Slots.{finalGlobals}
 use Rattle.definition.specs.Question.{Refusal, refusal}
-use Rattle.definition.specs.Answer.{answers}
+use Rattle.definition.specs.Answer.{answers, raised}
 
 -- What comes of a sheet: the number of the first question with a no, or 0; its position and name; the answer rows; the
 -- final globals.
@@ -45,12 +46,12 @@ answered lent out g =
     then record { number = 0; file = 0; line = 0; column = 0; name = 0; rows = out; globals = g }
     else refused 22
 
--- questions 5 to 22
-abbrev pub asked : ℕ → Sheet → Outcome
-asked lent s =
-    let h : List Moment = history s in
-    let x : Refusal = refusal s h in
-    let answer : Outcome = answered lent (answers s h) (finalGlobals s h) in
+-- questions 5 to 22, of a sheet with what stands outside it
+abbrev pub asked : Outside → ℕ → Sheet → Outcome
+asked O lent s =
+    let h : List Moment = history O s in
+    let x : Refusal = refusal O s h in
+    let answer : Outcome = answered lent (raised (O .base) (answers O s h)) (finalGlobals s h) in
     if eqb (x .number) 0 then answer else refusedAt (x .number) s (x .at) (x .name)
 
 -- the outcome of a sheet and a byte list of names, with a buffer of `lent` words
@@ -60,7 +61,7 @@ outcome s ns lent =
     else if not (namesFit ns) then refused 2
     else if not (sheetFits (nameCount ns) s) then refused 3
     else if not (depthsFit s) then refused 4
-    else asked lent s
+    else asked core lent s
 
 -- what the buffer then holds: the answer rows, then zeros to its end
 abbrev pub buffer : ℕ → Outcome → List ℕ

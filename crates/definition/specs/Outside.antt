@@ -1,21 +1,19 @@
--- What stands outside the sheet: the outermost scope, and the classes that have a record there.
-use mathlib.Core.Bool.{Bool}
-use mathlib.Core.List.{List, [], _∷_}
-use Prim.Native.Nat.{ℕ}
-use lib.Dec.{eqb}
-use Rattle.definition.specs.Basics.{any, first, from}
-use Rattle.definition.specs.Meaning.{Named, named, class}
+-- What stands outside the sheet: the names of the outermost scope, the classes that have a record there, and how far numbers
+-- of functions and classes of the sheet are raised in answer rows. Within the walk numbers go by rows: a function of the sheet is
+-- its row, a class 256 + its row. A function or class of an earlier entry is told 2,048 higher than its number, past all rows.
+use mathlib.Core.Bool.{Bool, true, false, not}
+use mathlib.Core.List.{List, [], _∷_, map}
+use Prim.Native.Nat.{ℕ, _≤_}
+use lib.ListN.{length}
+use lib.Dec.{eqb, leb, T}
+use Rattle.definition.specs.Basics.{any, all, unlike, first, from}
+use Rattle.definition.specs.Meaning.{Meaning, Named, named, nothing, function, class, global, toplevel, variable}
 
--- names 1 to 9 are classes 3, 4, 5, 7, 8, 9, 100, 101, 102
-abbrev pub outermost : List Named
-outermost =
-    named 1 (class 3) ∷ named 2 (class 4) ∷ named 3 (class 5) ∷ named 4 (class 7) ∷ named 5 (class 8) ∷ named 6 (class 9)
-    ∷ named 7 (class 100) ∷ named 8 (class 101) ∷ named 9 (class 102) ∷ []
-
--- A method: its name and its function.
+-- A method: its name, its function, and how many parameters that has.
 pub record Method : Type 0 where
   pub name : ℕ
   pub fun : ℕ
+  pub params : ℕ
 
 -- A class record: the class's number and name, its fields by slot, its methods.
 pub record ClassRecord : Type 0 where
@@ -24,18 +22,54 @@ pub record ClassRecord : Type 0 where
   pub fields : List ℕ
   pub methods : List Method
 
--- class 100 has fields 10 to 18 in order, 101 has 19, 20, 21, and 102 has 21, 19; none has methods
-abbrev pub records : List ClassRecord
-records =
-    record { number = 100; name = 7; fields = from 10 9; methods = [] }
-    ∷ record { number = 101; name = 8; fields = 19 ∷ 20 ∷ 21 ∷ []; methods = [] }
-    ∷ record { number = 102; name = 9; fields = 21 ∷ 19 ∷ []; methods = [] }
-    ∷ []
+-- What stands outside a sheet.
+pub record Outside : Type 0 where
+  pub names : List Named
+  pub records : List ClassRecord
+  pub base : ℕ
 
--- has class c a record outside the sheet? 3 to 9 have none
-abbrev pub isRecorded : ℕ → Bool
-isRecorded c = any (λ x. eqb (x .number) c) records
+-- Outside a plain sheet: names 1 to 9 are classes 3, 4, 5, 7, 8, 9, 100, 101, 102; class 100 has fields 10 to 18 in order, 101 has 19, 20,
+-- 21, and 102 has 21, 19; none has methods; numbers are not raised
+abbrev pub core : Outside
+core =
+    record {
+      names =
+          named 1 (class 3) ∷ named 2 (class 4) ∷ named 3 (class 5) ∷ named 4 (class 7) ∷ named 5 (class 8) ∷ named 6 (class 9)
+          ∷ named 7 (class 100) ∷ named 8 (class 101) ∷ named 9 (class 102) ∷ [];
+      records =
+          record { number = 100; name = 7; fields = from 10 9; methods = [] }
+          ∷ record { number = 101; name = 8; fields = 19 ∷ 20 ∷ 21 ∷ []; methods = [] }
+          ∷ record { number = 102; name = 9; fields = 21 ∷ 19 ∷ []; methods = [] }
+          ∷ [];
+      base = 0;
+    }
+
+-- has class c a record outside the sheet? Of the core's, 3 to 9 have none
+abbrev pub isRecorded : Outside → ℕ → Bool
+isRecorded O c = any (λ x. eqb (x .number) c) (O .records)
 
 -- that record, or an empty one
-abbrev pub recordOf : ℕ → ClassRecord
-recordOf c = first (λ x. eqb (x .number) c) (record { number = 0; name = 0; fields = []; methods = [] }) records
+abbrev pub recordOf : Outside → ℕ → ClassRecord
+recordOf O c = first (λ x. eqb (x .number) c) (record { number = 0; name = 0; fields = []; methods = [] }) (O .records)
+
+-- may a name from outside mean this? A function, a class or a global known before the walk
+abbrev pub isOutward : Meaning → Bool
+isOutward nothing = false
+isOutward (function f) = true
+isOutward (class c) = true
+isOutward (global g m) = true
+isOutward (toplevel r) = false
+isOutward (variable r f) = false
+
+-- What every outside satisfies:
+pub record OutsideFits (O : Outside) : Type 0 where
+  -- its names mean functions, classes and globals,
+  pub outward : T (all (λ x. isOutward (x .means)) (O .names))
+  -- no two are the same, and they are at most 9 and those of 4,096 declarations
+  pub apart : T (unlike (λ x y. eqb (y .name) (x .name)) (O .names))
+  pub few : length (O .names) ≤ 4105
+  -- and a class from outside has at most 8,192 fields and 8,192 methods, no two of one name and none of function 0.
+  pub few-fields : T (all (λ x. leb (length (x .fields)) 8192) (O .records))
+  pub few-methods : T (all (λ x. leb (length (x .methods)) 8192) (O .records))
+  pub methods-apart : T (all (λ x. unlike eqb (map (λ m. m .name) (x .methods))) (O .records))
+  pub functions-some : T (all (λ x. all (λ m. not (eqb (m .fun) 0)) (x .methods)) (O .records))

@@ -7,7 +7,7 @@ use lib.Dec.{eqb, leb}
 use Rattle.definition.specs.Basics.{if_then_else_, filter, final, head}
 use Rattle.definition.specs.Sheet.{Sheet, child, a, b, is}
 use Rattle.definition.specs.Meaning.{Meaning, nothing, function, class, global, toplevel, variable}
-use Rattle.definition.specs.Outside.{outermost}
+use Rattle.definition.specs.Outside.{Outside}
 use Rattle.definition.specs.Walk.{Event, enter, leave, loop, declare, bring, visit, literalLet, walk}
 
 -- What is open, innermost first: the scopes by their rows, loops, and the names declared in them.
@@ -133,12 +133,12 @@ abbrev pub declaration : Sheet → Moment → Meaning
 declaration s m = declared s (declares (m .event)) (within s m)
 
 -- the stack before the walk: the outermost scope
-abbrev pub start : Stack
-start = map (λ x. bound (x .name) (x .means)) outermost
+abbrev pub start : Outside → Stack
+start O = map (λ x. bound (x .name) (x .means)) (O .names)
 
 -- the moments of the whole walk
-abbrev pub history : Sheet → List Moment
-history s = moments s start (walk s)
+abbrev pub history : Outside → Sheet → List Moment
+history O s = moments s (start O) (walk s)
 
 -- the moments at which rows of kind k are visited
 abbrev pub visits : Sheet → List Moment → ℕ → List Moment

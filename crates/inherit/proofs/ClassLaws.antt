@@ -1,12 +1,12 @@
 -- Class rows, parents and names of classes.
 use mathlib.Core.Path.{_≡_, sym, ap, _∙_}
 use mathlib.Core.Bool.{Bool, true, false, not, _&&_}
-use Prim.Native.Nat.{ℕ, _-_, _<_, _≤_}
+use Prim.Native.Nat.{ℕ, _-_, _≤_}
 use lib.Dec.{eqb, leb}
-use borrow.Author.Tests.{eq-eqb, ne-eqb, le-leb, lt-leb, leb-true, eqb-true}
+use borrow.Author.Tests.{eq-eqb, ne-eqb, leb-true, eqb-true}
 use Rattle.definition.specs.Basics.{if_then_else_}
 use Rattle.definition.specs.Sheet.{Sheet, kind, a, is}
-use Rattle.definition.specs.Outside.{recordOf}
+use Rattle.definition.specs.Outside.{Outside, recordOf, core}
 use Rattle.definition.specs.Classes.{hasRecord, className}
 use Rattle.definition.proofs.Lists.Tests.{and-left, and-right, T-true, true-of}
 use Rattle.machine.specs.Machine.{Store, cell}
@@ -14,12 +14,6 @@ use Rattle.after.specs.Inherited.{isClassRow, parentIn}
 use Rattle.inherit.specs.Answered.{lacksRecord}
 
 module _ (s : Sheet) (c : ℕ) where
-  pub row-of : {w : ℕ} → w ≡ kind s (c - 256) → 256 ≤ c → eqb w 4 ≡ isClassRow s c
-  row-of e l = rw (le-leb 256 c l, e)
-
-  pub row-outside : c < 256 → false ≡ isClassRow s c
-  row-outside l = rw (lt-leb 256 c l)
-
   pub row-number : isClassRow s c ≡ true → 256 ≤ c
   row-number h = leb-true 256 c (true-of (leb 256 c) (and-left (leb 256 c) (is s 4 (c - 256)) (T-true (isClassRow s c) h)))
 
@@ -36,19 +30,19 @@ module _ (s : Sheet) (o : Store) (c : ℕ) where
   parent-none h = sym (ap (λ (t : Bool). if t then cell (o .table) (c - 256) 1 else 0) h)
 
 -- parents without a record
-pub lacks-some : (c : ℕ) {h : Bool} → h ≡ hasRecord c → (c ≡ 0 → ⊥) → not h ≡ lacksRecord c
-lacks-some c e f = ap not e ∙ sym (ap (λ (t : Bool). not t && not (hasRecord c)) (ne-eqb c 0 f))
+pub lacks-some : (O : Outside) (s : Sheet) (c : ℕ) {h : Bool} → h ≡ hasRecord O s c → (c ≡ 0 → ⊥) → not h ≡ lacksRecord O s c
+lacks-some O s c e f = ap not e ∙ sym (ap (λ (t : Bool). not t && not (hasRecord O s c)) (ne-eqb c 0 f))
 
-pub lacks-none : (c : ℕ) → c ≡ 0 → false ≡ lacksRecord c
-lacks-none c e = sym (ap (λ (t : Bool). not t && not (hasRecord c)) (eq-eqb c 0 e))
+pub lacks-none : (O : Outside) (s : Sheet) (c : ℕ) → c ≡ 0 → false ≡ lacksRecord O s c
+lacks-none O s c e = sym (ap (λ (t : Bool). not t && not (hasRecord O s c)) (eq-eqb c 0 e))
 
 -- names
 module _ (s : Sheet) (c : ℕ) where
-  pub name-sheet : {w : ℕ} → w ≡ a s (c - 256) → 256 ≤ c → w ≡ className s c
-  name-sheet e l = e ∙ sym (ap (λ (t : Bool). if t then a s (c - 256) else recordOf c .name) (le-leb 256 c l))
+  pub name-sheet : {w : ℕ} → w ≡ a s (c - 256) → isClassRow s c ≡ true → w ≡ className core s c
+  name-sheet e l = e ∙ sym (ap (λ (t : Bool). if t then a s (c - 256) else recordOf core c .name) l)
 
-  pub name-outside : (n m : ℕ) → className s n ≡ m → c ≡ n → m ≡ className s c
-  name-outside n m h e = sym (ap (className s) e ∙ h)
+  pub name-outside : (n m : ℕ) → className core s n ≡ m → c ≡ n → m ≡ className core s c
+  name-outside n m h e = sym (ap (className core s) e ∙ h)
 
-  pub name-other : c < 256 → (c ≡ 100 → ⊥) → (c ≡ 101 → ⊥) → (c ≡ 102 → ⊥) → 0 ≡ className s c
-  name-other l f g h = rw (lt-leb 256 c l, ne-eqb 100 c (λ e. f (sym e)), ne-eqb 101 c (λ e. g (sym e)), ne-eqb 102 c (λ e. h (sym e)))
+  pub name-other : isClassRow s c ≡ false → (c ≡ 100 → ⊥) → (c ≡ 101 → ⊥) → (c ≡ 102 → ⊥) → 0 ≡ className core s c
+  name-other l f g h = rw (l, ne-eqb 100 c (λ e. f (sym e)), ne-eqb 101 c (λ e. g (sym e)), ne-eqb 102 c (λ e. h (sym e)))

@@ -10,6 +10,7 @@ use lib.Seq.{getD-set-same, getD-set-other}
 use borrow.Author.Tests.{eq-eqb, ne-eqb, eqb-true, eqb-false}
 use Rattle.definition.specs.Basics.{if_then_else_, filter, from, _∈?_}
 use Rattle.definition.specs.Sheet.{Sheet, kind, a, rows, is}
+use Rattle.definition.specs.Outside.{Outside}
 use Rattle.definition.specs.Question.{Refusal, none, ask, firstNo}
 use Rattle.machine.specs.Machine.{Store}
 use Rattle.symbols.proofs.DeclLaws.{kind-inside}
@@ -18,13 +19,13 @@ use Rattle.inherit.specs.Answered.{lacksRecord, Marked}
 use Rattle.inherit.proofs.ClassLaws.{row-number, row-kind}
 
 -- the same climb, where the classes climbed through are those marked with k in m
-unfoldable pub climbMarked : Sheet → Store → ℕ → ℕ → List ℕ → ℕ → Refusal
-climbMarked s o k zero m c = none
-climbMarked s o k (suc n) m c =
-    let up : Refusal = climbMarked s o k n (set m (c - 256) k) (parentIn s o c) in
+unfoldable pub climbMarked : Outside → Sheet → Store → ℕ → ℕ → List ℕ → ℕ → Refusal
+climbMarked O s o k zero m c = none
+climbMarked O s o k (suc n) m c =
+    let up : Refusal = climbMarked O s o k n (set m (c - 256) k) (parentIn s o c) in
     if not (isClassRow s c) then none
     else if eqb (getD m (c - 256) 0) k then ask 18 (c - 256) (a s (c - 256)) false
-    else if lacksRecord (parentIn s o c) then ask 19 (c - 256) (a s (c - 256)) false
+    else if lacksRecord O s (parentIn s o c) then ask 19 (c - 256) (a s (c - 256)) false
     else up
 
 -- a class row lies in the sheet, and has a mark of its own
@@ -66,13 +67,13 @@ choose true u v w x y p q e f =
     ap (λ (b : Bool). if b then x else if w then y else p) (e refl) ∙ ap (λ (z : Refusal). if v then x else if w then y else z) (f refl)
 choose false u v w x y p q e f = refl
 
-module _ (s : Sheet) (o : Store) (k : ℕ) where
+module _ (O : Outside) (s : Sheet) (o : Store) (k : ℕ) where
   -- where the marks tell the classes met, the climbs answer the same
-  climb-met : (n : ℕ) (m met : List ℕ) (c : ℕ) → length s ≤ 8 * length m → ((j : ℕ) → eqb (getD m j 0) k ≡ ((256 + j) ∈? met)) → climbMarked s o k n m c ≡ climbIn s o n met c
+  climb-met : (n : ℕ) (m met : List ℕ) (c : ℕ) → length s ≤ 8 * length m → ((j : ℕ) → eqb (getD m j 0) k ≡ ((256 + j) ∈? met)) → climbMarked O s o k n m c ≡ climbIn O s o n met c
   unfolding climbMarked climbIn
   climb-met zero m met c l h = refl
   climb-met (suc n) m met c l h =
-      choose (isClassRow s c) (eqb (getD m (c - 256) 0) k) (c ∈? met) (lacksRecord (parentIn s o c)) _ _ _ _
+      choose (isClassRow s c) (eqb (getD m (c - 256) 0) k) (c ∈? met) (lacksRecord O s (parentIn s o c)) _ _ _ _
       (λ e. h (c - 256) ∙ ap (λ (i : ℕ). i ∈? met) (number e))
       (λ e. climb-met n (set m (c - 256) k) (c ∷ met) (parentIn s o c) (omega (arith, length-set m (c - 256) k)) (met-more m (c - 256) k (row-marked s m c l e) c met (sym (number e)) h))
     where
@@ -80,57 +81,57 @@ module _ (s : Sheet) (o : Store) (k : ℕ) where
       number e = omega (arith, row-number s c e)
 
 -- where no mark is over r, none is r + 1
-pub climb-start : (s : Sheet) (o : Store) (m : List ℕ) (r n : ℕ) → n ≡ rows s + 1 → length s ≤ 8 * length m → Marked r m
-    → climbMarked s o (r + 1) n m (256 + r) ≡ climbIn s o (suc (rows s)) [] (256 + r)
-climb-start s o m r n e l h =
-    ap (λ (i : ℕ). climbMarked s o (r + 1) i m (256 + r)) one-more
-    ∙ climb-met s o (r + 1) (suc (rows s)) m [] (256 + r) l (λ j. ne-eqb (getD m j 0) (r + 1) (λ z. omega (arith, h .marks j)))
+pub climb-start : (O : Outside) (s : Sheet) (o : Store) (m : List ℕ) (r n : ℕ) → n ≡ rows s + 1 → length s ≤ 8 * length m → Marked r m
+    → climbMarked O s o (r + 1) n m (256 + r) ≡ climbIn O s o (suc (rows s)) [] (256 + r)
+climb-start O s o m r n e l h =
+    ap (λ (i : ℕ). climbMarked O s o (r + 1) i m (256 + r)) one-more
+    ∙ climb-met O s o (r + 1) (suc (rows s)) m [] (256 + r) l (λ j. ne-eqb (getD m j 0) (r + 1) (λ z. omega (arith, h .marks j)))
   where
     one-more : n ≡ suc (rows s)
     one-more = omega arith
 
 -- one class of the climb; p is its parent
-module _ (s : Sheet) (o : Store) (m : List ℕ) (k n c : ℕ) (l : 0 < n) where
+module _ (O : Outside) (s : Sheet) (o : Store) (m : List ℕ) (k n c : ℕ) (l : 0 < n) where
   -- by three tests: is it a class row, was it met, has its parent no record?
   unfoldable chosen : Bool → Bool → Bool → Refusal
   chosen t u w =
       if not t then none
       else if u then ask 18 (c - 256) (a s (c - 256)) false
       else if w then ask 19 (c - 256) (a s (c - 256)) false
-      else climbMarked s o k (n - 1) (set m (c - 256) k) (parentIn s o c)
+      else climbMarked O s o k (n - 1) (set m (c - 256) k) (parentIn s o c)
 
-  climb-suc : climbMarked s o k n m c ≡ chosen (isClassRow s c) (eqb (getD m (c - 256) 0) k) (lacksRecord (parentIn s o c))
+  climb-suc : climbMarked O s o k n m c ≡ chosen (isClassRow s c) (eqb (getD m (c - 256) 0) k) (lacksRecord O s (parentIn s o c))
   unfolding climbMarked chosen
-  climb-suc = ap (λ (i : ℕ). climbMarked s o k i m c) below
+  climb-suc = ap (λ (i : ℕ). climbMarked O s o k i m c) below
     where
       below : n ≡ suc (n - 1)
       below = omega arith
 
-  pub climb-off : isClassRow s c ≡ false → none ≡ climbMarked s o k n m c
+  pub climb-off : isClassRow s c ≡ false → none ≡ climbMarked O s o k n m c
   unfolding chosen
-  climb-off h = sym (climb-suc ∙ ap (λ (t : Bool). chosen t (eqb (getD m (c - 256) 0) k) (lacksRecord (parentIn s o c))) h)
+  climb-off h = sym (climb-suc ∙ ap (λ (t : Bool). chosen t (eqb (getD m (c - 256) 0) k) (lacksRecord O s (parentIn s o c))) h)
 
   module _ (h : isClassRow s c ≡ true) where
-    at-row : climbMarked s o k n m c ≡ chosen true (eqb (getD m (c - 256) 0) k) (lacksRecord (parentIn s o c))
-    at-row = climb-suc ∙ ap (λ (t : Bool). chosen t (eqb (getD m (c - 256) 0) k) (lacksRecord (parentIn s o c))) h
+    at-row : climbMarked O s o k n m c ≡ chosen true (eqb (getD m (c - 256) 0) k) (lacksRecord O s (parentIn s o c))
+    at-row = climb-suc ∙ ap (λ (t : Bool). chosen t (eqb (getD m (c - 256) 0) k) (lacksRecord O s (parentIn s o c))) h
 
-    pub climb-circle : {x : Refusal} → x ≡ ask 18 (c - 256) (a s (c - 256)) false → getD m (c - 256) 0 ≡ k → x ≡ climbMarked s o k n m c
+    pub climb-circle : {x : Refusal} → x ≡ ask 18 (c - 256) (a s (c - 256)) false → getD m (c - 256) 0 ≡ k → x ≡ climbMarked O s o k n m c
     unfolding chosen
-    climb-circle d e = d ∙ sym (at-row ∙ ap (λ (u : Bool). chosen true u (lacksRecord (parentIn s o c))) (eq-eqb (getD m (c - 256) 0) k e))
+    climb-circle d e = d ∙ sym (at-row ∙ ap (λ (u : Bool). chosen true u (lacksRecord O s (parentIn s o c))) (eq-eqb (getD m (c - 256) 0) k e))
 
     module _ (f : getD m (c - 256) 0 ≡ k → ⊥) {p : ℕ} (e : p ≡ parentIn s o c) where
-      at-new : climbMarked s o k n m c ≡ chosen true false (lacksRecord p)
+      at-new : climbMarked O s o k n m c ≡ chosen true false (lacksRecord O s p)
       at-new =
-          at-row ∙ ap (λ (u : Bool). chosen true u (lacksRecord (parentIn s o c))) (ne-eqb (getD m (c - 256) 0) k f)
-          ∙ sym (ap (λ (i : ℕ). chosen true false (lacksRecord i)) e)
+          at-row ∙ ap (λ (u : Bool). chosen true u (lacksRecord O s (parentIn s o c))) (ne-eqb (getD m (c - 256) 0) k f)
+          ∙ sym (ap (λ (i : ℕ). chosen true false (lacksRecord O s i)) e)
 
-      pub climb-lacking : {x : Refusal} → x ≡ ask 19 (c - 256) (a s (c - 256)) false → lacksRecord p ≡ true → x ≡ climbMarked s o k n m c
+      pub climb-lacking : {x : Refusal} → x ≡ ask 19 (c - 256) (a s (c - 256)) false → lacksRecord O s p ≡ true → x ≡ climbMarked O s o k n m c
       unfolding chosen
       climb-lacking d g = d ∙ sym (at-new ∙ ap (chosen true false) g)
 
-      pub climb-up : lacksRecord p ≡ false → climbMarked s o k (n - 1) (set m (c - 256) k) p ≡ climbMarked s o k n m c
+      pub climb-up : lacksRecord O s p ≡ false → climbMarked O s o k (n - 1) (set m (c - 256) k) p ≡ climbMarked O s o k n m c
       unfolding chosen
-      climb-up g = ap (climbMarked s o k (n - 1) (set m (c - 256) k)) e ∙ sym (at-new ∙ ap (chosen true false) g)
+      climb-up g = ap (climbMarked O s o k (n - 1) (set m (c - 256) k)) e ∙ sym (at-new ∙ ap (chosen true false) g)
 
 -- The classes of a sheet in row order, from row r on; f is the answer on a row.
 module _ (s : Sheet) (f : ℕ → Refusal) where

@@ -6,6 +6,7 @@ use Prim.Native.Nat.{ℕ, zero, suc, _+_, _≤_}
 use lib.Dec.{eqb}
 use lib.ListN.{getD}
 use Rattle.definition.specs.Sheet.{Sheet}
+use Rattle.definition.specs.Outside.{Outside}
 use Rattle.definition.specs.Classes.{hasRecord}
 use Rattle.definition.specs.Question.{Refusal as No}
 use Rattle.machine.specs.Machine.{Store}
@@ -21,14 +22,14 @@ pub record Marked (k : ℕ) (m : List ℕ) : Type 0 where
   pub marks : (j : ℕ) → getD m j 0 ≤ k
 
 -- is a parent a class without a record?
-abbrev pub lacksRecord : ℕ → Bool
-lacksRecord c = not (eqb c 0) && not (hasRecord c)
+abbrev pub lacksRecord : Outside → Sheet → ℕ → Bool
+lacksRecord O s c = not (eqb c 0) && not (hasRecord O s c)
 
 -- from c on there are exactly n class rows, each the parent of the one before, and none of them has a parent without a record
-unfoldable pub Ends : Sheet → Store → ℕ → ℕ → Type 0
-Ends s o zero c = isClassRow s c ≡ false
-Ends s o (suc n) c = (isClassRow s c ≡ true) × (lacksRecord (parentIn s o c) ≡ false) × Ends s o n (parentIn s o c)
+unfoldable pub Ends : Outside → Sheet → Store → ℕ → ℕ → Type 0
+Ends O s o zero c = isClassRow s c ≡ false
+Ends O s o (suc n) c = (isClassRow s c ≡ true) × (lacksRecord O s (parentIn s o c) ≡ false) × Ends O s o n (parentIn s o c)
 
 -- from every row that has a mark the line of parents ends
-pub record Climbed (s : Sheet) (o : Store) (m : List ℕ) : Type 0 where
-  pub ended : (j : ℕ) → (getD m j 0 ≡ 0 → ⊥) → (n : ℕ) × Ends s o n (256 + j)
+pub record Climbed (O : Outside) (s : Sheet) (o : Store) (m : List ℕ) : Type 0 where
+  pub ended : (j : ℕ) → (getD m j 0 ≡ 0 → ⊥) → (n : ℕ) × Ends O s o n (256 + j)

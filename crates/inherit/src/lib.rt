@@ -7,8 +7,9 @@ ghost use lib.ListN.{length};
 ghost use Rattle.definition.specs.Sheet.{a, rows};
 ghost use Rattle.definition.specs.Classes.{className, methodNamed};
 ghost use Rattle.definition.specs.Question.{ask, firstNo};
+ghost use Rattle.definition.specs.Outside.{core};
 ghost use Rattle.store.specs.Stored.{storeOf};
-ghost use Rattle.after.specs.Inherited.{isClassRow, parentIn, climbIn, classesRefusal, methodsIn, checkCallIn, callsRefusal};
+ghost use Rattle.after.specs.Inherited.{parentIn, climbIn, classesRefusal, methodsIn, checkCallIn, callsRefusal};
 ghost use Rattle.inherit.specs.Answered.{refusalOf, lacksRecord, Marked, Climbed};
 use ast::ClassId;
 use ast::FIRST_CLASS;
@@ -19,6 +20,7 @@ use store::nodes::node_word;
 use tree::lists::arguments;
 use tree::lists::arity;
 use tree::lists::has_record;
+use tree::lists::is_class_row;
 use tree::lists::method_named;
 use tree::words::word;
 
@@ -38,16 +40,6 @@ const NO_REFUSAL: Refusal = Refusal {
     name: 0,
 };
 
-// Is `c` the number of a class row?
-pub fn is_class_row(s: &[u32], c: u32) -> bool
-    ensures { λ x. ⌜ x ≡ isClassRow (now (s .entry)) c ⌝ }
-{
-    if c >= FIRST_CLASS {
-        return word(s, c - FIRST_CLASS, 0) == 4;
-    }
-    false
-}
-
 // The parent of a class as the walk stored it, or class 0.
 pub fn parent_of(s: &[u32], t: &[u32], c: ClassId) -> ClassId
     ensures { λ x. ⌜ ((o : Store) (q : List ℕ) → x .0 ≡ parentIn (now (s .entry)) (storeOf o (now (t .entry)) q) (c .0)) ⌝ }
@@ -59,11 +51,11 @@ pub fn parent_of(s: &[u32], t: &[u32], c: ClassId) -> ClassId
 }
 
 // Is a parent a class without a record? Class 0 is no parent.
-fn lacks_record(c: ClassId) -> bool
-    ensures { λ x. ⌜ x ≡ lacksRecord (c .0) ⌝ }
+fn lacks_record(s: &[u32], c: ClassId) -> bool
+    ensures { λ x. ⌜ x ≡ lacksRecord core (now (s .entry)) (c .0) ⌝ }
 {
     if c.0 != 0 {
-        return !has_record(c);
+        return !has_record(s, c);
     }
     false
 }
@@ -82,8 +74,8 @@ fn refuse_class(s: &[u32], number: u32, r: u32) -> Refusal
 // The questions 18 and 19 on the class of row `r` and then on its ancestors. A class climbed through is marked with `r + 1`. One with a
 // mark of an earlier climb was climbed through to the top without a no, so the climb stops there.
 fn climb(s: &[u32], t: &[u32], marks: &mut [u32], r: u32) -> Refusal
-    requires { ⌜ (length (now s) ≤ 8 * length (now marks)) × (r ≤ 2048) × (Marked r (now marks)) × (8 * rows (now s) ≡ length (now s)) × ((o : Store) (q : List ℕ) → Climbed (now s) (storeOf o (now t) q) (now marks)) ⌝ }
-    ensures { λ x. ⌜ ((o : Store) (q : List ℕ) → refusalOf x ≡ climbIn (now (s .entry)) (storeOf o (now (t .entry)) q) (suc (rows (now (s .entry)))) [] (256 + r)) × (Marked (r + 1) (now (marks .exit))) × (x .number ≡ 0 → (o : Store) (q : List ℕ) → Climbed (now (s .entry)) (storeOf o (now (t .entry)) q) (now (marks .exit))) ⌝ }
+    requires { ⌜ (length (now s) ≤ 8 * length (now marks)) × (r ≤ 2048) × (Marked r (now marks)) × (8 * rows (now s) ≡ length (now s)) × ((o : Store) (q : List ℕ) → Climbed core (now s) (storeOf o (now t) q) (now marks)) ⌝ }
+    ensures { λ x. ⌜ ((o : Store) (q : List ℕ) → refusalOf x ≡ climbIn core (now (s .entry)) (storeOf o (now (t .entry)) q) (suc (rows (now (s .entry)))) [] (256 + r)) × (Marked (r + 1) (now (marks .exit))) × (x .number ≡ 0 → (o : Store) (q : List ℕ) → Climbed core (now (s .entry)) (storeOf o (now (t .entry)) q) (now (marks .exit))) ⌝ }
 {
     let mut c = FIRST_CLASS + r;
     while is_class_row(s, c) {
@@ -96,7 +88,7 @@ fn climb(s: &[u32], t: &[u32], marks: &mut [u32], r: u32) -> Refusal
             return NO_REFUSAL;
         }
         let up = parent_of(s, t, ClassId(c));
-        if lacks_record(up) {
+        if lacks_record(s, up) {
             return refuse_class(s, 19, row);
         }
         marks[row as usize] = r + 1;
@@ -108,7 +100,7 @@ fn climb(s: &[u32], t: &[u32], marks: &mut [u32], r: u32) -> Refusal
 // The first no of the questions 18 and 19, classes in row order.
 pub fn check_classes(s: &[u32], t: &[u32], marks: &mut [u32]) -> Refusal
     requires { ⌜ (length (now s) ≤ 16384) × (length (now s) ≤ 8 * length (now marks)) × (Marked 0 (now marks)) × (8 * rows (now s) ≡ length (now s)) ⌝ }
-    ensures { λ x. ⌜ ((o : Store) (q : List ℕ) → refusalOf x ≡ classesRefusal (now (s .entry)) (storeOf o (now (t .entry)) q)) ⌝ }
+    ensures { λ x. ⌜ ((o : Store) (q : List ℕ) → refusalOf x ≡ classesRefusal core (now (s .entry)) (storeOf o (now (t .entry)) q)) ⌝ }
 {
     let mut r: u32 = 0;
     while (r as usize) < s.len() / 8 {
@@ -125,7 +117,7 @@ pub fn check_classes(s: &[u32], t: &[u32], marks: &mut [u32]) -> Refusal
 
 // The method of name `n` that a class has, its own or inherited, or function 0.
 pub fn find_method(s: &[u32], t: &[u32], c: ClassId, n: u32) -> FunId
-    ensures { λ x. ⌜ ((o : Store) (q : List ℕ) → x .0 ≡ methodNamed n (methodsIn (now (s .entry)) (storeOf o (now (t .entry)) q) (rows (now (s .entry))) (c .0))) ⌝ }
+    ensures { λ x. ⌜ ((o : Store) (q : List ℕ) → x .0 ≡ methodNamed n (methodsIn core (now (s .entry)) (storeOf o (now (t .entry)) q) (rows (now (s .entry))) (c .0))) ⌝ }
 {
     let mut left = s.len() / 8;
     let mut at = c.0;
@@ -146,10 +138,10 @@ pub fn find_method(s: &[u32], t: &[u32], c: ClassId, n: u32) -> FunId
 
 // The name of a class that has a record.
 fn class_name(s: &[u32], c: ClassId) -> u32
-    ensures { λ x. ⌜ x ≡ className (now (s .entry)) (c .0) ⌝ }
+    ensures { λ x. ⌜ x ≡ className core (now (s .entry)) (c .0) ⌝ }
 {
     let n = c.0;
-    if n >= FIRST_CLASS {
+    if is_class_row(s, n) {
         return word(s, n - FIRST_CLASS, 6);
     }
     match n {
@@ -162,7 +154,7 @@ fn class_name(s: &[u32], c: ClassId) -> u32
 
 // The questions 20 and 21 on constructor call `r` of a class. The constructor also takes the new object.
 fn check_call(s: &[u32], t: &[u32], r: u32, c: ClassId) -> Refusal
-    ensures { λ x. ⌜ ((o : Store) (q : List ℕ) (two : ℕ) → refusalOf x ≡ checkCallIn (now (s .entry)) (storeOf o (now (t .entry)) q) (record { key = r; one = c .0; two = two })) ⌝ }
+    ensures { λ x. ⌜ ((o : Store) (q : List ℕ) (two : ℕ) → refusalOf x ≡ checkCallIn core (now (s .entry)) (storeOf o (now (t .entry)) q) (record { key = r; one = c .0; two = two })) ⌝ }
 {
     let init = find_method(s, t, c, INIT);
     let at = word(s, r, 2);
@@ -186,7 +178,7 @@ fn check_call(s: &[u32], t: &[u32], r: u32, c: ClassId) -> Refusal
 
 // The first no of the questions 20 and 21. The list is walked from the last call back, so that an earlier no replaces a later one.
 pub fn check_ctor_calls(s: &[u32], t: &[u32], q: &[u32], calls: u32) -> Refusal
-    ensures { λ x. ⌜ ((o : Store) → o .calls ≡ calls → refusalOf x ≡ callsRefusal (now (s .entry)) (storeOf o (now (t .entry)) (now (q .entry)))) ⌝ }
+    ensures { λ x. ⌜ ((o : Store) → o .calls ≡ calls → refusalOf x ≡ callsRefusal core (now (s .entry)) (storeOf o (now (t .entry)) (now (q .entry)))) ⌝ }
 {
     let mut x = NO_REFUSAL;
     let mut i = calls;
@@ -204,7 +196,7 @@ pub fn check_ctor_calls(s: &[u32], t: &[u32], q: &[u32], calls: u32) -> Refusal
 // The first no of the questions that follow the walk.
 pub fn later_refusal(s: &[u32], t: &[u32], q: &[u32], marks: &mut [u32], calls: u32) -> Refusal
     requires { ⌜ (length (now s) ≤ 16384) × (length (now s) ≤ 8 * length (now marks)) × (Marked 0 (now marks)) × (8 * rows (now s) ≡ length (now s)) ⌝ }
-    ensures { λ x. ⌜ ((o : Store) → o .calls ≡ calls → refusalOf x ≡ firstNo (classesRefusal (now (s .entry)) (storeOf o (now (t .entry)) (now (q .entry))) ∷ callsRefusal (now (s .entry)) (storeOf o (now (t .entry)) (now (q .entry))) ∷ [])) ⌝ }
+    ensures { λ x. ⌜ ((o : Store) → o .calls ≡ calls → refusalOf x ≡ firstNo (classesRefusal core (now (s .entry)) (storeOf o (now (t .entry)) (now (q .entry))) ∷ callsRefusal core (now (s .entry)) (storeOf o (now (t .entry)) (now (q .entry))) ∷ [])) ⌝ }
 {
     let x = check_classes(s, t, marks);
     if x.number != 0 {

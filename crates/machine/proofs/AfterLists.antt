@@ -11,12 +11,13 @@ use borrow.Author.Tests.{le-leb, leb-true}
 use Rattle.definition.specs.Basics.{if_then_else_, filter, any, distinct, concatMap, from}
 use Rattle.definition.specs.Sheet.{Sheet, kind, is, a, child, kidsOf, rows}
 use Rattle.definition.specs.Meaning.{Meaning, nothing, function, class, global, toplevel, variable, isVariable, rowOf, ownerOf}
-use Rattle.definition.specs.Outside.{recordOf}
+use Rattle.definition.specs.Outside.{Outside, recordOf}
 use Rattle.definition.specs.Scope.{Moment, within, visited, visitOf}
 use Rattle.definition.specs.Slots.{isMutable, code, localCount}
 use Rattle.definition.specs.Capture.{Use, isOuter, same, uses, captures, seenFrom, sources, inner, escaping}
 use Rattle.definition.specs.Classes.{registered, ownFields}
 use Rattle.definition.proofs.Lists.Members.{map-map}
+use Rattle.definition.proofs.Classes.{of-sheet}
 use Rattle.machine.specs.Machine.{cell, Store, listAt, seenIn, codeOf, fourWords}
 use Rattle.machine.specs.Reads.{handsOn, listedFields, literalsIn, meaningOfNode, rowWords}
 use Rattle.machine.proofs.Lists.{any-map, any-append}
@@ -73,7 +74,7 @@ variables s h f =
     by true v q = refl
     by false v q = q
 
-module _ (s : Sheet) (h : List Moment) (o : Store) (k : StoreAgrees s h o) where
+module _ (O : Outside) (s : Sheet) (h : List Moment) (o : Store) (k : StoreAgrees O s h o) where
   -- the captured declarations of function f, by index
   pub captured-nodes : (f : ℕ) → f < length (o .table) / 8 → map (λ u. code s h (u .means) (u .slot)) (captures s h f) ≡ map (λ y. codeOf s (meaningOfNode y) (y .two) 0) (listAt o (8 * f + 6))
   captured-nodes f l =
@@ -97,9 +98,9 @@ module _ (s : Sheet) (h : List Moment) (o : Store) (k : StoreAgrees s h o) where
       ∙ sym (ap (map (λ y. seenIn s (meaningOfNode y) (y .two) 0 f o)) (k .captures-is g lg) ∙ map-map (λ y. seenIn s (meaningOfNode y) (y .two) 0 f o) nodeOf (captures s h g))
 
   -- the own fields of class c, by slot
-  pub fields-nodes : (c : ℕ) → c < length (o .table) / 8 → (c ≡ 0 → ⊥) → ownFields s h (256 + c) ≡ distinct eqb (listedFields s c) ++ map (λ y. y .key) (listAt o (8 * c + 7))
-  fields-nodes c l nz =
-      ap (λ (t : Bool). if t then distinct eqb (map (a s) (kidsOf s 10 ((256 + c) - 256)) ++ registered s h ((256 + c) - 256)) else recordOf (256 + c) .fields) (le-leb 256 (256 + c) (omega arith))
+  pub fields-nodes : (c : ℕ) → c < length (o .table) / 8 → (c ≡ 0 → ⊥) → is s 4 c ≡ true → ownFields O s h (256 + c) ≡ distinct eqb (listedFields s c) ++ map (λ y. y .key) (listAt o (8 * c + 7))
+  fields-nodes c l nz e =
+      ap (λ (t : Bool). if t then distinct eqb (map (a s) (kidsOf s 10 ((256 + c) - 256)) ++ registered s h ((256 + c) - 256)) else recordOf O (256 + c) .fields) (of-sheet s c e)
       ∙ ap (λ (j : ℕ). distinct eqb (map (a s) (kidsOf s 10 j) ++ registered s h j)) (omega arith)
       ∙ k .fields-is c l nz
 
@@ -114,17 +115,17 @@ any-all : {A : Type 0} (p f g : A → Bool) {xs : List A} → ((x : A) → p x �
 any-all p f g e al-none = refl
 any-all p f g e (al-one {x} {xs} q h) = ap (λ (t : Bool). t || any f xs) (e x q) ∙ ap (λ (t : Bool). g x || t) (any-all p f g e h)
 
-module _ (s : Sheet) (hd : kind s 0 ≡ 0) (h : List Moment) (o : Store) (k : StoreAgrees s h o) (enough : rows s ≤ length (o .table) / 8) where
+module _ (O : Outside) (s : Sheet) (hd : kind s 0 ≡ 0) (h : List Moment) (o : Store) (k : StoreAgrees O s h o) (enough : rows s ≤ length (o .table) / 8) where
   literal-in : (f l : ℕ) → l < rows s → (l ≡ 0 → ⊥) → is s 52 l ≡ true → any (λ m. eqb (within s m) f) (visitOf h l) ≡ (eqb (cell (o .table) l 0) 1 && eqb (cell (o .table) l 1) f)
   unfolding rowWords
   literal-in f l g nz hl = by (final-short (filter (λ m. eqb (visited (m .event)) l) h))
     where
       told : map (λ m. fourWords (1 ∷ within s m ∷ [])) (visitOf h l) ≡ map (λ m. rowWords (o .table) l) (visitOf h l)
-      told = literal-words s h o k l nz (omega arith) hl
+      told = literal-words O s h o k l nz (omega arith) hl
 
       by : (visitOf h l ≡ []) ⊎ ((m : Moment) × (visitOf h l ≡ m ∷ [])) → any (λ m. eqb (within s m) f) (visitOf h l) ≡ (eqb (cell (o .table) l 0) 1 && eqb (cell (o .table) l 1) f)
       by (inl e) =
-          let w = literal-unwritten s h o k l nz (omega arith) hl e in
+          let w = literal-unwritten O s h o k l nz (omega arith) hl e in
           ap (any (λ m. eqb (within s m) f)) e ∙ sym (ap (λ (x : ℕ). eqb x 1 && eqb (cell (o .table) l 1) f) (ap (λ (ws : List ℕ). getD ws 0 0) w))
       by (inr w) =
           let e : fourWords (1 ∷ within s (w .0) ∷ []) ∷ [] ≡ rowWords (o .table) l ∷ [] =

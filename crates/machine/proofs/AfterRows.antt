@@ -10,6 +10,7 @@ use lib.Dec.{eqb}
 use borrow.Author.Tests.{ne-eqb, eqb-true, eqb-false, le-leb}
 use Rattle.definition.specs.Basics.{if_then_else_, filter, final, largest}
 use Rattle.definition.specs.Sheet.{Sheet, kind, is, a, b, child}
+use Rattle.definition.specs.Outside.{Outside}
 use Rattle.definition.specs.Meaning.{classNumber}
 use Rattle.definition.specs.Walk.{Event, enter, leave, loop, declare, bring, visit}
 use Rattle.definition.specs.Scope.{Stack, Moment, lookup, within, visited, declares, visits, visitOf, declaringOf, declaration}
@@ -18,6 +19,7 @@ use Rattle.definition.specs.Capture.{useAt, seenFrom}
 use Rattle.definition.specs.Classes.{methodNamed, ownMethods, parentOf}
 use Rattle.definition.specs.Question.{receiver}
 use Rattle.definition.specs.Answer.{letRow, memberRow}
+use Rattle.definition.proofs.Classes.{of-sheet}
 use Rattle.machine.specs.Machine.{cell, Store, fourWords}
 use Rattle.machine.specs.Reads.{rowWords}
 use Rattle.machine.proofs.RowWords.{rowWritten, wordsWritten, WrittenBy, unwritten, written}
@@ -67,20 +69,20 @@ final-map f (x ∷ []) = refl
 final-map f (x ∷ y ∷ ys) = final-map f (y ∷ ys)
 
 -- The words of row r, where P tests for the moments that write it and f gives what they write.
-module _ (s : Sheet) (h : List Moment) (ws : List ℕ) (r : ℕ) (P : Moment → Bool) (same : (m : Moment) → eqb (rowWritten s (m .event) (m .stack)) r ≡ P m)
-    (f : Moment → List ℕ) (writes : (m : Moment) → P m ≡ true → wordsWritten s h m ≡ f m)
-    (t : WrittenBy s h ws (final (filter (λ m. eqb (rowWritten s (m .event) (m .stack)) r) h))) where
-  written-here : WrittenBy s h ws (final (filter P h))
-  written-here = subst (λ (ms : List Moment). WrittenBy s h ws (final ms)) (filter-same (λ m. eqb (rowWritten s (m .event) (m .stack)) r) P h same) t
+module _ (O : Outside) (s : Sheet) (h : List Moment) (ws : List ℕ) (r : ℕ) (P : Moment → Bool) (same : (m : Moment) → eqb (rowWritten s (m .event) (m .stack)) r ≡ P m)
+    (f : Moment → List ℕ) (writes : (m : Moment) → P m ≡ true → wordsWritten O s h m ≡ f m)
+    (t : WrittenBy O s h ws (final (filter (λ m. eqb (rowWritten s (m .event) (m .stack)) r) h))) where
+  written-here : WrittenBy O s h ws (final (filter P h))
+  written-here = subst (λ (ms : List Moment). WrittenBy O s h ws (final ms)) (filter-same (λ m. eqb (rowWritten s (m .event) (m .stack)) r) P h same) t
 
-  by-written : {ms : List Moment} → WrittenBy s h ws ms → All P ms → map (λ m. fourWords (f m)) ms ≡ map (λ m. ws) ms
+  by-written : {ms : List Moment} → WrittenBy O s h ws ms → All P ms → map (λ m. fourWords (f m)) ms ≡ map (λ m. ws) ms
   by-written (unwritten e) q = refl
   by-written (written {m} e n) q = ap (λ (l : List ℕ). l ∷ []) (sym (e ∙ ap fourWords (writes m (all-head P m [] q))))
 
   conclude : map (λ m. fourWords (f m)) (final (filter P h)) ≡ map (λ m. ws) (final (filter P h))
   conclude = by-written written-here (all-final P (filter P h) (all-filter P h))
 
-  by-none : {ms : List Moment} → WrittenBy s h ws ms → ms ≡ [] → ws ≡ 0 ∷ 0 ∷ 0 ∷ 0 ∷ []
+  by-none : {ms : List Moment} → WrittenBy O s h ws ms → ms ≡ [] → ws ≡ 0 ∷ 0 ∷ 0 ∷ 0 ∷ []
   by-none (unwritten e) q = e
   by-none (written {m} e n) q = absurd (eqb-false 0 1 refl (ap (λ (l : List Moment). length l) (sym q)))
 
@@ -204,13 +206,13 @@ declare-only r nz (bring k n d) q = absurd (nz (sym (eqb-true 0 r q)))
 declare-only r nz (visit k) q = absurd (nz (sym (eqb-true 0 r q)))
 
 -- Rows by kind: `o` is the store after the walk, h the history.
-module _ (s : Sheet) (h : List Moment) (o : Store) (k : StoreAgrees s h o) (r : ℕ) (nz : r ≡ 0 → ⊥) (l : r < length (o .table) / 8) where
+module _ (O : Outside) (s : Sheet) (h : List Moment) (o : Store) (k : StoreAgrees O s h o) (r : ℕ) (nz : r ≡ 0 → ⊥) (l : r < length (o .table) / 8) where
   visit-row : (K : ℕ) (f : Moment → List ℕ) → is s K r ≡ true → eqb 29 K ≡ false → eqb 4 K ≡ false → eqb 54 K ≡ false → ((k : ℕ) → is s K k ≡ true → ownRowKind s k ≡ true)
-      → ((z : Stack) → wordsWritten s h (record { event = visit r; stack = z }) ≡ f (record { event = visit r; stack = z }))
+      → ((z : Stack) → wordsWritten O s h (record { event = visit r; stack = z }) ≡ f (record { event = visit r; stack = z }))
       → map (λ m. fourWords (f m)) (visitOf h r) ≡ map (λ m. rowWords (o .table) r) (visitOf h r)
   visit-row K f hr n₂₉ n₄ n₅₄ tk base =
-      conclude s h (rowWords (o .table) r) r (λ m. eqb (visited (m .event)) r) (λ m. target-visit s r K hr nz n₂₉ n₄ n₅₄ tk (m .event) (m .stack)) f
-      (λ m q. subst (λ (e : Event). wordsWritten s h (record { event = e; stack = m .stack }) ≡ f (record { event = e; stack = m .stack })) (sym (visit-only r nz (m .event) q)) (base (m .stack)))
+      conclude O s h (rowWords (o .table) r) r (λ m. eqb (visited (m .event)) r) (λ m. target-visit s r K hr nz n₂₉ n₄ n₅₄ tk (m .event) (m .stack)) f
+      (λ m q. subst (λ (e : Event). wordsWritten O s h (record { event = e; stack = m .stack }) ≡ f (record { event = e; stack = m .stack })) (sym (visit-only r nz (m .event) q)) (base (m .stack)))
       (k .words-is r l nz)
 
   -- an identifier: what it means, seen from its function
@@ -237,15 +239,15 @@ module _ (s : Sheet) (h : List Moment) (o : Store) (k : StoreAgrees s h o) (r : 
   -- a literal that is not visited has no code
   pub literal-unwritten : is s 52 r ≡ true → visitOf h r ≡ [] → rowWords (o .table) r ≡ 0 ∷ 0 ∷ 0 ∷ 0 ∷ []
   literal-unwritten hr e =
-      conclude-none s h (rowWords (o .table) r) r (λ m. eqb (visited (m .event)) r)
+      conclude-none O s h (rowWords (o .table) r) r (λ m. eqb (visited (m .event)) r)
       (λ m. target-visit s r 52 hr nz refl refl refl (λ k q. rw (other-kind s k 52 50 q refl, other-kind s k 52 51 q refl, q)) (m .event) (m .stack))
-      (λ m. wordsWritten s h m) (λ m q. refl) (k .words-is r l nz) e
+      (λ m. wordsWritten O s h m) (λ m q. refl) (k .words-is r l nz) e
 
   -- a let: the definition's row, whole
   pub let-words : is s 29 r ≡ true → map fourWords (letRow s h r) ≡ rowWords (o .table) r ∷ []
   let-words hr = go (declaringOf h r) refl
-      (conclude s h (rowWords (o .table) r) r (λ m. eqb (declares (m .event)) r) same f writes (k .words-is r l nz))
-      (conclude-none s h (rowWords (o .table) r) r (λ m. eqb (declares (m .event)) r) same f writes (k .words-is r l nz))
+      (conclude O s h (rowWords (o .table) r) r (λ m. eqb (declares (m .event)) r) same f writes (k .words-is r l nz))
+      (conclude-none O s h (rowWords (o .table) r) r (λ m. eqb (declares (m .event)) r) same f writes (k .words-is r l nz))
     where
       f : Moment → List ℕ
       f m = code s h (declaration s m) (openLocals s (m .stack))
@@ -253,9 +255,9 @@ module _ (s : Sheet) (h : List Moment) (o : Store) (k : StoreAgrees s h o) (r : 
       same : (m : Moment) → eqb (rowWritten s (m .event) (m .stack)) r ≡ eqb (declares (m .event)) r
       same m = target-let s r 29 hr nz refl refl refl (λ k q. four-false s k 29 q refl refl refl refl) (m .event) (m .stack)
 
-      writes : (m : Moment) → eqb (declares (m .event)) r ≡ true → wordsWritten s h m ≡ f m
+      writes : (m : Moment) → eqb (declares (m .event)) r ≡ true → wordsWritten O s h m ≡ f m
       writes m q =
-          subst (λ (e : Event). wordsWritten s h (record { event = e; stack = m .stack }) ≡ f (record { event = e; stack = m .stack })) (sym (declare-only r nz (m .event) q)) (rw hr)
+          subst (λ (e : Event). wordsWritten O s h (record { event = e; stack = m .stack }) ≡ f (record { event = e; stack = m .stack })) (sym (declare-only r nz (m .event) q)) (rw hr)
 
       go : (ms : List Moment) → declaringOf h r ≡ ms → map (λ m. fourWords (f m)) (declaringOf h r) ≡ map (λ m. rowWords (o .table) r) (declaringOf h r)
           → (declaringOf h r ≡ [] → rowWords (o .table) r ≡ 0 ∷ 0 ∷ 0 ∷ 0 ∷ []) → map fourWords (letRow s h r) ≡ rowWords (o .table) r ∷ []
@@ -351,10 +353,10 @@ abbrev pub isMemberCall : Sheet → ℕ → Moment → Bool
 isMemberCall s r m = is s 59 (visited (m .event)) && not (eqb (receiver s (visited (m .event)) (m .stack)) 0) && eqb (child s (visited (m .event))) r
 
 -- code and values of the member callee of such a call
-abbrev pub memberValues : Sheet → ℕ → Moment → List ℕ
-memberValues s r m = 1 ∷ methodNamed (a s r) (ownMethods s (receiver s (visited (m .event)) (m .stack))) ∷ []
+abbrev pub memberValues : Outside → Sheet → ℕ → Moment → List ℕ
+memberValues O s r m = 1 ∷ methodNamed (a s r) (ownMethods O s (receiver s (visited (m .event)) (m .stack))) ∷ []
 
-module _ (s : Sheet) (hd : kind s 0 ≡ 0) (h : List Moment) (o : Store) (k : StoreAgrees s h o) (r : ℕ) (nz : r ≡ 0 → ⊥) (l : r < length (o .table) / 8) where
+module _ (O : Outside) (s : Sheet) (hd : kind s 0 ≡ 0) (h : List Moment) (o : Store) (k : StoreAgrees O s h o) (r : ℕ) (nz : r ≡ 0 → ⊥) (l : r < length (o .table) / 8) where
   no-visit : {A : Type 0} (J : ℕ) (t : Bool) → eqb 0 J ≡ false → (is s J 0 && t) ≡ true → A
   no-visit J t n q = absurd (true≢false (sym q ∙ ap (λ (u : Bool). u && t) (ap (λ (j : ℕ). eqb j J) hd ∙ n)))
 
@@ -362,7 +364,7 @@ module _ (s : Sheet) (hd : kind s 0 ≡ 0) (h : List Moment) (o : Store) (k : St
   no-visit₂ t u q = absurd (true≢false (sym q ∙ ap (λ (v : Bool). v && t && u) (ap (λ (j : ℕ). eqb j 59) hd)))
 
   parent-writes : (e : Event) (z : Stack) → (is s 30 (visited e) && eqb (a s (visited e)) r) ≡ true
-      → wordsWritten s h (record { event = e; stack = z }) ≡ 2 ∷ classNumber (lookup (b s r) z) ∷ []
+      → wordsWritten O s h (record { event = e; stack = z }) ≡ 2 ∷ classNumber (lookup (b s r) z) ∷ []
   parent-writes (enter k) z q = no-visit 30 _ refl q
   parent-writes leave z q = no-visit 30 _ refl q
   parent-writes loop z q = no-visit 30 _ refl q
@@ -370,7 +372,7 @@ module _ (s : Sheet) (hd : kind s 0 ≡ 0) (h : List Moment) (o : Store) (k : St
   parent-writes (bring k n d) z q = no-visit 30 _ refl q
   parent-writes (visit k) z q = go (is s 30 k) refl q
     where
-      go : (t : Bool) → is s 30 k ≡ t → (t && eqb (a s k) r) ≡ true → wordsWritten s h (record { event = visit k; stack = z }) ≡ 2 ∷ classNumber (lookup (b s r) z) ∷ []
+      go : (t : Bool) → is s 30 k ≡ t → (t && eqb (a s k) r) ≡ true → wordsWritten O s h (record { event = visit k; stack = z }) ≡ 2 ∷ classNumber (lookup (b s r) z) ∷ []
       go true e w =
           rw (other-kind s k 30 50 e refl, other-kind s k 30 51 e refl, other-kind s k 30 52 e refl, other-kind s k 30 55 e refl, e)
           (ap (λ (j : ℕ). 2 ∷ classNumber (lookup (b s j) z) ∷ []) (eqb-true (a s k) r w))
@@ -381,7 +383,7 @@ module _ (s : Sheet) (hd : kind s 0 ≡ 0) (h : List Moment) (o : Store) (k : St
   unfolding rowWords
   parent-word hr =
       out (final-short (filter P h))
-      ∙ sym (ap (λ (t : Bool). if t then largest (final (map g (filter (λ m. eqb (a s (visited (m .event))) ((256 + r) - 256)) (visits s h 30)))) else 0) (le-leb 256 (256 + r) (omega arith))
+      ∙ sym (ap (λ (t : Bool). if t then largest (final (map g (filter (λ m. eqb (a s (visited (m .event))) ((256 + r) - 256)) (visits s h 30)))) else 0) (of-sheet s r hr)
       ∙ ap (λ (j : ℕ). largest (final (map (λ m. classNumber (lookup (b s j) (m .stack))) (filter (λ m. eqb (a s (visited (m .event))) j) (visits s h 30))))) (omega arith)
       ∙ ap largest (final-map (λ m. classNumber (lookup (b s r) (m .stack))) (filter (λ m. eqb (a s (visited (m .event))) r) (visits s h 30))
       ∙ ap (λ (ms : List Moment). map (λ m. classNumber (lookup (b s r) (m .stack))) (final ms)) (filter-filter (λ m. eqb (a s (visited (m .event))) r) (λ m. is s 30 (visited (m .event))) h)))
@@ -396,10 +398,10 @@ module _ (s : Sheet) (hd : kind s 0 ≡ 0) (h : List Moment) (o : Store) (k : St
       f m = 2 ∷ classNumber (lookup (b s r) (m .stack)) ∷ []
 
       all : map (λ m. fourWords (f m)) (final (filter P h)) ≡ map (λ m. rowWords (o .table) r) (final (filter P h))
-      all = conclude s h (rowWords (o .table) r) r P (λ m. target-class s hd r hr nz (m .event) (m .stack)) f (λ m q. parent-writes (m .event) (m .stack) q) (k .words-is r l nz)
+      all = conclude O s h (rowWords (o .table) r) r P (λ m. target-class s hd r hr nz (m .event) (m .stack)) f (λ m q. parent-writes (m .event) (m .stack) q) (k .words-is r l nz)
 
       none : final (filter P h) ≡ [] → rowWords (o .table) r ≡ 0 ∷ 0 ∷ 0 ∷ 0 ∷ []
-      none = conclude-none s h (rowWords (o .table) r) r P (λ m. target-class s hd r hr nz (m .event) (m .stack)) f (λ m q. parent-writes (m .event) (m .stack) q) (k .words-is r l nz)
+      none = conclude-none O s h (rowWords (o .table) r) r P (λ m. target-class s hd r hr nz (m .event) (m .stack)) f (λ m q. parent-writes (m .event) (m .stack) q) (k .words-is r l nz)
 
       out : (final (filter P h) ≡ []) ⊎ ((m : Moment) × (final (filter P h) ≡ m ∷ []))
           → cell (o .table) r 1 ≡ largest (map (λ m. classNumber (lookup (b s r) (m .stack))) (final (filter P h)))
@@ -410,7 +412,7 @@ module _ (s : Sheet) (hd : kind s 0 ≡ 0) (h : List Moment) (o : Store) (k : St
           sym (ap (λ (ms : List Moment). largest (map (λ m. classNumber (lookup (b s r) (m .stack))) ms)) (w .1) ∙ omega (arith, c))
 
   member-writes : (e : Event) (z : Stack) → (is s 59 (visited e) && not (eqb (receiver s (visited e) z) 0) && eqb (child s (visited e)) r) ≡ true
-      → wordsWritten s h (record { event = e; stack = z }) ≡ 1 ∷ methodNamed (a s r) (ownMethods s (receiver s (visited e) z)) ∷ []
+      → wordsWritten O s h (record { event = e; stack = z }) ≡ 1 ∷ methodNamed (a s r) (ownMethods O s (receiver s (visited e) z)) ∷ []
   member-writes (enter k) z q = no-visit₂ _ _ q
   member-writes leave z q = no-visit₂ _ _ q
   member-writes loop z q = no-visit₂ _ _ q
@@ -419,25 +421,25 @@ module _ (s : Sheet) (hd : kind s 0 ≡ 0) (h : List Moment) (o : Store) (k : St
   member-writes (visit k) z q = go (is s 59 k) refl (not (eqb (receiver s k z) 0)) q
     where
       go : (t : Bool) → is s 59 k ≡ t → (u : Bool) → (t && u && eqb (child s k) r) ≡ true
-          → wordsWritten s h (record { event = visit k; stack = z }) ≡ 1 ∷ methodNamed (a s r) (ownMethods s (receiver s k z)) ∷ []
+          → wordsWritten O s h (record { event = visit k; stack = z }) ≡ 1 ∷ methodNamed (a s r) (ownMethods O s (receiver s k z)) ∷ []
       go true e true w =
           rw (other-kind s k 59 50 e refl, other-kind s k 59 51 e refl, other-kind s k 59 52 e refl, other-kind s k 59 55 e refl, other-kind s k 59 30 e refl)
-          (ap (λ (j : ℕ). 1 ∷ methodNamed (a s j) (ownMethods s (receiver s k z)) ∷ []) (eqb-true (child s k) r w))
+          (ap (λ (j : ℕ). 1 ∷ methodNamed (a s j) (ownMethods O s (receiver s k z)) ∷ []) (eqb-true (child s k) r w))
       go true e false w = absurd (true≢false (sym w))
       go false e u w = absurd (true≢false (sym w))
 
   -- what the calls of a method on a class write at their member callee, and nothing where there is no such call
   pub member-words : is s 54 r ≡ true
-      → map (λ m. fourWords (memberValues s r m)) (final (filter (isMemberCall s r) h)) ≡ map (λ m. rowWords (o .table) r) (final (filter (isMemberCall s r) h))
+      → map (λ m. fourWords (memberValues O s r m)) (final (filter (isMemberCall s r) h)) ≡ map (λ m. rowWords (o .table) r) (final (filter (isMemberCall s r) h))
   member-words hr =
-      conclude s h (rowWords (o .table) r) r (isMemberCall s r) (λ m. target-member s hd r hr nz (m .event) (m .stack)) (memberValues s r) (λ m q. member-writes (m .event) (m .stack) q) (k .words-is r l nz)
+      conclude O s h (rowWords (o .table) r) r (isMemberCall s r) (λ m. target-member s hd r hr nz (m .event) (m .stack)) (memberValues O s r) (λ m q. member-writes (m .event) (m .stack) q) (k .words-is r l nz)
 
   pub member-none : is s 54 r ≡ true → final (filter (isMemberCall s r) h) ≡ [] → rowWords (o .table) r ≡ 0 ∷ 0 ∷ 0 ∷ 0 ∷ []
   member-none hr =
-      conclude-none s h (rowWords (o .table) r) r (isMemberCall s r) (λ m. target-member s hd r hr nz (m .event) (m .stack)) (memberValues s r) (λ m q. member-writes (m .event) (m .stack) q) (k .words-is r l nz)
+      conclude-none O s h (rowWords (o .table) r) r (isMemberCall s r) (λ m. target-member s hd r hr nz (m .event) (m .stack)) (memberValues O s r) (λ m q. member-writes (m .event) (m .stack) q) (k .words-is r l nz)
 
   -- the definition's row of a member
-  pub member-row : memberRow s h r ≡ map (memberValues s r) (filter (isMemberCall s r) h)
+  pub member-row : memberRow O s h r ≡ map (memberValues O s r) (filter (isMemberCall s r) h)
   member-row =
-      ap (λ (ms : List Moment). map (memberValues s r) (filter (λ m. eqb (child s (visited (m .event))) r) ms)) (filter-filter (λ m. not (eqb (receiver s (visited (m .event)) (m .stack)) 0)) (λ m. is s 59 (visited (m .event))) h)
-      ∙ ap (map (memberValues s r)) (filter-filter (λ m. eqb (child s (visited (m .event))) r) (λ m. is s 59 (visited (m .event)) && not (eqb (receiver s (visited (m .event)) (m .stack)) 0)) h)
+      ap (λ (ms : List Moment). map (memberValues O s r) (filter (λ m. eqb (child s (visited (m .event))) r) ms)) (filter-filter (λ m. not (eqb (receiver s (visited (m .event)) (m .stack)) 0)) (λ m. is s 59 (visited (m .event))) h)
+      ∙ ap (map (memberValues O s r)) (filter-filter (λ m. eqb (child s (visited (m .event))) r) (λ m. is s 59 (visited (m .event)) && not (eqb (receiver s (visited (m .event)) (m .stack)) 0)) h)

@@ -9,6 +9,7 @@ use lib.Dec.{eqb, leb}
 use borrow.Author.Tests.{leb-true}
 use Rattle.definition.specs.Basics.{if_then_else_, filter, place, concatMap, from, bit}
 use Rattle.definition.specs.Sheet.{Sheet, kind, is, a, b, child, kidsOf, rows}
+use Rattle.definition.specs.Outside.{Outside}
 use Rattle.definition.specs.Meaning.{Meaning, nothing, function, class, global, toplevel, variable, isVariable, ownerOf, classNumber, isClass}
 use Rattle.definition.specs.Scope.{Moment, within, lookup, visitOf, declaringOf, declaration}
 use Rattle.definition.specs.Slots.{isMutable, code, openLocals, localCount}
@@ -65,9 +66,9 @@ whole r {vss} al = map-all short (λ vs. eight (r ∷ vs)) (λ vs. answerRow r (
 once : (f : Moment → List ℕ) (ws : List ℕ) (ms : List Moment) (m : Moment) → ms ≡ m ∷ [] → map (λ m. fourWords (f m)) ms ≡ map (λ m. ws) ms → map fourWords (map f ms) ≡ ws ∷ []
 once f ws ms m e q = map-map fourWords f ms ∙ q ∙ ap (map (λ m. ws)) e
 
-module _ (s : Sheet) (h : List Moment) (o : Store) (k : StoreAgrees s h o) (r : ℕ) (nz : r ≡ 0 → ⊥) (l : r < length (o .table) / 8) where
+module _ (O : Outside) (s : Sheet) (h : List Moment) (o : Store) (k : StoreAgrees O s h o) (r : ℕ) (nz : r ≡ 0 → ⊥) (l : r < length (o .table) / 8) where
   pub let-written : is s 29 r ≡ true → map (λ vs. eight (r ∷ vs)) (letRow s h r) ≡ answerRow r (rowWords (o .table) r) ∷ []
-  let-written hr = whole r (lets (declaringOf h r)) ∙ ap (map (answerRow r)) (let-words s h o k r nz l hr)
+  let-written hr = whole r (lets (declaringOf h r)) ∙ ap (map (answerRow r)) (let-words O s h o k r nz l hr)
     where
       lets : (ms : List Moment) → All short (take 1 (map (λ m. code s h (declaration s m) (openLocals s (m .stack))) ms ++ ((0 ∷ []) ∷ [])))
       lets [] = al-one refl al-none
@@ -83,7 +84,7 @@ module _ (s : Sheet) (h : List Moment) (o : Store) (k : StoreAgrees s h o) (r : 
       one : map (λ vs. eight (r ∷ vs)) (map (λ m. seenFrom s h (within s m) (useAt s m)) (visitOf h r)) ≡ answerRow r (rowWords (o .table) r) ∷ []
       one =
           whole r (all-map (λ m. seenFrom s h (within s m) (useAt s m)) (λ m. seen-short s h (within s m) (useAt s m)) (visitOf h r))
-          ∙ ap (map (answerRow r)) (once (λ m. seenFrom s h (within s m) (useAt s m)) (rowWords (o .table) r) (visitOf h r) m e (identifier-words s h o k r nz l hr))
+          ∙ ap (map (answerRow r)) (once (λ m. seenFrom s h (within s m) (useAt s m)) (rowWords (o .table) r) (visitOf h r) m e (identifier-words O s h o k r nz l hr))
 
       go : (t : Bool) → cell (o .table) r 4 ≡ bit t
           → map (λ vs. eight (r ∷ vs)) (map (λ m. seenFrom s h (within s m) (useAt s m)) (if not t then m ∷ [] else [])) ≡ (if eqb (cell (o .table) r 4) 0 then answerRow r (rowWords (o .table) r) ∷ [] else [])
@@ -93,12 +94,12 @@ module _ (s : Sheet) (h : List Moment) (o : Store) (k : StoreAgrees s h o) (r : 
   pub host-written : is s 51 r ≡ true → (m : Moment) → visitOf h r ≡ m ∷ [] → map (λ vs. eight (r ∷ vs)) (hostRow s h r) ≡ answerRow r (rowWords (o .table) r) ∷ []
   host-written hr m e =
       whole r (all-map (λ m. (if eqb (within s m) (b s 0) then 7 else 8) ∷ []) (λ m. refl) (visitOf h r))
-      ∙ ap (map (answerRow r)) (once (λ m. (if eqb (within s m) (b s 0) then 7 else 8) ∷ []) (rowWords (o .table) r) (visitOf h r) m e (host-words s h o k r nz l hr))
+      ∙ ap (map (answerRow r)) (once (λ m. (if eqb (within s m) (b s 0) then 7 else 8) ∷ []) (rowWords (o .table) r) (visitOf h r) m e (host-words O s h o k r nz l hr))
 
   pub instance-written : is s 55 r ≡ true → (m : Moment) → visitOf h r ≡ m ∷ [] → map (λ vs. eight (r ∷ vs)) (instanceRow s h r) ≡ answerRow r (rowWords (o .table) r) ∷ []
   instance-written hr m e =
       whole r (all-map (λ m. 2 ∷ classNumber (lookup (a s r) (m .stack)) ∷ []) (λ m. refl) (visitOf h r))
-      ∙ ap (map (answerRow r)) (once (λ m. 2 ∷ classNumber (lookup (a s r) (m .stack)) ∷ []) (rowWords (o .table) r) (visitOf h r) m e (instance-words s h o k r nz l hr))
+      ∙ ap (map (answerRow r)) (once (λ m. 2 ∷ classNumber (lookup (a s r) (m .stack)) ∷ []) (rowWords (o .table) r) (visitOf h r) m e (instance-words O s h o k r nz l hr))
 
   -- a literal: a row for each source, from the function in which it stands
   pub literal-written : is s 52 r ≡ true → (m : Moment) → visitOf h r ≡ m ∷ [] → cell (o .table) r 1 < length (o .table) / 8 → child s r < length (o .table) / 8
@@ -106,10 +107,10 @@ module _ (s : Sheet) (h : List Moment) (o : Store) (k : StoreAgrees s h o) (r : 
   unfolding rowWords
   literal-written hr m e lf lg =
       let t : fourWords (1 ∷ within s m ∷ []) ∷ [] ≡ rowWords (o .table) r ∷ [] =
-      subst (λ (ms : List Moment). map (λ m. fourWords (1 ∷ within s m ∷ [])) ms ≡ map (λ m. rowWords (o .table) r) ms) e (literal-words s h o k r nz l hr) in
+      subst (λ (ms : List Moment). map (λ m. fourWords (1 ∷ within s m ∷ [])) ms ≡ map (λ m. rowWords (o .table) r) ms) e (literal-words O s h o k r nz l hr) in
       let c : within s m ≡ cell (o .table) r 1 = ap (λ (x : List (List ℕ)). getD (getD x 0 []) 1 0) t in
       ap (concatMap (λ m. sources s h (within s m) (child s r))) e ∙ append-nil (sources s h (within s m) (child s r))
-      ∙ ap (λ (f : ℕ). sources s h f (child s r)) c ∙ sources-nodes s h o k (cell (o .table) r 1) (child s r) lf lg
+      ∙ ap (λ (f : ℕ). sources s h f (child s r)) c ∙ sources-nodes O s h o k (cell (o .table) r 1) (child s r) lf lg
 
   -- a function: counts, captures, escapes
   pub function-written : kind s 0 ≡ 0 → rows s ≤ length (o .table) / 8 → All (λ g. leb (suc g) (length (o .table) / 8)) (literalsIn s (o .table) r)
@@ -117,6 +118,6 @@ module _ (s : Sheet) (h : List Moment) (o : Store) (k : StoreAgrees s h o) (r : 
       → functionRows s h r
       ≡ (20 ∷ cell (o .table) r 5 ∷ length (listAt o (8 * r + 6)) ∷ length ks ∷ []) ∷ map (λ y. codeOf s (meaningOfNode y) (y .two) 0) (listAt o (8 * r + 6)) ++ map (λ j. 5 ∷ j ∷ r ∷ 1 ∷ []) ks
   function-written hd en al ks ek =
-      let es : escaping s h r ≡ ks = escaping-nodes s hd h o k en r l al ∙ sym ek in
+      let es : escaping s h r ≡ ks = escaping-nodes O s hd h o k en r l al ∙ sym ek in
       let lc : localCount s h r ≡ cell (o .table) r 5 = sym (k .locals-is r l) in
-      rw (es, lc, captures-count s h o k r l, captured-nodes s h o k r l)
+      rw (es, lc, captures-count O s h o k r l, captured-nodes O s h o k r l)

@@ -8,6 +8,7 @@ use native.Mathlib.Omega.{arith}
 use lib.Dec.{eqb, leb, T, T-not, not-T, eqb-refl, eqb→eq}
 use Rattle.definition.specs.Basics.{filter, bit, count}
 use Rattle.definition.specs.Sheet.{Sheet, kind, rows, is, a, kids}
+use Rattle.definition.specs.Outside.{Outside}
 use Rattle.definition.specs.Walk.{Event, visit, before, after, afterPart, parts, each, trace}
 use Rattle.definition.specs.Scope.{Stack, Moment, step, run, moments, history, start, visited}
 use Rattle.definition.specs.Bounds.{own}
@@ -81,7 +82,7 @@ only-of c z =
 parts-kids : (s : Sheet) (x : ℕ) → T (not (is s 30 x)) → parts s x ≡ filter (λ k. is s 2 k || is s 6 k || leb 20 (kind s k)) (kids s x)
 parts-kids s x h = ap (λ (p : ℕ). filter (λ k. is s 2 k || is s 6 k || leb 20 (kind s k)) (kids s p)) (if-false (is s 30 x) (a s x) x h)
 
-module _ {s : Sheet} (ok : Fits s) (c e r : ℕ) (y : Callee s c e r) where
+module _ {O : Outside} {s : Sheet} (ok : Fits O s) (c e r : ℕ) (y : Callee s c e r) where
   kc : kind s c ≡ 59
   kc = eqb→eq (kind s c) 59 (y .call)
 
@@ -212,9 +213,9 @@ module _ {s : Sheet} (ok : Fits s) (c e r : ℕ) (y : Callee s c e r) where
           (follows-call d (room-below k d (subst (λ (v : ℕ). Reached s k v) (sym q) w) h) (subst (λ (v : ℕ). (j : ℕ) → Mem j (parts s v) → Follows s c r (trace d s j)) (sym q) f))
       go (inr t) f = follows-other d x (λ q. T-not (eqb x c) t (subst (λ (v : ℕ). T (eqb x v)) q (eqb-refl x))) f
 
-  pub base-visited : (m : Moment) → Mem m (history s) → m .event ≡ visit c → Mem (record { event = visit r; stack = m .stack }) (history s)
+  pub base-visited : (m : Moment) → Mem m (history O s) → m .event ≡ visit c → Mem (record { event = visit r; stack = m .stack }) (history O s)
   unfolding Follows
-  base-visited m q h = follows-trace (rows s) 0 0 (reached-root ok) (omega arith) start m q h
+  base-visited m q h = follows-trace (rows s) 0 0 (reached-root ok) (omega arith) (start O) m q h
 
   -- the call is visited
   pub own-visit : Mem (visit c) (own s c)

@@ -11,6 +11,7 @@ use lib.Dec.{eqb, leb, ltb}
 use borrow.Author.Tests.{lt-ltb, eqb-false, ltb-true, ltb-false, leb-true, not-true}
 use Rattle.definition.specs.Basics.{if_then_else_}
 use Rattle.definition.specs.Sheet.{Sheet, a, child}
+use Rattle.definition.specs.Outside.{Outside}
 use Rattle.definition.specs.Walk.{Event}
 use Rattle.definition.specs.Slots.{isLocal}
 use Rattle.definition.specs.Classes.{classOf}
@@ -124,7 +125,7 @@ call-table x o = go (ltb (o .used) (nodeRoom (o .nodes)))
 call-unchanged : (x : Node) (o : Store) → Unchanged (λ d. true) o (appendCall x o)
 call-unchanged x o = record { grows = call-extends x o; words = λ q d l e. ap (λ (t : List ℕ). cell t q d) (call-table x o) }
 
-module _ (s : Sheet) (e : Event) (p : Scopes) (o : Store) where
+module _ (O : Outside) (s : Sheet) (e : Event) (p : Scopes) (o : Store) where
   pub storeCall-unchanged : Unchanged (λ d. true) o (storeCall s e p o)
   unfolding storeCall
   storeCall-unchanged = unchanged-if (λ d. true) (visitsKind s 59 e && not (eqb (constructedClass s (eventRow e) p) 0)) o _ (call-unchanged _ o)
@@ -145,10 +146,10 @@ module _ (s : Sheet) (e : Event) (p : Scopes) (o : Store) where
   unfolding storeHidden
   storeHidden-unchanged = unchanged-if (λ d. not (eqb d 4)) (visitsKind s 59 e && not (eqb (receiverClass s (eventRow e) p) 0)) o _ (hidden-unchanged (child s (child s (eventRow e))) o)
 
-  pub storeRow-unchanged : Unchanged (λ d. leb 4 d) o (storeRow s e p o)
+  pub storeRow-unchanged : Unchanged (λ d. leb 4 d) o (storeRow O s e p o)
   unfolding storeRow
   storeRow-unchanged = go (eqb (writtenRow s e p) 0)
     where
-      go : (t : Bool) → Unchanged (λ d. leb 4 d) o (if t then o else writeRow (writtenRow s e p) (writtenWords s e p o) o)
+      go : (t : Bool) → Unchanged (λ d. leb 4 d) o (if t then o else writeRow (writtenRow s e p) (writtenWords O s e p o) o)
       go true = unchanged-refl (λ d. leb 4 d) o
-      go false = writeRow-unchanged (writtenRow s e p) (writtenWords s e p o) o
+      go false = writeRow-unchanged (writtenRow s e p) (writtenWords O s e p o) o

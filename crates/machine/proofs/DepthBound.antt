@@ -10,6 +10,7 @@ use lib.ListN.{length, getD}
 use lib.Dec.{eqb, leb, T, T-not, not-T, leb→le, eqb→eq}
 use Rattle.definition.specs.Basics.{if_then_else_, _⇒_, bit, all, head}
 use Rattle.definition.specs.Sheet.{Sheet, kind, rows, is, a, b, kids, holder, functionsOf, functionOf}
+use Rattle.definition.specs.Outside.{Outside}
 use Rattle.definition.specs.Format.{tables, at, depthsFit}
 use Rattle.definition.specs.Walk.{parts}
 use Rattle.definition.proofs.Lists.Tests.{T-imp, decide, or-cases, if-true, if-false, kind-apart, bit-not, bit-le, and-left, and-right}
@@ -68,7 +69,7 @@ slack-most false false = omega arith
 abbrev depth : Sheet → ℕ → ℕ
 depth s x = at (tables s .depths) x
 
-module _ {s : Sheet} (ok : Fits s) where
+module _ {O : Outside} {s : Sheet} (ok : Fits O s) where
   -- a part of a row that is no class declaration is its child; of one that is, its class's
   part-kid : (w x : ℕ) → T (not (is s 30 w)) → Mem x (parts s w) → Mem x (kids s w)
   part-kid w x h m =
@@ -121,7 +122,7 @@ module _ {s : Sheet} (ok : Fits s) where
       let bare : q .1 ≡ [] = around-rest ok d g (q .1) w e ∙ function-bare g (v .0) (v .1) (subst (λ (f : ℕ). b s f ≡ 1) hd (c .1)) in
       ap length e ∙ ap (λ (fs : List ℕ). suc (length fs)) bare
 
-module _ (n : ℕ) {s : Sheet} (ok : Fits s) (fa : SheetFacts n s) where
+module _ (n : ℕ) {O : Outside} {s : Sheet} (ok : Fits O s) (fa : SheetFacts n s) where
   deeper : (x w : ℕ) → 0 < x → x < rows s → holder s x ≡ w → depth s x ≡ suc (depth s w)
   deeper x w z l e = depth-step s (ok .links) x z l ∙ ap (λ (p : ℕ). suc (depth s p)) e
 

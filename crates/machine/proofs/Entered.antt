@@ -10,6 +10,7 @@ use lib.Dec.{eqb, ltb, T, T-not, eqb-refl, eqb→eq}
 use borrow.Author.Tests.{ltb-false}
 use Rattle.definition.specs.Basics.{if_then_else_, filter, concatMap, bit, count, _∈?_, total}
 use Rattle.definition.specs.Sheet.{Sheet, rows, is, kids, kidsOf, child}
+use Rattle.definition.specs.Outside.{Outside}
 use Rattle.definition.specs.Walk.{Event, enter, leave, loop, declare, bring, visit, imports, literalLet, before, after, afterPart, parts, each, walk}
 use Rattle.definition.specs.Bounds.{walked, own, isEnter, isDeclare}
 use Rattle.definition.proofs.Lists.Tests.{decide, bit-not, bit-le}
@@ -221,7 +222,7 @@ pushes-count (declare r ∷ es) = omega (arith, pushes-count es)
 pushes-count (bring r n d ∷ es) = omega (arith, pushes-count es)
 pushes-count (visit r ∷ es) = omega (arith, pushes-count es)
 
-module _ {s : Sheet} (ok : Fits s) where
+module _ {O : Outside} {s : Sheet} (ok : Fits O s) where
   enters-once : (x : ℕ) → count (entersOf x) (walk s) ≤ 1
   enters-once x =
       omega (arith, count-trace (entersOf x) (rows s) s 0, total-bit (λ y. count (entersOf x) (own s y)) x (walked-nodup ok (rows s) 0 (reached-root ok)) (λ y. enter-own x s y))

@@ -1,18 +1,20 @@
 -- How many entries are open: before the first no the names of a scope are distinct, so imports push no more entries than there are names.
 use mathlib.Core.Path.{_≡_, refl, sym, ap, _∙_}
-use mathlib.Core.List.{List, [], _∷_}
+use mathlib.Core.List.{List, [], _∷_, map}
 use mathlib.Core.Bool.{Bool, true, false, not, _||_, _&&_, true≢false}
 use Prim.Native.Nat.{ℕ, zero, suc, _+_, _-_, _<_, _≤_}
 use native.Mathlib.Omega.{arith}
 use lib.ListN.{length}
-use lib.Dec.{eqb, ltb}
+use lib.Dec.{eqb, ltb, T}
 use borrow.Author.Tests.{eqb-true, eqb-false, ltb-true, lt-ltb}
-use Rattle.definition.specs.Basics.{if_then_else_, filter, _∈?_}
+use Rattle.definition.specs.Basics.{if_then_else_, filter, _∈?_, any, unlike}
 use Rattle.definition.specs.Sheet.{Sheet, is, a}
-use Rattle.definition.specs.Meaning.{Meaning, isDeclared}
+use Rattle.definition.specs.Outside.{Outside, OutsideFits}
+use Rattle.definition.specs.Meaning.{Meaning, isDeclared, Named}
 use Rattle.definition.specs.Walk.{Event, enter, leave, loop, declare, bring, visit, literalLet, walk}
 use Rattle.definition.specs.Scope.{Stack, Moment, scope, looping, bound, taken, closed, step, start}
 use Rattle.definition.specs.Question.{ask, askEvent}
+use Rattle.definition.proofs.Lists.Tests.{and-left, and-right, true-of}
 use Rattle.machine.proofs.Lists.{eqb-same}
 use Rattle.machine.proofs.Stacks.{Distinct, a-none, a-one}
 use Rattle.machine.proofs.AfterRows.{All, al-none, al-one}
@@ -108,25 +110,25 @@ not-taken : (t : Bool) → not t ≡ true → t ≡ false
 not-taken true e = sym e
 not-taken false e = refl
 
-names-step : (s : Sheet) (z : Stack) (e : Event) → askEvent s e z .number ≡ 0 → NamesApart z → NamesApart ((step s z e))
-names-step s z (enter r) q p = n-scope p
-names-step s z leave q p = names-closed p
-names-step s z loop q p = n-loop p
-names-step s z (declare r) q p = n-name (not-taken (taken (a s r) z) (asked (if is s 29 r && not (literalLet s r) then 7 else 16) r (a s r) (not (taken (a s r) z)) (by (is s 29 r && not (literalLet s r))) q)) p
+names-step : (O : Outside) (s : Sheet) (z : Stack) (e : Event) → askEvent O s e z .number ≡ 0 → NamesApart z → NamesApart ((step s z e))
+names-step O s z (enter r) q p = n-scope p
+names-step O s z leave q p = names-closed p
+names-step O s z loop q p = n-loop p
+names-step O s z (declare r) q p = n-name (not-taken (taken (a s r) z) (asked (if is s 29 r && not (literalLet s r) then 7 else 16) r (a s r) (not (taken (a s r) z)) (by (is s 29 r && not (literalLet s r))) q)) p
   where
     by : (t : Bool) → _≡_ {A = ℕ} (if t then 7 else 16) 0 → ⊥
     by true e = omega arith
     by false e = omega arith
-names-step s z (bring r n d) q p = n-name (by (isDeclared d) q) p
+names-step O s z (bring r n d) q p = n-name (by (isDeclared d) q) p
   where
     by : (t : Bool) → (if t then ask 16 r n (not (taken n z)) else ask 15 r n false) .number ≡ 0 → taken n z ≡ false
     by true e = not-taken (taken n z) (asked 16 r n (not (taken n z)) (λ k. omega arith) e)
     by false e = absurd (omega arith)
-names-step s z (visit r) q p = p
+names-step O s z (visit r) q p = p
 
-pub names-reached : (s : Sheet) {z : Stack} {es : List Event} {m : Moment} → Reached s z es m → NamesApart z → NamesApart (m .stack)
-names-reached s r-here p = p
-names-reached s (r-later {z} {e} q w) p = names-reached s w (names-step s z e q p)
+pub names-reached : (O : Outside) (s : Sheet) {z : Stack} {es : List Event} {m : Moment} → Reached O s z es m → NamesApart z → NamesApart (m .stack)
+names-reached O s r-here p = p
+names-reached O s (r-later {z} {e} q w) p = names-reached O s w (names-step O s z e q p)
 
 -- Lengths.
 abbrev pub entriesPushed : List Event → ℕ
@@ -148,18 +150,18 @@ closed-length (bound m d ∷ st) = omega (arith, closed-length st)
 unfoldable pub ImportShallow : ℕ → ℕ → Moment → Type 0
 ImportShallow n c m = (r k : ℕ) (d : Meaning) → m .event ≡ bring r k d → (length (m .stack) ≤ length (topNames (m .stack)) + c) × All (λ x. ltb x n) (k ∷ topNames (m .stack))
 
-step-length : (s : Sheet) (z : Stack) (e : Event) (n c B : ℕ) → n + c ≤ B → length z ≤ B → NamesApart z → askEvent s e z .number ≡ 0
+step-length : (O : Outside) (s : Sheet) (z : Stack) (e : Event) (n c B : ℕ) → n + c ≤ B → length z ≤ B → NamesApart z → askEvent O s e z .number ≡ 0
     → ImportShallow n c (record { event = e; stack = z }) → length ((step s z e)) + entriesPushed [] ≤ B + entriesPushed (e ∷ [])
 unfolding ImportShallow
-step-length s z (enter r) n c B h l p q f = omega arith
-step-length s z leave n c B h l p q f = omega (arith, closed-length z)
-step-length s z loop n c B h l p q f = omega arith
-step-length s z (declare r) n c B h l p q f = omega arith
-step-length s z (bring r k d) n c B h l p q f =
+step-length O s z (enter r) n c B h l p q f = omega arith
+step-length O s z leave n c B h l p q f = omega (arith, closed-length z)
+step-length O s z loop n c B h l p q f = omega arith
+step-length O s z (declare r) n c B h l p q f = omega arith
+step-length O s z (bring r k d) n c B h l p q f =
     let g = f r k d refl in
-    let w : length (k ∷ topNames z) ≤ n = pigeons n (k ∷ topNames z) (top-apart (names-step s z (bring r k d) q p)) (g .1) in
+    let w : length (k ∷ topNames z) ≤ n = pigeons n (k ∷ topNames z) (top-apart (names-step O s z (bring r k d) q p)) (g .1) in
     omega (arith, w, g .0)
-step-length s z (visit r) n c B h l p q f = omega arith
+step-length O s z (visit r) n c B h l p q f = omega arith
 
 pushes-cons : (e : Event) (es : List Event) → entriesPushed (e ∷ es) ≡ entriesPushed (e ∷ []) + entriesPushed es
 pushes-cons (enter r) es = omega arith
@@ -169,19 +171,37 @@ pushes-cons (declare r) es = omega arith
 pushes-cons (bring r n d) es = omega arith
 pushes-cons (visit r) es = omega arith
 
-pub stack-bound : (s : Sheet) (n c B : ℕ) → n + c ≤ B → {z : Stack} {es : List Event} {m : Moment} → Reached s z es m
-    → ((x : Moment) → Reached s z es x → ImportShallow n c x) → NamesApart z → length z ≤ B → length (m .stack) ≤ B + entriesPushed es
-stack-bound s n c B h (r-here {z} {e} {es}) f p l = omega arith
-stack-bound s n c B h (r-later {z} {e} {es} q w) f p l =
-    let i = stack-bound s n c (B + entriesPushed (e ∷ [])) (omega arith) w (λ x r. f x (r-later q r)) (names-step s z e q p)
-    (omega (arith, step-length s z e n c B h l p q (f (record { event = e; stack = z }) r-here))) in
+pub stack-bound : (O : Outside) (s : Sheet) (n c B : ℕ) → n + c ≤ B → {z : Stack} {es : List Event} {m : Moment} → Reached O s z es m
+    → ((x : Moment) → Reached O s z es x → ImportShallow n c x) → NamesApart z → length z ≤ B → length (m .stack) ≤ B + entriesPushed es
+stack-bound O s n c B h (r-here {z} {e} {es}) f p l = omega arith
+stack-bound O s n c B h (r-later {z} {e} {es} q w) f p l =
+    let i = stack-bound O s n c (B + entriesPushed (e ∷ [])) (omega arith) w (λ x r. f x (r-later q r)) (names-step O s z e q p)
+    (omega (arith, step-length O s z e n c B h l p q (f (record { event = e; stack = z }) r-here))) in
     omega (arith, i, pushes-cons e es)
 
-start-apart : NamesApart start
-start-apart = n-name refl (n-name refl (n-name refl (n-name refl (n-name refl (n-name refl (n-name refl (n-name refl (n-name refl n-none))))))))
+names-taken : (m : ℕ) (xs : List Named) → taken m (map (λ x. bound (x .name) (x .means)) xs) ≡ any (λ y. eqb (y .name) m) xs
+names-taken m [] = refl
+names-taken m (x ∷ xs) = ap (λ (t : Bool). eqb (x .name) m || t) (names-taken m xs)
 
--- In the walk of a sheet whose names are below n, before the first no, at most n + 10 entries and one for each scope, loop
--- and declaration are open.
-pub walk-bound : (s : Sheet) (n : ℕ) (m : Moment) → ((x : Moment) → Reached s start (walk s) x → ImportShallow n 10 x)
-    → Reached s start (walk s) m → length (m .stack) ≤ n + 10 + entriesPushed (walk s)
-walk-bound s n m f w = stack-bound s n 10 (n + 10) (omega arith) w f start-apart (omega arith)
+start-apart : (xs : List Named) → T (unlike (λ x y. eqb (y .name) (x .name)) xs) → NamesApart (map (λ x. bound (x .name) (x .means)) xs)
+start-apart [] h = n-none
+start-apart (x ∷ xs) h =
+    let fresh : Bool = not (any (λ y. eqb (y .name) (x .name)) xs) in
+    let rest : Bool = unlike (λ x y. eqb (y .name) (x .name)) xs in
+    n-name (names-taken (x .name) xs ∙ not-taken (any (λ y. eqb (y .name) (x .name)) xs) (true-of fresh (and-left fresh rest h)))
+    (start-apart xs (and-right fresh rest h))
+
+pub start-length : (xs : List Named) → length (map (λ x. bound (x .name) (x .means)) xs) ≡ length xs
+start-length [] = refl
+start-length (x ∷ xs) = ap suc (start-length xs)
+
+-- the entries below an import: the names from outside and the mark of the unit's scope
+abbrev pub entriesBelow : Outside → ℕ
+entriesBelow O = suc (length (O .names))
+
+-- In the walk of a sheet whose names are below n, before the first no, at most n entries, one for each name from outside and one
+-- more, and one for each scope, loop and declaration are open.
+pub walk-bound : {O : Outside} → OutsideFits O → (s : Sheet) (n : ℕ) (m : Moment) → ((x : Moment) → Reached O s (start O) (walk s) x → ImportShallow n (entriesBelow O) x)
+    → Reached O s (start O) (walk s) m → length (m .stack) ≤ n + entriesBelow O + entriesPushed (walk s)
+walk-bound {O} known s n m f w =
+    stack-bound O s n (entriesBelow O) (n + entriesBelow O) (omega arith) w f (start-apart (O .names) (known .apart)) (omega (arith, start-length (O .names)))

@@ -7,6 +7,7 @@ use native.Mathlib.Omega.{arith}
 use lib.ListN.{length, getD}
 use lib.Dec.{T}
 use Rattle.definition.specs.Sheet.{is, Sheet, rows, functionsOf}
+use Rattle.definition.specs.Outside.{Outside, OutsideFits}
 use Rattle.definition.specs.Format.{sheetFits, depthsFit}
 use Rattle.definition.specs.Walk.{walk}
 use Rattle.definition.specs.Scope.{start}
@@ -28,17 +29,18 @@ use Rattle.machine.proofs.ImportBound.{walk-shallow}
 use Rattle.machine.proofs.DepthBound.{functions-few}
 
 -- room for a sheet whose last name is n, with at most K functions around an identifier
-pub record EnoughRoom (n K : ℕ) (s : Sheet) (room : Room) : Type 0 where
+pub record EnoughRoom (n K : ℕ) (O : Outside) (s : Sheet) (room : Room) : Type 0 where
   pub for-rows : rows s ≤ room .rows
-  pub for-entries : n + 11 + 3 * rows s < room .entries
-  pub for-words : n + 11 + 3 * rows s < 4294967295
+  pub for-entries : n + 2 + length (O .names) + 3 * rows s < room .entries
+  pub for-words : n + 2 + length (O .names) + 3 * rows s < 4294967295
   pub for-nodes : K * rows s ≤ room .nodes
 
-pub ready-within : (n K : ℕ) (s : Sheet) (room : Room) → 0 < rows s → sheetFits n s ≡ true → 1 ≤ K → ((x : ℕ) → Walks s x → T (is s 50 x) → length (functionsOf s x) ≤ K)
-    → EnoughRoom n K s room → WalkReady s room (suc n)
-ready-within n K s room z h i f y =
-    let ok : Fits s = fits n s z h in
+pub ready-within : (n K : ℕ) {O : Outside} → OutsideFits O → (s : Sheet) (room : Room) → 0 < rows s → sheetFits n s ≡ true → 1 ≤ K → ((x : ℕ) → Walks s x → T (is s 50 x) → length (functionsOf s x) ≤ K)
+    → EnoughRoom n K O s room → WalkReady O s room (suc n)
+ready-within n K {O} known s room z h i f y =
+    let ok : Fits O s = fits n s known z h in
     record {
+      known = known;
       header = ok .header;
       once = entered-once ok;
       are-rows = entered-rows ok (room .rows) (y .for-rows);
@@ -54,12 +56,12 @@ ready-within n K s room z h i f y =
     }
 
 -- with depths up to 64 (question 4): at most 21 functions around an identifier, so 21 nodes for each row
-pub ready-deep : (n : ℕ) (s : Sheet) (room : Room) → 0 < rows s → sheetFits n s ≡ true → T (depthsFit s) → EnoughRoom n 21 s room → WalkReady s room (suc n)
-ready-deep n s room z h g y = ready-within n 21 s room z h (omega arith) (functions-few n (fits n s z h) (facts n s h) g) y
+pub ready-deep : (n : ℕ) {O : Outside} → OutsideFits O → (s : Sheet) (room : Room) → 0 < rows s → sheetFits n s ≡ true → T (depthsFit s) → EnoughRoom n 21 O s room → WalkReady O s room (suc n)
+ready-deep n known s room z h g y = ready-within n 21 known s room z h (omega arith) (functions-few n (fits n s known z h) (facts n s h) g) y
 
 -- The walk of a sheet past the questions 3 and 4, with a table of zeros: the machine agrees with the definition, or refuses
 -- with the definition's first no.
-pub fitting-sheet : (n : ℕ) (s : Sheet) (v t q : List ℕ) → ((j : ℕ) → getD t j 0 ≡ 0) → 0 < rows s → sheetFits n s ≡ true → T (depthsFit s)
-    → EnoughRoom n 21 s (record { entries = entryRoom v; rows = length t / 8; nodes = nodeRoom q })
-    → Ends s (record { entries = entryRoom v; rows = length t / 8; nodes = nodeRoom q }) [] start (walk s) (runState s (walk s) (startState s v t q))
-fitting-sheet n s v t q c z h g y = ready-ends s (suc n) v t q c (ready-deep n s _ z h g y)
+pub fitting-sheet : (n : ℕ) {O : Outside} → OutsideFits O → (s : Sheet) (v t q : List ℕ) → ((j : ℕ) → getD t j 0 ≡ 0) → 0 < rows s → sheetFits n s ≡ true → T (depthsFit s)
+    → EnoughRoom n 21 O s (record { entries = entryRoom v; rows = length t / 8; nodes = nodeRoom q })
+    → Ends O s (record { entries = entryRoom v; rows = length t / 8; nodes = nodeRoom q }) [] (start O) (walk s) (runState O s (walk s) (startState O s v t q))
+fitting-sheet n {O} known s v t q c z h g y = ready-ends O s (suc n) v t q c (ready-deep n known s _ z h g y)

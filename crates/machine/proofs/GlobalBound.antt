@@ -9,6 +9,7 @@ use lib.Dec.{T, leb}
 use borrow.Author.Tests.{leb-true}
 use Rattle.definition.specs.Basics.{if_then_else_, filter, count, bit}
 use Rattle.definition.specs.Sheet.{Sheet, kind, rows, is, a}
+use Rattle.definition.specs.Outside.{Outside}
 use Rattle.definition.specs.Meaning.{isToplevel}
 use Rattle.definition.specs.Walk.{Event, enter, leave, loop, declare, bring, visit, walk}
 use Rattle.definition.specs.Scope.{Stack, Moment, start, step, moments, history, declares, declarings, declaration}
@@ -44,7 +45,7 @@ filter-length p (x ∷ xs) = by (p x) (filter-length p xs)
     by true h = omega arith
     by false h = omega arith
 
-module _ (n : ℕ) {s : Sheet} (ok : Fits s) (fa : SheetFacts n s) where
+module _ (n : ℕ) {O : Outside} {s : Sheet} (ok : Fits O s) (fa : SheetFacts n s) where
   only-declares : (e : Event) → T (is s 29 (declares e)) → T (isDeclare e)
   only-declares (enter r) h = absurd (is-not-zero ok 29 tt h)
   only-declares leave h = absurd (is-not-zero ok 29 tt h)
@@ -53,19 +54,19 @@ module _ (n : ℕ) {s : Sheet} (ok : Fits s) (fa : SheetFacts n s) where
   only-declares (bring r k d) h = absurd (is-not-zero ok 29 tt h)
   only-declares (visit r) h = absurd (is-not-zero ok 29 tt h)
 
-  lets-bound : length (globalLets s (history s)) ≤ rows s
+  lets-bound : length (globalLets s (history O s)) ≤ rows s
   lets-bound =
       omega (
         arith,
-        length-map (filter (λ m. isToplevel (declaration s m)) (declarings s (history s) 29)) (λ m. declares (m .event)),
-        filter-length (λ m. isToplevel (declaration s m)) (declarings s (history s) 29),
-        count-filter (λ m. is s 29 (declares (m .event))) (history s),
-        count-less (λ m. is s 29 (declares (m .event))) (λ m. isDeclare (m .event)) (history s) (λ m q h. only-declares (m .event) h),
-        count-moments s isDeclare start (walk s),
+        length-map (filter (λ m. isToplevel (declaration s m)) (declarings s (history O s) 29)) (λ m. declares (m .event)),
+        filter-length (λ m. isToplevel (declaration s m)) (declarings s (history O s) 29),
+        count-filter (λ m. is s 29 (declares (m .event))) (history O s),
+        count-less (λ m. is s 29 (declares (m .event))) (λ m. isDeclare (m .event)) (history O s) (λ m q h. only-declares (m .event) h),
+        count-moments s isDeclare (start O) (walk s),
         declares-bound ok,
       )
 
-  pub globals-bound : finalGlobals s (history s) ≤ 1000000 + rows s
+  pub globals-bound : finalGlobals s (history O s) ≤ 1000000 + rows s
   globals-bound =
       let h : a s 0 ≤ 1000000 = leb-true (a s 0) 1000000 (true-of (leb (a s 0) 1000000) (column-a n s fa 0 0 (eqb-of (kind s 0) 0 (ok .header)) (ok .some-row))) in
       omega (arith, lets-bound)

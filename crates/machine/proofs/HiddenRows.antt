@@ -9,6 +9,7 @@ use lib.ListN.{getD}
 use lib.Dec.{eqb, T, eqb-refl, eqb→eq}
 use Rattle.definition.specs.Basics.{if_then_else_, count, total}
 use Rattle.definition.specs.Sheet.{Sheet, kind, rows, is, a, child, next, kids, chain, holder}
+use Rattle.definition.specs.Outside.{Outside}
 use Rattle.definition.specs.Shape.{expression}
 use Rattle.definition.specs.Meaning.{classNumber, isClass}
 use Rattle.definition.specs.Walk.{Event, enter, leave, loop, declare, bring, visit, walk}
@@ -65,7 +66,7 @@ choose : (t : Bool) (k : ℕ) → T t → T (not (eqb k 0)) → T (not (eqb (if 
 choose true k h g = g
 choose false k h g = absurd h
 
-module _ (n : ℕ) {s : Sheet} (ok : Fits s) (fa : SheetFacts n s) where
+module _ (n : ℕ) {O : Outside} {s : Sheet} (ok : Fits O s) (fa : SheetFacts n s) where
   pub child-range : (p : ℕ) → p < rows s → (child s p ≡ 0 → ⊥) → child s p < rows s
   child-range p l z = go (ok .links .children p l)
     where
@@ -105,17 +106,17 @@ module _ (n : ℕ) {s : Sheet} (ok : Fits s) (fa : SheetFacts n s) where
         kids-base = no-children (kind s) (kids s r) (children-of n s fa 50 r tr lr);
       }
 
-  pub visit-range : (m : Moment) (c : ℕ) → Mem m (history s) → m .event ≡ visit c → c < rows s
+  pub visit-range : (m : Moment) (c : ℕ) → Mem m (history O s) → m .event ≡ visit c → c < rows s
   visit-range m c q e = go (subst (λ (v : Event). Told s (around s (m .stack)) v) e (told ok m q))
     where
       go : {fs : List ℕ} → Told s fs (visit c) → c < rows s
       go (t-visit h w) = found ok (rows s) 0 c (reached-root ok) w .reached .in-range
 
   -- the stack at the base is that at the call
-  same-moment : (c e r : ℕ) → Callee s c e r → (m m′ : Moment) → visitOf (history s) r ≡ m ∷ [] → Mem m′ (history s) → m′ .event ≡ visit c → record { event = visit r; stack = m′ .stack } ≡ m
+  same-moment : (c e r : ℕ) → Callee s c e r → (m m′ : Moment) → visitOf (history O s) r ≡ m ∷ [] → Mem m′ (history O s) → m′ .event ≡ visit c → record { event = visit r; stack = m′ .stack } ≡ m
   same-moment c e r y m m′ h q v =
       let x : Moment = record { event = visit r; stack = m′ .stack } in
-      let w : visitOf (history s) r ≡ x ∷ [] = visit-of ok x (base-visited ok c e r y m′ q v) (kind-not-zero ok 50 r tt (y .base)) in
+      let w : visitOf (history O s) r ≡ x ∷ [] = visit-of ok x (base-visited ok c e r y m′ q v) (kind-not-zero ok 50 r tt (y .base)) in
       ap (λ (l : List Moment). getD l 0 m) (sym w ∙ h)
 
   base-of : (c e r : ℕ) → c < rows s → e < rows s → Callee s c e r → child s c ≡ e → T (isCalleeBase s r)
@@ -126,13 +127,13 @@ module _ (n : ℕ) {s : Sheet} (ok : Fits s) (fa : SheetFacts n s) where
       (subst (λ (j : ℕ). T (is s 54 e && is s 59 j && eqb (child s j) e)) (sym he)
       (and-both (is s 54 e && is s 59 c) (eqb (child s c) e) (and-both (is s 54 e) (is s 59 c) (y .member) (y .call)) (eqb-of (child s c) e q)))
 
-  module _ (r : ℕ) (lr : r < rows s) (tr : T (is s 50 r)) (m : Moment) (one : visitOf (history s) r ≡ m ∷ []) where
-    found-at-call : T (isHidden s (history s) r) → T (isCalleeBase s r && isClass (useAt s m .means))
+  module _ (r : ℕ) (lr : r < rows s) (tr : T (is s 50 r)) (m : Moment) (one : visitOf (history O s) r ≡ m ∷ []) where
+    found-at-call : T (isHidden s (history O s) r) → T (isCalleeBase s r && isClass (useAt s m .means))
     found-at-call h =
-        let x = any-mem (λ m. eqb (child s (child s (visited (m .event)))) r) (classCalls s (history s)) h in
+        let x = any-mem (λ m. eqb (child s (child s (visited (m .event)))) r) (classCalls s (history O s)) h in
         let m′ : Moment = x .0 in
-        let f = filter-mem (λ m. not (eqb (receiver s (visited (m .event)) (m .stack)) 0)) m′ (visits s (history s) 59) (x .1) in
-        let g = filter-mem (λ m. is s 59 (visited (m .event))) m′ (history s) (f .0) in
+        let f = filter-mem (λ m. not (eqb (receiver s (visited (m .event)) (m .stack)) 0)) m′ (visits s (history O s) 59) (x .1) in
+        let g = filter-mem (λ m. is s 59 (visited (m .event))) m′ (history O s) (f .0) in
         let c : ℕ = visited (m′ .event) in
         let e : ℕ = child s c in
         let v : m′ .event ≡ visit c = visited-event (m′ .event) c refl (kind-not-zero ok 59 c tt (g .1)) in
@@ -146,7 +147,7 @@ module _ (n : ℕ) {s : Sheet} (ok : Fits s) (fa : SheetFacts n s) where
         let cls : T (isClass (lookup (a s r) (m′ .stack))) = subst (λ (j : ℕ). T (not (eqb (classNumber (lookup (a s j) (m′ .stack))) 0))) qr (k .1) in
         and-both (isCalleeBase s r) (isClass (useAt s m .means)) (base-of c e r lc le y refl) (subst (λ (j : Moment). T (isClass (useAt s j .means))) w cls)
 
-    hidden-there : T (isCalleeBase s r && isClass (useAt s m .means)) → T (isHidden s (history s) r)
+    hidden-there : T (isCalleeBase s r && isClass (useAt s m .means)) → T (isHidden s (history O s) r)
     hidden-there h =
         let hb : T (isCalleeBase s r) = and-left (isCalleeBase s r) (isClass (useAt s m .means)) h in
         let e : ℕ = holder s r in
@@ -168,7 +169,7 @@ module _ (n : ℕ) {s : Sheet} (ok : Fits s) (fa : SheetFacts n s) where
           mem-total (λ x. count p (own s x)) c (walked (rows s) s 0) (statement-walked ok 59 c lc tt tc),
           count-mem p (visit c) (own s c) (eqb-refl c) (own-visit ok c e r y),
         )) in
-        let mm = mem-moments s start (ev .0) (walk s) (ev .1) in
+        let mm = mem-moments s (start O) (ev .0) (walk s) (ev .1) in
         let m′ : Moment = mm .0 in
         let vc : visited (m′ .event) ≡ c = ap visited (mm .2) ∙ eqb→eq (visited (ev .0)) c (ev .2) in
         let v : m′ .event ≡ visit c = visited-event (m′ .event) c vc (kind-not-zero ok 59 c tt tc) in
@@ -178,10 +179,10 @@ module _ (n : ℕ) {s : Sheet} (ok : Fits s) (fa : SheetFacts n s) where
         subst (λ (j : ℕ). T (not (eqb (if is s 54 j && is s 50 (child s j) then classNumber (lookup (a s (child s j)) (m′ .stack)) else 0) 0))) (sym qe)
         (subst (λ (j : ℕ). T (not (eqb (if is s 54 e && is s 50 j then classNumber (lookup (a s j) (m′ .stack)) else 0) 0))) (sym qr)
         (choose (is s 54 e && is s 50 r) (classNumber (lookup (a s r) (m′ .stack))) (and-both (is s 54 e) (is s 50 r) te tr) cls)) in
-        mem-any (λ m. eqb (child s (child s (visited (m .event)))) r) m′ (classCalls s (history s))
+        mem-any (λ m. eqb (child s (child s (visited (m .event)))) r) m′ (classCalls s (history O s))
         (eqb-of (child s (child s (visited (m′ .event)))) r (ap (λ (j : ℕ). child s (child s j)) vc ∙ ap (child s) qe ∙ qr))
-        (mem-filter (λ m. not (eqb (receiver s (visited (m .event)) (m .stack)) 0)) m′ (visits s (history s) 59) (subst (λ (j : ℕ). T (not (eqb (receiver s j (m′ .stack)) 0))) (sym vc) rec)
-        (mem-filter (λ m. is s 59 (visited (m .event))) m′ (history s) (subst (λ (j : ℕ). T (is s 59 j)) (sym vc) tc) (mm .1)))
+        (mem-filter (λ m. not (eqb (receiver s (visited (m .event)) (m .stack)) 0)) m′ (visits s (history O s) 59) (subst (λ (j : ℕ). T (not (eqb (receiver s j (m′ .stack)) 0))) (sym vc) rec)
+        (mem-filter (λ m. is s 59 (visited (m .event))) m′ (history O s) (subst (λ (j : ℕ). T (is s 59 j)) (sym vc) tc) (mm .1)))
       where
         held-first : (e r : ℕ) → e < rows s → T (is s 54 e) → Mem r (kids s e) → child s e ≡ r
         held-first e r l t k = go (member-kid e l t) (ok .links .children e l)
@@ -198,5 +199,5 @@ module _ (n : ℕ) {s : Sheet} (ok : Fits s) (fa : SheetFacts n s) where
                 last (here h) = sym h
                 last (there h) = absurd (List·Memᴰ·not-nil h)
 
-    pub hidden-is-base : isHidden s (history s) r ≡ (isCalleeBase s r && isClass (useAt s m .means))
-    hidden-is-base = same-test (isHidden s (history s) r) (isCalleeBase s r && isClass (useAt s m .means)) found-at-call hidden-there
+    pub hidden-is-base : isHidden s (history O s) r ≡ (isCalleeBase s r && isClass (useAt s m .means))
+    hidden-is-base = same-test (isHidden s (history O s) r) (isCalleeBase s r && isClass (useAt s m .means)) found-at-call hidden-there

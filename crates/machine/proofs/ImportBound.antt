@@ -10,6 +10,7 @@ use lib.Dec.{eqb, leb, ltb, T, not-T, leb→le, ltb→lt}
 use borrow.Author.Tests.{lt-ltb}
 use Rattle.definition.specs.Basics.{if_then_else_, _⇒_, filter, concatMap, bit, count}
 use Rattle.definition.specs.Sheet.{Sheet, kind, rows, is, a, b, child, kids, kidsOf}
+use Rattle.definition.specs.Outside.{Outside}
 use Rattle.definition.specs.Meaning.{Meaning}
 use Rattle.definition.specs.Walk.{Event, enter, leave, loop, declare, bring, visit, exports, seen, imports, literalLet, before, after, afterPart, parts, each, trace}
 use Rattle.definition.specs.Scope.{Stack, Moment, scope, bound, start, step, run, moments, history}
@@ -23,7 +24,7 @@ use Rattle.definition.proofs.Walk.Fits.{Fits}
 use Rattle.definition.proofs.Walk.Rows.{Reached, reached-root, reached-part, part-lies, kids-row, kind-not-zero}
 use Rattle.definition.proofs.Walk.Once.{count-map}
 use Rattle.machine.proofs.AfterRows.{All, al-none, al-one}
-use Rattle.machine.proofs.EntryBound.{topNames, ImportShallow}
+use Rattle.machine.proofs.EntryBound.{topNames, ImportShallow, entriesBelow, start-length}
 
 abbrev isBring : Event → Bool
 isBring (enter r) = false
@@ -79,7 +80,7 @@ every-of : {A : Type 0} {P : A → Type 0} (xs : List A) → ((x : A) → Mem x 
 every-of [] g = every-none
 every-of (x ∷ xs) g = every-one (g x (here refl)) (every-of xs (λ y m. g y (there m)))
 
--- moments at which at most ten entries lie below an import's scope
+-- moments at which at most the names from outside and a mark lie below an import's scope
 shallow-other : (n c : ℕ) (m : Moment) → T (not (isBring (m .event))) → ImportShallow n c m
 unfolding ImportShallow
 shallow-other n c m h r k d e = absurd (subst (λ (x : Event). T (not (isBring x))) e h)
@@ -92,32 +93,32 @@ shallow-none : (s : Sheet) (n c : ℕ) (es : List Event) → count isBring es �
 shallow-none s n c [] h z = every-none
 shallow-none s n c (e ∷ es) h z = every-one (shallow-other n c _ (no-bit (isBring e) (count isBring es) h)) (shallow-none s n c es (omega arith) (step s z e))
 
-shallow-one : (n r k : ℕ) (d : Meaning) (z : Stack) → ltb k n ≡ true → Over n start z → ImportShallow n 10 (record { event = bring r k d; stack = z })
+shallow-one : (O : Outside) (n r k : ℕ) (d : Meaning) (z : Stack) → ltb k n ≡ true → Over n (start O) z → ImportShallow n (entriesBelow O) (record { event = bring r k d; stack = z })
 unfolding ImportShallow
-shallow-one n r k d z h o r′ k′ d′ e =
-    let l : length z ≤ length (topNames z) + 10 = omega (arith, over-length o) in
+shallow-one O n r k d z h o r′ k′ d′ e =
+    let l : length z ≤ length (topNames z) + entriesBelow O = omega (arith, over-length o, start-length (O .names)) in
     (l, al-one (subst (λ (j : ℕ). ltb j n ≡ true) (ap broughtName e) h) (over-names o))
 
-shallow-brings : (s : Sheet) (n : ℕ) {es : List Event} → Below n es → (z : Stack) → Over n start z → Every (ImportShallow n 10) (moments s z es)
-shallow-brings s n b-none z o = every-none
-shallow-brings s n (b-bring {r} {k} {d} h f) z o =
-    every-one (shallow-one n r k d z h o)
-    (shallow-brings s n f (step s z (bring r k d)) (o-name h o))
+shallow-brings : (O : Outside) (s : Sheet) (n : ℕ) {es : List Event} → Below n es → (z : Stack) → Over n (start O) z → Every (ImportShallow n (entriesBelow O)) (moments s z es)
+shallow-brings O s n b-none z o = every-none
+shallow-brings O s n (b-bring {r} {k} {d} h f) z o =
+    every-one (shallow-one O n r k d z h o)
+    (shallow-brings O s n f (step s z (bring r k d)) (o-name h o))
 
 shallow-append : (s : Sheet) (n c : ℕ) (z : Stack) (xs ys : List Event) → Every (ImportShallow n c) (moments s z xs) → Every (ImportShallow n c) (moments s (run s z xs) ys) → Every (ImportShallow n c) (moments s z (xs ++ ys))
 shallow-append s n c z xs ys f g = subst (λ (l : List Moment). Every (ImportShallow n c) l) (sym (moments-append s z xs ys)) (every-append f g)
 
 -- a unit's scope: imports, then none
-shallow-scope : (s : Sheet) (n u : ℕ) (xs ds ms : List Event) → Below n xs → count isBring ds ≡ 0 → count isBring ms ≡ 0 → (z : Stack) → z ≡ start
-    → Every (ImportShallow n 10) (moments s z (((enter u ∷ (xs ++ ds)) ++ ms) ++ (leave ∷ [])))
-shallow-scope s n u xs ds ms f g h z e =
+shallow-scope : (O : Outside) (s : Sheet) (n u : ℕ) (xs ds ms : List Event) → Below n xs → count isBring ds ≡ 0 → count isBring ms ≡ 0 → (z : Stack) → z ≡ (start O)
+    → Every (ImportShallow n (entriesBelow O)) (moments s z (((enter u ∷ (xs ++ ds)) ++ ms) ++ (leave ∷ [])))
+shallow-scope O s n u xs ds ms f g h z e =
     let y : Stack = step s z (enter u) in
-    every-one (shallow-other n 10 _ tt)
-    (shallow-append s n 10 y ((xs ++ ds) ++ ms) (leave ∷ [])
-    (shallow-append s n 10 y (xs ++ ds) ms
-    (shallow-append s n 10 y xs ds (shallow-brings s n f y (subst (λ (st : Stack). Over n start (scope u ∷ st)) (sym e) o-scope)) (shallow-none s n 10 ds g _))
-    (shallow-none s n 10 ms h _))
-    (shallow-none s n 10 (leave ∷ []) refl _))
+    every-one (shallow-other n (entriesBelow O) _ tt)
+    (shallow-append s n (entriesBelow O) y ((xs ++ ds) ++ ms) (leave ∷ [])
+    (shallow-append s n (entriesBelow O) y (xs ++ ds) ms
+    (shallow-append s n (entriesBelow O) y xs ds (shallow-brings O s n f y (subst (λ (st : Stack). Over n (start O) (scope u ∷ st)) (sym e) o-scope)) (shallow-none s n (entriesBelow O) ds g _))
+    (shallow-none s n (entriesBelow O) ms h _))
+    (shallow-none s n (entriesBelow O) (leave ∷ []) refl _))
 
 scope-back : (s : Sheet) (u : ℕ) (es : List Event) → Keeps s es → (z : Stack) → run s z ((enter u ∷ es) ++ (leave ∷ [])) ≡ z
 unfolding Keeps
@@ -157,7 +158,7 @@ bring-after r false true false tv = refl
 bring-after r false false t52 true = refl
 bring-after r false false t52 false = refl
 
-module _ {s : Sheet} (ok : Fits s) where
+module _ {O : Outside} {s : Sheet} (ok : Fits O s) where
   not-unit : {j : ℕ} (r k : ℕ) → Reached s j r → (r ≡ 0 → ⊥) → Mem k (parts s r) → T (not (is s 2 k))
   not-unit r k w z m = not-T (is s 2 k) (λ t. go t (decide (is s 30 r)))
     where
@@ -194,7 +195,7 @@ four-or : (t2 t6 t25 t27 : Bool) → T t2 → T (t2 || t6 || t25 || t27)
 four-or true t6 t25 t27 h = tt
 four-or false t6 t25 t27 h = absurd h
 
-module _ (n : ℕ) {s : Sheet} (ok : Fits s) (fa : SheetFacts n s) where
+module _ (n : ℕ) {O : Outside} {s : Sheet} (ok : Fits O s) (fa : SheetFacts n s) where
   named : (v : ℕ) → T (leb 1 v && leb v n) → ltb v (suc n) ≡ true
   named v h = let l : v ≤ n = leb→le v n (and-right (leb 1 v) (leb v n) h) in lt-ltb v (suc n) (omega arith)
 
@@ -235,11 +236,11 @@ module _ (n : ℕ) {s : Sheet} (ok : Fits s) (fa : SheetFacts n s) where
       ap (λ (l : List Event). (l ++ each (trace d s) s u 0 (parts s u)) ++ after s u) x
       ∙ ap (λ (l : List Event). ((enter u ∷ (concatMap (imports s u) (kidsOf s 3 u) ++ map declare (kidsOf s 4 u))) ++ each (trace d s) s u 0 (parts s u)) ++ l) y
 
-  unit-shallow : (d : ℕ) {j : ℕ} (u : ℕ) → Reached s j u → (u ≡ 0 → ⊥) → T (is s 2 u) → (z : Stack) → z ≡ start → Every (ImportShallow (suc n) 10) (moments s z (trace d s u))
+  unit-shallow : (d : ℕ) {j : ℕ} (u : ℕ) → Reached s j u → (u ≡ 0 → ⊥) → T (is s 2 u) → (z : Stack) → z ≡ (start O) → Every (ImportShallow (suc n) (entriesBelow O)) (moments s z (trace d s u))
   unit-shallow zero u w nz h z e = every-none
   unit-shallow (suc d) u w nz h z e =
-      subst (λ (l : List Event). Every (ImportShallow (suc n) 10) (moments s z l)) (sym (unit-trace d u h))
-      (shallow-scope s (suc n) u (concatMap (imports s u) (kidsOf s 3 u)) (map declare (kidsOf s 4 u)) (each (trace d s) s u 0 (parts s u))
+      subst (λ (l : List Event). Every (ImportShallow (suc n) (entriesBelow O)) (moments s z l)) (sym (unit-trace d u h))
+      (shallow-scope O s (suc n) u (concatMap (imports s u) (kidsOf s 3 u)) (map declare (kidsOf s 4 u)) (each (trace d s) s u 0 (parts s u))
       (imports-below u (kidsOf s 3 u) (λ i m. let q = filter-mem (is s 3) i (kids s u) m in (kids-row ok u i (w .in-range) (q .0), q .1)))
       (count-map isBring declare (kidsOf s 4 u) (λ k. tt))
       (bring-each s (trace d s) u 0 (parts s u) (λ k m. none-brought ok d k (reached-part ok k w m) (part-lies ok k w m .2) (not-unit ok u k w nz m)))
@@ -262,17 +263,17 @@ module _ (n : ℕ) {s : Sheet} (ok : Fits s) (fa : SheetFacts n s) where
   header-after : after s 0 ≡ []
   header-after = rw (ok .header)
 
-  units-shallow : (d i : ℕ) (ks : List ℕ) → ((k : ℕ) → Mem k ks → Reached s 1 k × (k ≡ 0 → ⊥) × T (is s 2 k)) → (z : Stack) → z ≡ start
-      → Every (ImportShallow (suc n) 10) (moments s z (each (trace d s) s 0 i ks))
+  units-shallow : (d i : ℕ) (ks : List ℕ) → ((k : ℕ) → Mem k ks → Reached s 1 k × (k ≡ 0 → ⊥) × T (is s 2 k)) → (z : Stack) → z ≡ (start O)
+      → Every (ImportShallow (suc n) (entriesBelow O)) (moments s z (each (trace d s) s 0 i ks))
   units-shallow d i [] f z e = every-none
   units-shallow d i (k ∷ ks) f z e =
       let q = f k (here refl) in
       let y : Stack = run s z (trace d s k ++ afterPart s 0 i) in
-      let back : y ≡ start =
+      let back : y ≡ (start O) =
       run-append s z (trace d s k) (afterPart s 0 i) ∙ ap (λ (l : List Event). run s (run s z (trace d s k)) l) (header-part i) ∙ unit-back d k (q .2) z ∙ e in
-      shallow-append s (suc n) 10 z (trace d s k ++ afterPart s 0 i) (each (trace d s) s 0 (suc i) ks)
-      (shallow-append s (suc n) 10 z (trace d s k) (afterPart s 0 i) (unit-shallow d k (q .0) (q .1) (q .2) z e)
-      (shallow-none s (suc n) 10 (afterPart s 0 i) (ap (count isBring) (header-part i)) _))
+      shallow-append s (suc n) (entriesBelow O) z (trace d s k ++ afterPart s 0 i) (each (trace d s) s 0 (suc i) ks)
+      (shallow-append s (suc n) (entriesBelow O) z (trace d s k) (afterPart s 0 i) (unit-shallow d k (q .0) (q .1) (q .2) z e)
+      (shallow-none s (suc n) (entriesBelow O) (afterPart s 0 i) (ap (count isBring) (header-part i)) _))
       (units-shallow d (suc i) ks (λ j m. f j (there m)) y back)
 
   header-unit : (k : ℕ) → Mem k (parts s 0) → Reached s 1 k × (k ≡ 0 → ⊥) × T (is s 2 k)
@@ -285,13 +286,13 @@ module _ (n : ℕ) {s : Sheet} (ok : Fits s) (fa : SheetFacts n s) where
         T-imp (is s 0 0) (is s 2 k) (kid-edge n s fa (λ p k. eqb p 0 ⇒ eqb k 2) tt 0 k (ok .some-row) (mem-test k (kids s 0) (subst (λ (x : ℕ). Mem k (kids s x)) e (q .0)))) (eqb-of (kind s 0) 0 (ok .header)),
       )
 
-  header-shallow : (d : ℕ) → Every (ImportShallow (suc n) 10) (moments s start (trace d s 0))
+  header-shallow : (d : ℕ) → Every (ImportShallow (suc n) (entriesBelow O)) (moments s (start O) (trace d s 0))
   header-shallow zero = every-none
   header-shallow (suc d) =
       let x : trace (suc d) s 0 ≡ (([] ++ each (trace d s) s 0 0 (parts s 0)) ++ []) =
       ap (λ (l : List Event). (l ++ each (trace d s) s 0 0 (parts s 0)) ++ after s 0) header-before ∙ ap (λ (l : List Event). each (trace d s) s 0 0 (parts s 0) ++ l) header-after in
-      subst (λ (l : List Event). Every (ImportShallow (suc n) 10) (moments s start l)) (sym x)
-      (shallow-append s (suc n) 10 start (each (trace d s) s 0 0 (parts s 0)) [] (units-shallow d 0 (parts s 0) header-unit start refl) every-none)
+      subst (λ (l : List Event). Every (ImportShallow (suc n) (entriesBelow O)) (moments s (start O) l)) (sym x)
+      (shallow-append s (suc n) (entriesBelow O) (start O) (each (trace d s) s 0 0 (parts s 0)) [] (units-shallow d 0 (parts s 0) header-unit (start O) refl) every-none)
 
-  pub walk-shallow : (m : Moment) → Mem m (history s) → ImportShallow (suc n) 10 m
+  pub walk-shallow : (m : Moment) → Mem m (history O s) → ImportShallow (suc n) (entriesBelow O) m
   walk-shallow m q = every-mem (header-shallow (rows s)) q

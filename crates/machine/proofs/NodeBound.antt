@@ -9,6 +9,7 @@ use lib.ListN.{length}
 use lib.Dec.{T}
 use Rattle.definition.specs.Basics.{if_then_else_, bit, count, head, _∈?_}
 use Rattle.definition.specs.Sheet.{Sheet, kind, rows, is, functionsOf}
+use Rattle.definition.specs.Outside.{Outside}
 use Rattle.definition.specs.Meaning.{Meaning, class, isVariable, ownerOf}
 use Rattle.definition.specs.Walk.{Event, enter, leave, loop, declare, bring, visit, walk}
 use Rattle.definition.specs.Scope.{Stack, Moment, around, inside, declared, step, moments, history, start}
@@ -26,7 +27,7 @@ use Rattle.machine.specs.Machine.{visitsKind}
 use Rattle.machine.proofs.StoreParts.{nodeCost, nodesNeeded}
 use Rattle.machine.proofs.Reached.{Reached, r-here, r-later}
 
-pub reached-mem : {s : Sheet} {z : Stack} {es : List Event} {m : Moment} → Reached s z es m → Mem m (moments s z es)
+pub reached-mem : {O : Outside} {s : Sheet} {z : Stack} {es : List Event} {m : Moment} → Reached O s z es m → Mem m (moments s z es)
 reached-mem r-here = here refl
 reached-mem (r-later q w) = there (reached-mem w)
 
@@ -35,7 +36,7 @@ not-class true c d h v = true≢false (sym v)
 not-class false c d h v = h
 
 -- a variable is declared in a function
-module _ {s : Sheet} (ok : Fits s) where
+module _ {O : Outside} {s : Sheet} (ok : Fits O s) where
   some-function : (fs : List ℕ) (r : ℕ) → Told s fs (declare r) → isVariable (declared s r (head fs)) ≡ true → fs ≡ [] → ⊥
   some-function fs r (t-declare e l d) v = go d
     where
@@ -51,7 +52,7 @@ module _ {s : Sheet} (ok : Fits s) where
       ap ownerOf (declared-variable s r f (T-true _ v) .0) in
       ap (λ (k : ℕ). k ∈? fs) o ∙ true-of (f ∈? fs) (mem-test f fs (head-mem fs (some-function fs r t v)))
 
-  pub declared-inside : (m : Moment) → Reached s start (walk s) m → (r : ℕ) → m .event ≡ declare r
+  pub declared-inside : (m : Moment) → Reached O s (start O) (walk s) m → (r : ℕ) → m .event ≡ declare r
       → isVariable (declared s r (inside s (m .stack))) ≡ true → (ownerOf (declared s r (inside s (m .stack))) ∈? around s (m .stack)) ≡ true
   declared-inside m w r e v =
       owner-around (around s (m .stack)) r (subst (λ (x : Event). Told s (around s (m .stack)) x) e (told ok m (reached-mem w))) v
@@ -95,14 +96,14 @@ times : (K c d : ℕ) → c ≤ d → K * c ≤ K * d
 times zero c d h = omega arith
 times (suc K) c d h = omega (arith, times K c d h)
 
-module _ {s : Sheet} (ok : Fits s) where
+module _ {O : Outside} {s : Sheet} (ok : Fits O s) where
   visit-around : (K : ℕ) → ((x : ℕ) → Walks s x → T (is s 50 x) → length (functionsOf s x) ≤ K) → (fs : List ℕ) (e : Event) → T (visitsKind s 50 e) → Told s fs e → length fs ≤ K
   visit-around K f fs (visit x) h (t-visit q w) = subst (λ (l : List ℕ). length l ≤ K) (sym q) (f x w h)
 
-  pub nodes-bound : (K : ℕ) → 1 ≤ K → ((x : ℕ) → Walks s x → T (is s 50 x) → length (functionsOf s x) ≤ K) → nodesNeeded s (history s) ≤ K * rows s
+  pub nodes-bound : (K : ℕ) → 1 ≤ K → ((x : ℕ) → Walks s x → T (is s 50 x) → length (functionsOf s x) ≤ K) → nodesNeeded s (history O s) ≤ K * rows s
   nodes-bound K i f =
       omega (
         arith,
-        needed-visits s K (ok .header) i start (walk s) (λ m q t. visit-around K f (around s (m .stack)) (m .event) t (told ok m q)),
+        needed-visits s K (ok .header) i (start O) (walk s) (λ m q t. visit-around K f (around s (m .stack)) (m .event) t (told ok m q)),
         times K (count isVisit (walk s)) (rows s) (visits-bound ok),
       )

@@ -7,6 +7,7 @@ use native.Mathlib.Omega.{arith}
 use lib.Dec.{eqb, leb}
 use Rattle.definition.specs.Basics.{if_then_else_}
 use Rattle.definition.specs.Sheet.{Sheet, is, a, b, child}
+use Rattle.definition.specs.Outside.{Outside}
 use Rattle.definition.specs.Meaning.{Meaning, classNumber}
 use Rattle.definition.specs.Walk.{Event, enter, leave, loop, declare, bring, visit}
 use Rattle.definition.specs.Scope.{Stack, find, taken, inLoop}
@@ -34,7 +35,7 @@ unfolding entries slotAt
 slot-of s v n zero h f = refl
 slot-of s v n (suc i) h f = sym (f i (omega arith))
 
-module _ (s : Sheet) (z : Stack) (p : Scopes) (o : ScopesAgree s z p) where
+module _ (O : Outside) (s : Sheet) (z : Stack) (p : Scopes) (o : ScopesAgree s z p) where
   pub slot-found : (m : ℕ) → topSlot s (find m z) ≡ lookupSlot p m
   unfolding lookupSlot
   slot-found m = rw (← (o .stack-is), find-is) (slot-of s (p .env) (p .count) _ (find-le (p .env) m (p .count)) (o .slots))
@@ -51,10 +52,10 @@ module _ (s : Sheet) (z : Stack) (p : Scopes) (o : ScopesAgree s z p) where
   pub receiver-is : (r : ℕ) → receiver s r z ≡ receiverClass s r p
   receiver-is r = ap (λ (d : Meaning). if is s 54 (child s r) && is s 50 (child s (child s r)) then classNumber d else 0) (lookup-is s z p o (a s (child s (child s r))))
 
-  checkVisit-is : (r : ℕ) → askVisit s r z ≡ checkVisit s r p
+  checkVisit-is : (r : ℕ) → askVisit O s r z ≡ checkVisit O s r p
   checkVisit-is r = rw (loop-found, lookup-is s z p o (a s (child s r)), lookup-is s z p o (a s r), lookup-is s z p o (b s (a s r)), lookup-is s z p o (a s (child s (child s r))))
 
-  pub check-is : (e : Event) → askEvent s e z ≡ checkEvent s e p
+  pub check-is : (e : Event) → askEvent O s e z ≡ checkEvent O s e p
   unfolding checkEvent
   check-is (enter r) = refl
   check-is leave = refl

@@ -9,6 +9,7 @@ use lib.Dec.{eqb}
 use borrow.Author.Tests.{eqb-true}
 use Rattle.definition.specs.Basics.{if_then_else_, any, bit, count, _∈?_}
 use Rattle.definition.specs.Sheet.{Sheet, is}
+use Rattle.definition.specs.Outside.{Outside}
 use Rattle.definition.specs.Walk.{Event, enter, leave, loop, declare, bring, visit, walk}
 use Rattle.definition.specs.Scope.{Stack, Moment, scope, looping, bound, around, closed, inside, step, moments, start, declares}
 use Rattle.definition.specs.Question.{askEvent}
@@ -16,14 +17,15 @@ use Rattle.machine.proofs.Lists.{eqb-self}
 use Rattle.machine.proofs.Stacks.{Proper, Distinct, a-one}
 use Rattle.machine.proofs.Captures.{Outward}
 use Rattle.definition.specs.Slots.{globalLets, finalGlobals}
+use Rattle.definition.proofs.Walk.Moments.{around-names}
 use Rattle.machine.proofs.Globals.{Unlisted, listed-more, globals-le}
 use Rattle.machine.proofs.StoreParts.{nodesNeeded}
 use Rattle.machine.proofs.Refinement.{Room, Runs, over, next}
 
 -- a moment of the walk before which no question has a no
-pub data Reached (s : Sheet) : Stack → List Event → Moment → Type 0 where
-  r-here : {z : Stack} {e : Event} {es : List Event} → Reached s z (e ∷ es) (record { event = e; stack = z })
-  r-later : {z : Stack} {e : Event} {es : List Event} {m : Moment} → askEvent s e z .number ≡ 0 → Reached s (step s z e) es m → Reached s z (e ∷ es) m
+pub data Reached (O : Outside) (s : Sheet) : Stack → List Event → Moment → Type 0 where
+  r-here : {z : Stack} {e : Event} {es : List Event} → Reached O s z (e ∷ es) (record { event = e; stack = z })
+  r-later : {z : Stack} {e : Event} {es : List Event} {m : Moment} → askEvent O s e z .number ≡ 0 → Reached O s (step s z e) es m → Reached O s z (e ∷ es) m
 
 pub record StepReady (s : Sheet) (room : Room) (m : Moment) : Type 0 where
   pub proper : Proper s (m .stack) (m .event)
@@ -54,16 +56,16 @@ once-later s h z e es f r k = omega (arith, f r k, listed-more s h (record { eve
 abbrev pub AllOutward : Sheet → List Moment → Type 0
 AllOutward s all = (h : List Moment) (m : Moment) (rest : List Moment) → all ≡ h ++ m ∷ rest → Outward s h m
 
-pub runs-reached : (s : Sheet) (room : Room) (h : List Moment) (z : Stack) (es : List Event)
-    → ((m : Moment) → Reached s z es m → StepReady s room m) → AllOutward s (h ++ moments s z es) → OnceMore s h es → finalGlobals s (h ++ moments s z es) < 4294967295 → nodesNeeded s (h ++ moments s z es) ≤ room .nodes → Runs s room h z es
-runs-reached s room h z [] f out u g l = over
-runs-reached s room h z (e ∷ es) f out u g l =
+pub runs-reached : (O : Outside) (s : Sheet) (room : Room) (h : List Moment) (z : Stack) (es : List Event)
+    → ((m : Moment) → Reached O s z es m → StepReady s room m) → AllOutward s (h ++ moments s z es) → OnceMore s h es → finalGlobals s (h ++ moments s z es) < 4294967295 → nodesNeeded s (h ++ moments s z es) ≤ room .nodes → Runs O s room h z es
+runs-reached O s room h z [] f out u g l = over
+runs-reached O s room h z (e ∷ es) f out u g l =
     let m : Moment = record { event = e; stack = z } in
     let x : StepReady s room m = f m r-here in
     let w : nodesNeeded s (h ++ m ∷ moments s (step s z e) es) ≡ nodesNeeded s ((h ++ m ∷ []) ++ moments s (step s z e) es) = ap (nodesNeeded s) (sym (append-assoc h (m ∷ []) (moments s (step s z e) es))) in
     let v : nodesNeeded s ((h ++ m ∷ []) ++ moments s (step s z e) es) ≡ nodesNeeded s (h ++ m ∷ []) + nodesNeeded s (moments s (step s z e) es) = needed-append s (h ++ m ∷ []) (moments s (step s z e) es) in
     next {h = h} (x .proper) (once-unlisted s h e es u) (x .entries-small) (omega (arith, g, globals-le s h (m ∷ moments s (step s z e) es))) (x .entries-left) (x .row-there) (x .rows-there) (out h m (moments s (step s z e) es) refl) (omega (arith, l, w, v))
-    (λ q. runs-reached s room (h ++ m ∷ []) (step s z e) es (λ n r. f n (r-later q r)) (subst (AllOutward s) (sym (append-assoc h (m ∷ []) (moments s (step s z e) es))) out) (once-later s h z e es u) (subst (λ (l : List Moment). finalGlobals s l < 4294967295) (sym (append-assoc h (m ∷ []) (moments s (step s z e) es))) g) (subst (λ (k : ℕ). k ≤ room .nodes) w l))
+    (λ q. runs-reached O s room (h ++ m ∷ []) (step s z e) es (λ n r. f n (r-later q r)) (subst (AllOutward s) (sym (append-assoc h (m ∷ []) (moments s (step s z e) es))) out) (once-later s h z e es u) (subst (λ (l : List Moment). finalGlobals s l < 4294967295) (sym (append-assoc h (m ∷ []) (moments s (step s z e) es))) g) (subst (λ (k : ℕ). k ≤ room .nodes) w l))
 
 -- The rows of functions that events enter.
 abbrev pub functionsEntered : Sheet → List Event → List ℕ
@@ -127,12 +129,12 @@ ahead-step s z (bring k n d) es p f = f
 ahead-step s z (visit k) es p f = f
 
 -- If no function is entered twice, none is entered that is open.
-pub enters-apart : (s : Sheet) {z : Stack} {es : List Event} {m : Moment} → Reached s z es m → Distinct (functionsEntered s es) → Ahead s z (functionsEntered s es)
+pub enters-apart : (O : Outside) (s : Sheet) {z : Stack} {es : List Event} {m : Moment} → Reached O s z es m → Distinct (functionsEntered s es) → Ahead s z (functionsEntered s es)
     → (r : ℕ) → m .event ≡ enter r → is s 6 r ≡ true → (r ∈? around s (m .stack)) ≡ false
-enters-apart s (r-here {z} {e} {es}) p f r q h =
+enters-apart O s (r-here {z} {e} {es}) p f r q h =
     f r (ap (λ (x : Event). r ∈? functionsEntered s (x ∷ es)) q ∙ ap (λ (t : Bool). r ∈? (if t then r ∷ functionsEntered s es else functionsEntered s es)) h ∙ ap (λ (t : Bool). t || r ∈? functionsEntered s es) (eqb-self r))
-enters-apart s (r-later {z} {e} {es} y w) p f r q h = enters-apart s w (apart-tail s e es p) (ahead-step s z e es p f) r q h
+enters-apart O s (r-later {z} {e} {es} y w) p f r q h = enters-apart O s w (apart-tail s e es p) (ahead-step s z e es p f) r q h
 
 -- the whole walk: no function is open before it
-pub enters-fresh : (s : Sheet) (m : Moment) → Distinct (functionsEntered s (walk s)) → Reached s start (walk s) m → (r : ℕ) → m .event ≡ enter r → is s 6 r ≡ true → (r ∈? around s (m .stack)) ≡ false
-enters-fresh s m p w = enters-apart s w p (λ r h. refl)
+pub enters-fresh : (O : Outside) (s : Sheet) (m : Moment) → Distinct (functionsEntered s (walk s)) → Reached O s (start O) (walk s) m → (r : ℕ) → m .event ≡ enter r → is s 6 r ≡ true → (r ∈? around s (m .stack)) ≡ false
+enters-fresh O s m p w = enters-apart O s w p (λ r h. ap (λ (fs : List ℕ). r ∈? fs) (around-names s (O .names)))

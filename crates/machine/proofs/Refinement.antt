@@ -10,6 +10,7 @@ use lib.Dec.{eqb, ltb}
 use borrow.Author.Tests.{eq-eqb, ne-eqb, eqb-true, eqb-false}
 use Rattle.definition.specs.Basics.{if_then_else_, _∈?_}
 use Rattle.definition.specs.Sheet.{Sheet, kind, a}
+use Rattle.definition.specs.Outside.{Outside}
 use Rattle.definition.specs.Walk.{Event, enter, leave, loop, declare, bring, visit}
 use Rattle.definition.specs.Scope.{Stack, Moment, around, inside, step, run, moments}
 use Rattle.definition.specs.Slots.{finalGlobals}
@@ -31,38 +32,38 @@ pub record Room : Type 0 where
   pub rows : ℕ
   pub nodes : ℕ
 
-pub record StateAgrees (s : Sheet) (room : Room) (h : List Moment) (z : Stack) (x : State) : Type 0 where
+pub record StateAgrees (O : Outside) (s : Sheet) (room : Room) (h : List Moment) (z : Stack) (x : State) : Type 0 where
   pub opened : ScopesAgree s z (x .scopes)
   pub numbered : Numbered s h (x .scopes)
   pub sound : WellFormed s z
-  pub kept : StoreAgrees s h (x .store)
+  pub kept : StoreAgrees O s h (x .store)
   pub agreed : x .refusal .number ≡ 0
   pub entries-are : entryRoom (x .scopes .env) ≡ room .entries
   pub rows-are : length (x .store .table) / 8 ≡ room .rows
   pub nodes-are : nodeRoom (x .store .nodes) ≡ room .nodes
 
 -- Events that a walk can have, for which there is room, up to the first no.
-pub data Runs (s : Sheet) (room : Room) : List Moment → Stack → List Event → Type 0 where
-  over : {h : List Moment} {z : Stack} → Runs s room h z []
+pub data Runs (O : Outside) (s : Sheet) (room : Room) : List Moment → Stack → List Event → Type 0 where
+  over : {h : List Moment} {z : Stack} → Runs O s room h z []
   next : {h : List Moment} {z : Stack} {e : Event} {es : List Event}
       → Proper s z e → Unlisted s h e → length z < 4294967295 → finalGlobals s h < 4294967295 → length z < room .entries → inside s z < room .rows
       → ((g : ℕ) → (g ∈? around s z) ≡ true → g < room .rows) → Outward s h (record { event = e; stack = z })
       → nodesNeeded s (h ++ record { event = e; stack = z } ∷ []) ≤ room .nodes
-      → (askEvent s e z .number ≡ 0 → Runs s room (h ++ record { event = e; stack = z } ∷ []) (step s z e) es)
-      → Runs s room h z (e ∷ es)
+      → (askEvent O s e z .number ≡ 0 → Runs O s room (h ++ record { event = e; stack = z } ∷ []) (step s z e) es)
+      → Runs O s room h z (e ∷ es)
 
-abbrev pub refusalOf : Sheet → Stack → List Event → Refusal
-refusalOf s z es = firstNo (map (λ m. askEvent s (m .event) (m .stack)) (moments s z es))
+abbrev pub refusalOf : Outside → Sheet → Stack → List Event → Refusal
+refusalOf O s z es = firstNo (map (λ m. askEvent O s (m .event) (m .stack)) (moments s z es))
 
 -- after a refusal nothing changes
-refused-one : (s : Sheet) (e : Event) (x : State) → (x .refusal .number ≡ 0 → ⊥) → stepState s e x ≡ x
+refused-one : (O : Outside) (s : Sheet) (e : Event) (x : State) → (x .refusal .number ≡ 0 → ⊥) → stepState O s e x ≡ x
 unfolding stepState
-refused-one s e x n = rw (ne-eqb (x .refusal .number) 0 n)
+refused-one O s e x n = rw (ne-eqb (x .refusal .number) 0 n)
 
-pub refused-run : (s : Sheet) (es : List Event) (x : State) → (x .refusal .number ≡ 0 → ⊥) → runState s es x ≡ x
+pub refused-run : (O : Outside) (s : Sheet) (es : List Event) (x : State) → (x .refusal .number ≡ 0 → ⊥) → runState O s es x ≡ x
 unfolding runState
-refused-run s [] x n = refl
-refused-run s (e ∷ es) x n = ap (runState s es) (refused-one s e x n) ∙ refused-run s es x n
+refused-run O s [] x n = refl
+refused-run O s (e ∷ es) x n = ap (runState O s es) (refused-one O s e x n) ∙ refused-run O s es x n
 
 -- the lengths of the buffers do not change
 pub pushed-length : (v : List ℕ) (n : ℕ) (ws : List ℕ) → length (wordsPushed v n ws) ≡ length v
@@ -81,82 +82,82 @@ move-length s (declare r) p = pushed-length (p .env) (p .count) (tagOf (newMeani
 move-length s (bring r n d) p = pushed-length (p .env) (p .count) (tagOf d ∷ n ∷ firstOf d ∷ secondOf d (p .nextGlobal) ∷ p .slot ∷ [])
 move-length s (visit r) p = refl
 
-pub store-extends : (s : Sheet) (e : Event) (p : Scopes) (o : Store) → Extends o (stepStore s e p o)
+pub store-extends : (O : Outside) (s : Sheet) (e : Event) (p : Scopes) (o : Store) → Extends o (stepStore O s e p o)
 unfolding stepStore
-store-extends s e p o =
-    extends-trans (storeCall-unchanged s e p o .grows) (extends-trans (storeField-unchanged s e p _ .grows) (extends-trans (storeCapture-unchanged s e p _ .grows)
-    (extends-trans (storeLocal-unchanged s e p _ .grows) (extends-trans (storeHidden-unchanged s e p _ .grows) (storeRow-unchanged s e p _ .grows)))))
+store-extends O s e p o =
+    extends-trans (storeCall-unchanged O s e p o .grows) (extends-trans (storeField-unchanged O s e p _ .grows) (extends-trans (storeCapture-unchanged O s e p _ .grows)
+    (extends-trans (storeLocal-unchanged O s e p _ .grows) (extends-trans (storeHidden-unchanged O s e p _ .grows) (storeRow-unchanged O s e p _ .grows)))))
 
 -- one event that is not refused
-step-accepted : (s : Sheet) (e : Event) (x : State) → x .refusal .number ≡ 0 → checkEvent s e (x .scopes) .number ≡ 0
-    → stepState s e x ≡ record { scopes = stepScopes s e (x .scopes); store = stepStore s e (x .scopes) (x .store); refusal = x .refusal }
+step-accepted : (O : Outside) (s : Sheet) (e : Event) (x : State) → x .refusal .number ≡ 0 → checkEvent O s e (x .scopes) .number ≡ 0
+    → stepState O s e x ≡ record { scopes = stepScopes s e (x .scopes); store = stepStore O s e (x .scopes) (x .store); refusal = x .refusal }
 unfolding stepState
-step-accepted s e x y d = rw (eq-eqb (x .refusal .number) 0 y, eq-eqb (checkEvent s e (x .scopes) .number) 0 d)
+step-accepted O s e x y d = rw (eq-eqb (x .refusal .number) 0 y, eq-eqb (checkEvent O s e (x .scopes) .number) 0 d)
 
-step-refused : (s : Sheet) (e : Event) (x : State) → x .refusal .number ≡ 0 → (checkEvent s e (x .scopes) .number ≡ 0 → ⊥)
-    → stepState s e x ≡ record { scopes = x .scopes; store = x .store; refusal = checkEvent s e (x .scopes) }
+step-refused : (O : Outside) (s : Sheet) (e : Event) (x : State) → x .refusal .number ≡ 0 → (checkEvent O s e (x .scopes) .number ≡ 0 → ⊥)
+    → stepState O s e x ≡ record { scopes = x .scopes; store = x .store; refusal = checkEvent O s e (x .scopes) }
 unfolding stepState
-step-refused s e x y d = rw (eq-eqb (x .refusal .number) 0 y, ne-eqb (checkEvent s e (x .scopes) .number) 0 d)
+step-refused O s e x y d = rw (eq-eqb (x .refusal .number) 0 y, ne-eqb (checkEvent O s e (x .scopes) .number) 0 d)
 
-state-step : (s : Sheet) → kind s 0 ≡ 0 → (room : Room) (h : List Moment) (z : Stack) (e : Event) (x : State)
+state-step : (O : Outside) (s : Sheet) → kind s 0 ≡ 0 → (room : Room) (h : List Moment) (z : Stack) (e : Event) (x : State)
     → Proper s z e → Unlisted s h e → length z < 4294967295 → finalGlobals s h < 4294967295 → length z < room .entries → inside s z < room .rows
     → ((g : ℕ) → (g ∈? around s z) ≡ true → g < room .rows) → Outward s h (record { event = e; stack = z }) → nodesNeeded s (h ++ record { event = e; stack = z } ∷ []) ≤ room .nodes
-    → askEvent s e z .number ≡ 0
-    → StateAgrees s room h z x → StateAgrees s room (h ++ record { event = e; stack = z } ∷ []) (step s z e) (stepState s e x)
-state-step s hd room h z e x pr un w₁ w₂ r₁ r₂ rs out r₃ y g =
-    rw (step-accepted s e x (g .agreed) (ap (λ (q : Refusal). q .number) (sym (check-is s z (x .scopes) (g .opened) e)) ∙ y))
+    → askEvent O s e z .number ≡ 0
+    → StateAgrees O s room h z x → StateAgrees O s room (h ++ record { event = e; stack = z } ∷ []) (step s z e) (stepState O s e x)
+state-step O s hd room h z e x pr un w₁ w₂ r₁ r₂ rs out r₃ y g =
+    rw (step-accepted O s e x (g .agreed) (ap (λ (q : Refusal). q .number) (sym (check-is O s z (x .scopes) (g .opened) e)) ∙ y))
     (record {
       opened = scopes-step s e z (x .scopes) (omega (arith, g .entries-are, r₁)) w₁ (g .opened);
       numbered = numbered-step s hd h z (x .scopes) (g .opened) (g .numbered) e (omega (arith, g .entries-are, r₁)) (omega (arith, g .numbered .next-is)) un pr;
       sound = wellFormed-step s z e pr (g .sound);
-      kept = store-step s hd h z (x .scopes) (g .opened) (g .sound) e (x .store) (λ v. new-known s hd h z (x .scopes) (g .opened) (g .numbered) e v un)
+      kept = store-step O s hd h z (x .scopes) (g .opened) (g .sound) e (x .store) (λ v. new-known s hd h z (x .scopes) (g .opened) (g .numbered) e v un)
           (λ m. known-on s h (record { event = e; stack = z }) (number-look s h (x .scopes) (g .numbered) m)) (slot-small s z (x .scopes) (g .opened) w₁) (omega (arith, g .nodes-are, r₃)) (omega (arith, g .rows-are, r₂)) (λ k m. omega (arith, g .rows-are, rs k m)) out (g .kept);
       agreed = g .agreed;
       entries-are = ap (λ (n : ℕ). min (n / 5) 4294967295) (move-length s e (x .scopes)) ∙ g .entries-are;
-      rows-are = ap (λ (n : ℕ). n / 8) (store-extends s e (x .scopes) (x .store) .table-length) ∙ g .rows-are;
-      nodes-are = ap (λ (n : ℕ). min (n / 4) 4294967295) (store-extends s e (x .scopes) (x .store) .nodes-length) ∙ g .nodes-are;
+      rows-are = ap (λ (n : ℕ). n / 8) (store-extends O s e (x .scopes) (x .store) .table-length) ∙ g .rows-are;
+      nodes-are = ap (λ (n : ℕ). min (n / 4) 4294967295) (store-extends O s e (x .scopes) (x .store) .nodes-length) ∙ g .nodes-are;
     })
 
 -- How a run ends: accepted in agreement with the definition, or refused with its first no.
-pub data Ends (s : Sheet) (room : Room) (h : List Moment) (z : Stack) (es : List Event) (x : State) : Type 0 where
-  accepted : refusalOf s z es .number ≡ 0 → StateAgrees s room (h ++ moments s z es) (run s z es) x → Ends s room h z es x
-  refused : (refusalOf s z es .number ≡ 0 → ⊥) → x .refusal ≡ refusalOf s z es → Ends s room h z es x
+pub data Ends (O : Outside) (s : Sheet) (room : Room) (h : List Moment) (z : Stack) (es : List Event) (x : State) : Type 0 where
+  accepted : refusalOf O s z es .number ≡ 0 → StateAgrees O s room (h ++ moments s z es) (run s z es) x → Ends O s room h z es x
+  refused : (refusalOf O s z es .number ≡ 0 → ⊥) → x .refusal ≡ refusalOf O s z es → Ends O s room h z es x
 
-no-later : (s : Sheet) (z : Stack) (e : Event) (es : List Event) → askEvent s e z .number ≡ 0 → refusalOf s z (e ∷ es) ≡ refusalOf s (step s z e) es
-no-later s z e es q = rw (eq-eqb (askEvent s e z .number) 0 q)
+no-later : (O : Outside) (s : Sheet) (z : Stack) (e : Event) (es : List Event) → askEvent O s e z .number ≡ 0 → refusalOf O s z (e ∷ es) ≡ refusalOf O s (step s z e) es
+no-later O s z e es q = rw (eq-eqb (askEvent O s e z .number) 0 q)
 
-no-here : (s : Sheet) (z : Stack) (e : Event) (es : List Event) → (askEvent s e z .number ≡ 0 → ⊥) → refusalOf s z (e ∷ es) ≡ askEvent s e z
-no-here s z e es q = rw (ne-eqb (askEvent s e z .number) 0 q)
+no-here : (O : Outside) (s : Sheet) (z : Stack) (e : Event) (es : List Event) → (askEvent O s e z .number ≡ 0 → ⊥) → refusalOf O s z (e ∷ es) ≡ askEvent O s e z
+no-here O s z e es q = rw (ne-eqb (askEvent O s e z .number) 0 q)
 
 numbers : {x y : Refusal} → x ≡ y → x .number ≡ y .number
 numbers e = ap (λ (q : Refusal). q .number) e
 
 -- a refusal does not change
-refused-here : (s : Sheet) (z : Stack) (e : Event) (es : List Event) (x : State) → ScopesAgree s z (x .scopes) → x .refusal .number ≡ 0 → (askEvent s e z .number ≡ 0 → ⊥)
-    → runState s es (stepState s e x) .refusal ≡ askEvent s e z
-refused-here s z e es x o y q =
-    let d : askEvent s e z ≡ checkEvent s e (x .scopes) = check-is s z (x .scopes) o e in
-    let n : checkEvent s e (x .scopes) .number ≡ 0 → ⊥ = λ k. q (numbers d ∙ k) in
-    ap (λ (w : State). runState s es w .refusal) (step-refused s e x y n)
-    ∙ ap (λ (w : State). w .refusal) (refused-run s es (record { scopes = x .scopes; store = x .store; refusal = checkEvent s e (x .scopes) }) n) ∙ sym d
+refused-here : (O : Outside) (s : Sheet) (z : Stack) (e : Event) (es : List Event) (x : State) → ScopesAgree s z (x .scopes) → x .refusal .number ≡ 0 → (askEvent O s e z .number ≡ 0 → ⊥)
+    → runState O s es (stepState O s e x) .refusal ≡ askEvent O s e z
+refused-here O s z e es x o y q =
+    let d : askEvent O s e z ≡ checkEvent O s e (x .scopes) = check-is O s z (x .scopes) o e in
+    let n : checkEvent O s e (x .scopes) .number ≡ 0 → ⊥ = λ k. q (numbers d ∙ k) in
+    ap (λ (w : State). runState O s es w .refusal) (step-refused O s e x y n)
+    ∙ ap (λ (w : State). w .refusal) (refused-run O s es (record { scopes = x .scopes; store = x .store; refusal = checkEvent O s e (x .scopes) }) n) ∙ sym d
 
-pub refine : (s : Sheet) → kind s 0 ≡ 0 → (room : Room) (h : List Moment) (z : Stack) (es : List Event) (x : State)
-    → Runs s room h z es → StateAgrees s room h z x → Ends s room h z es (runState s es x)
+pub refine : (O : Outside) (s : Sheet) → kind s 0 ≡ 0 → (room : Room) (h : List Moment) (z : Stack) (es : List Event) (x : State)
+    → Runs O s room h z es → StateAgrees O s room h z x → Ends O s room h z es (runState O s es x)
 unfolding runState
-refine s hd room h z [] x over g = accepted refl (subst (λ (l : List Moment). StateAgrees s room l z x) (sym (append-nil h)) g)
-refine s hd room h z (e ∷ es) x (next pr un w₁ w₂ r₁ r₂ rs out r₃ w) g =
-    by (eqb (askEvent s e z .number) 0) refl (λ q. refine s hd room (h ++ record { event = e; stack = z } ∷ []) (step s z e) es (stepState s e x) (w q) (state-step s hd room h z e x pr un w₁ w₂ r₁ r₂ rs out r₃ q g))
+refine O s hd room h z [] x over g = accepted refl (subst (λ (l : List Moment). StateAgrees O s room l z x) (sym (append-nil h)) g)
+refine O s hd room h z (e ∷ es) x (next pr un w₁ w₂ r₁ r₂ rs out r₃ w) g =
+    by (eqb (askEvent O s e z .number) 0) refl (λ q. refine O s hd room (h ++ record { event = e; stack = z } ∷ []) (step s z e) es (stepState O s e x) (w q) (state-step O s hd room h z e x pr un w₁ w₂ r₁ r₂ rs out r₃ q g))
   where
-    pass : askEvent s e z .number ≡ 0 → Ends s room (h ++ record { event = e; stack = z } ∷ []) (step s z e) es (runState s es (stepState s e x)) → Ends s room h z (e ∷ es) (runState s es (stepState s e x))
+    pass : askEvent O s e z .number ≡ 0 → Ends O s room (h ++ record { event = e; stack = z } ∷ []) (step s z e) es (runState O s es (stepState O s e x)) → Ends O s room h z (e ∷ es) (runState O s es (stepState O s e x))
     pass q (accepted n i) =
-        accepted (numbers (no-later s z e es q) ∙ n)
-        (subst (λ (l : List Moment). StateAgrees s room l (run s (step s z e) es) (runState s es (stepState s e x))) (append-assoc h (record { event = e; stack = z } ∷ []) (moments s (step s z e) es)) i)
-    pass q (refused n i) = refused (λ k. n (sym (numbers (no-later s z e es q)) ∙ k)) (i ∙ sym (no-later s z e es q))
+        accepted (numbers (no-later O s z e es q) ∙ n)
+        (subst (λ (l : List Moment). StateAgrees O s room l (run s (step s z e) es) (runState O s es (stepState O s e x))) (append-assoc h (record { event = e; stack = z } ∷ []) (moments s (step s z e) es)) i)
+    pass q (refused n i) = refused (λ k. n (sym (numbers (no-later O s z e es q)) ∙ k)) (i ∙ sym (no-later O s z e es q))
 
-    by : (t : Bool) → eqb (askEvent s e z .number) 0 ≡ t
-        → (askEvent s e z .number ≡ 0 → Ends s room (h ++ record { event = e; stack = z } ∷ []) (step s z e) es (runState s es (stepState s e x)))
-        → Ends s room h z (e ∷ es) (runState s es (stepState s e x))
-    by true q i = pass (eqb-true (askEvent s e z .number) 0 q) (i (eqb-true (askEvent s e z .number) 0 q))
+    by : (t : Bool) → eqb (askEvent O s e z .number) 0 ≡ t
+        → (askEvent O s e z .number ≡ 0 → Ends O s room (h ++ record { event = e; stack = z } ∷ []) (step s z e) es (runState O s es (stepState O s e x)))
+        → Ends O s room h z (e ∷ es) (runState O s es (stepState O s e x))
+    by true q i = pass (eqb-true (askEvent O s e z .number) 0 q) (i (eqb-true (askEvent O s e z .number) 0 q))
     by false q i =
-        let n : askEvent s e z .number ≡ 0 → ⊥ = eqb-false (askEvent s e z .number) 0 q in
-        refused (λ k. n (sym (numbers (no-here s z e es n)) ∙ k)) (refused-here s z e es x (g .opened) (g .agreed) n ∙ sym (no-here s z e es n))
+        let n : askEvent O s e z .number ≡ 0 → ⊥ = eqb-false (askEvent O s e z .number) 0 q in
+        refused (λ k. n (sym (numbers (no-here O s z e es n)) ∙ k)) (refused-here O s z e es x (g .opened) (g .agreed) n ∙ sym (no-here O s z e es n))

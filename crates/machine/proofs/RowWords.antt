@@ -8,6 +8,7 @@ use lib.Dec.{eqb}
 use borrow.Author.Tests.{ne-eqb, eqb-true, eqb-false}
 use Rattle.definition.specs.Basics.{if_then_else_, filter, any, final, place, bit, _∈?_, head}
 use Rattle.definition.specs.Sheet.{Sheet, is, a, b, child}
+use Rattle.definition.specs.Outside.{Outside}
 use Rattle.definition.specs.Meaning.{isVariable, rowOf, ownerOf, classNumber}
 use Rattle.definition.specs.Walk.{Event, enter, leave, loop, declare, bring, visit}
 use Rattle.definition.specs.Scope.{Stack, Moment, lookup, around, inside, within, declared, visited, declares}
@@ -36,15 +37,15 @@ rowWritten s e st =
     else 0
 
 -- what it writes: code and values; of a literal the function in which it stands, of a class its parent
-abbrev pub wordsWritten : Sheet → List Moment → Moment → List ℕ
-wordsWritten s h m =
+abbrev pub wordsWritten : Outside → Sheet → List Moment → Moment → List ℕ
+wordsWritten O s h m =
     if declaresLet s (m .event) then code s h (declared s (eventRow (m .event)) (within s m)) (openLocals s (m .stack))
     else if visitsKind s 50 (m .event) then seenFrom s h (within s m) (useAt s m)
     else if visitsKind s 51 (m .event) then (if eqb (within s m) (b s 0) then 7 else 8) ∷ []
     else if visitsKind s 52 (m .event) then 1 ∷ within s m ∷ []
     else if visitsKind s 55 (m .event) then 2 ∷ classNumber (lookup (a s (eventRow (m .event))) (m .stack)) ∷ []
     else if visitsKind s 30 (m .event) then 2 ∷ classNumber (lookup (b s (a s (eventRow (m .event)))) (m .stack)) ∷ []
-    else 1 ∷ methodNamed (a s (child s (eventRow (m .event)))) (ownMethods s (receiver s (eventRow (m .event)) (m .stack))) ∷ []
+    else 1 ∷ methodNamed (a s (child s (eventRow (m .event)))) (ownMethods O s (receiver s (eventRow (m .event)) (m .stack))) ∷ []
 
 -- does the identifier of a moment mean a local or argument of another function?
 abbrev pub outside : Sheet → Moment → Bool
@@ -56,9 +57,9 @@ pub record Stable (s : Sheet) (h : List Moment) (m : Moment) : Type 0 where
   pub use-listed : visitsKind s 50 (m .event) ≡ true → listed s h (useAt s m .means) ≡ true
   pub let-listed : declaresLet s (m .event) ≡ true → listed s h (declared s (eventRow (m .event)) (within s m)) ≡ true
 
-pub data WrittenBy (s : Sheet) (h : List Moment) (ws : List ℕ) : List Moment → Type 0 where
-  unwritten : ws ≡ 0 ∷ 0 ∷ 0 ∷ 0 ∷ [] → WrittenBy s h ws []
-  written : {m : Moment} → ws ≡ fourWords (wordsWritten s h m) → Stable s h m → WrittenBy s h ws (m ∷ [])
+pub data WrittenBy (O : Outside) (s : Sheet) (h : List Moment) (ws : List ℕ) : List Moment → Type 0 where
+  unwritten : ws ≡ 0 ∷ 0 ∷ 0 ∷ 0 ∷ [] → WrittenBy O s h ws []
+  written : {m : Moment} → ws ≡ fourWords (wordsWritten O s h m) → Stable s h m → WrittenBy O s h ws (m ∷ [])
 
 -- Captures are only added at the end.
 grown : (s : Sheet) (h : List Moment) (m : Moment) (f : ℕ) → (ys : List Use) × (captures s (h ++ m ∷ []) f ≡ captures s h f ++ ys)
@@ -98,8 +99,8 @@ seen-on s h m′ m q n = go (outside s m) q
     go false q = code-on s h m′ (useAt s m .means) (useAt s m .slot) n
 
 -- what is written does not change later
-words-on : (s : Sheet) (h : List Moment) (m′ m : Moment) → Stable s h m → wordsWritten s (h ++ m′ ∷ []) m ≡ wordsWritten s h m
-words-on s h m′ m q =
+words-on : (O : Outside) (s : Sheet) (h : List Moment) (m′ m : Moment) → Stable s h m → wordsWritten O s (h ++ m′ ∷ []) m ≡ wordsWritten O s h m
+words-on O s h m′ m q =
     go (declaresLet s (m .event)) (visitsKind s 50 (m .event)) (λ v. code-on s h m′ (declared s (eventRow (m .event)) (within s m)) (openLocals s (m .stack)) (q .let-listed v)) (λ v. seen-on s h m′ m (q .captured v) (q .use-listed v))
   where
     rest : List ℕ
@@ -108,7 +109,7 @@ words-on s h m′ m q =
         else if visitsKind s 52 (m .event) then 1 ∷ within s m ∷ []
         else if visitsKind s 55 (m .event) then 2 ∷ classNumber (lookup (a s (eventRow (m .event))) (m .stack)) ∷ []
         else if visitsKind s 30 (m .event) then 2 ∷ classNumber (lookup (b s (a s (eventRow (m .event)))) (m .stack)) ∷ []
-        else 1 ∷ methodNamed (a s (child s (eventRow (m .event)))) (ownMethods s (receiver s (eventRow (m .event)) (m .stack))) ∷ []
+        else 1 ∷ methodNamed (a s (child s (eventRow (m .event)))) (ownMethods O s (receiver s (eventRow (m .event)) (m .stack))) ∷ []
 
     go : (t u : Bool)
         → (t ≡ true → code s (h ++ m′ ∷ []) (declared s (eventRow (m .event)) (within s m)) (openLocals s (m .stack)) ≡ code s h (declared s (eventRow (m .event)) (within s m)) (openLocals s (m .stack)))
@@ -119,9 +120,9 @@ words-on s h m′ m q =
     go false true j i = i refl
     go false false j i = refl
 
-written-on : (s : Sheet) (h : List Moment) (m′ : Moment) {ws : List ℕ} {ms : List Moment} → WrittenBy s h ws ms → WrittenBy s (h ++ m′ ∷ []) ws ms
-written-on s h m′ (unwritten e) = unwritten e
-written-on s h m′ (written {m} e q) = written (e ∙ ap fourWords (sym (words-on s h m′ m q))) (stable-on s h m′ m q)
+written-on : (O : Outside) (s : Sheet) (h : List Moment) (m′ : Moment) {ws : List ℕ} {ms : List Moment} → WrittenBy O s h ws ms → WrittenBy O s (h ++ m′ ∷ []) ws ms
+written-on O s h m′ (unwritten e) = unwritten e
+written-on O s h m′ (written {m} e q) = written (e ∙ ap fourWords (sym (words-on O s h m′ m q))) (stable-on s h m′ m q)
 
 -- A moment is stable once it is in the history.
 head-early : (w : ℕ) (fs : List ℕ) → (w ∈? fs) ≡ true → eqb w (head fs) ≡ false → isBefore w fs (head fs) ≡ true
@@ -208,7 +209,7 @@ seenIn-is s h u g f o e n =
     ∙ ap (λ (k : ℕ). if isVariable (u .means) && not (eqb (ownerOf (u .means)) f) then 6 ∷ k ∷ 0 ∷ bit (isMutable s (u .means)) ∷ [] else codeOf s (u .means) (u .slot) g) (place-map (λ y. eqb (rowOf (u .means)) (y .key)) nodeOf (captures s h f))
     ∙ ap (λ (l : List ℕ). if isVariable (u .means) && not (eqb (ownerOf (u .means)) f) then 6 ∷ place (same u) (captures s h f) ∷ 0 ∷ bit (isMutable s (u .means)) ∷ [] else l) (code-is s h (u .means) (u .slot) g n)
 
-module _ (s : Sheet) (h : List Moment) (z : Stack) (p : Scopes) (op : ScopesAgree s z p) where
+module _ (O : Outside) (s : Sheet) (h : List Moment) (z : Stack) (p : Scopes) (op : ScopesAgree s z p) where
   writtenRow-is : (e : Event) → writtenRow s e p ≡ rowWritten s e z
   writtenRow-is (enter r) = refl
   writtenRow-is leave = refl
@@ -219,7 +220,7 @@ module _ (s : Sheet) (h : List Moment) (z : Stack) (p : Scopes) (op : ScopesAgre
 
   written-is : (e : Event) (o : Store) → listAt o (8 * inside s z + 6) ≡ map nodeOf (captures s h (inside s z))
       → (declaresLet s e ≡ true → Known s h (p .nextGlobal) (newMeaning s (declares e) p)) → ((m : ℕ) → Known s h (lookupGlobal p m) (lookupMeaning p m))
-      → writtenWords s e p o ≡ wordsWritten s h (record { event = e; stack = z })
+      → writtenWords O s e p o ≡ wordsWritten O s h (record { event = e; stack = z })
   written-is (enter r) o i kl ku = rw (lookup-is s z p op (a s (child s (child s 0))))
   written-is leave o i kl ku = rw (lookup-is s z p op (a s (child s (child s 0))))
   written-is loop o i kl ku = rw (lookup-is s z p op (a s (child s (child s 0))))
@@ -227,7 +228,7 @@ module _ (s : Sheet) (h : List Moment) (z : Stack) (p : Scopes) (op : ScopesAgre
       go (is s 29 r) kl ∙ rw (← (newMeaning-is s z p op r), ← (lookup-is s z p op (a s (child s (child s r)))), op .slot-is)
     where
       rest : List ℕ
-      rest = 1 ∷ methodNamed (a s (child s r)) (ownMethods s (receiverClass s r p)) ∷ []
+      rest = 1 ∷ methodNamed (a s (child s r)) (ownMethods O s (receiverClass s r p)) ∷ []
 
       go : (t : Bool) → (t ≡ true → Known s h (p .nextGlobal) (newMeaning s r p))
           → (if t then codeOf s (newMeaning s r p) (p .slot) (p .nextGlobal) else rest) ≡ (if t then code s h (newMeaning s r p) (p .slot) else rest)
@@ -241,49 +242,49 @@ module _ (s : Sheet) (h : List Moment) (z : Stack) (p : Scopes) (op : ScopesAgre
       else if is s 52 r then 1 ∷ currentFunction p ∷ []
       else if is s 55 r then 2 ∷ classNumber (lookupMeaning p (a s r)) ∷ []
       else if is s 30 r then 2 ∷ classNumber (lookupMeaning p (b s (a s r))) ∷ []
-      else 1 ∷ methodNamed (a s (child s r)) (ownMethods s (receiverClass s r p)) ∷ []) seen
+      else 1 ∷ methodNamed (a s (child s r)) (ownMethods O s (receiverClass s r p)) ∷ []) seen
       ∙ rw (← (current-is s z p op), ← (lookup-is s z p op (a s r)), ← (lookup-is s z p op (b s (a s r))), ← (lookup-is s z p op (a s (child s (child s r)))))
     where
       seen : seenIn s (lookupMeaning p (a s r)) (lookupSlot p (a s r)) (lookupGlobal p (a s r)) (currentFunction p) o ≡ seenFrom s h (inside s z) (useAt s (record { event = visit r; stack = z }))
       seen =
-          rw (← (lookup-is s z p op (a s r)), ← (slot-found s z p op (a s r)), ← (current-is s z p op))
+          rw (← (lookup-is s z p op (a s r)), ← (slot-found O s z p op (a s r)), ← (current-is s z p op))
           (seenIn-is s h (useAt s (record { event = visit r; stack = z })) (lookupGlobal p (a s r)) (inside s z) o i (rw (lookup-is s z p op (a s r)) (ku (a s r))))
 
-pub row-part : (s : Sheet) (h : List Moment) (z : Stack) (p : Scopes) (op : ScopesAgree s z p) → WellFormed s z → (e : Event) (o : Store) (r : ℕ)
+pub row-part : (O : Outside) (s : Sheet) (h : List Moment) (z : Stack) (p : Scopes) (op : ScopesAgree s z p) → WellFormed s z → (e : Event) (o : Store) (r : ℕ)
     → (declaresLet s e ≡ true → Known s (h ++ record { event = e; stack = z } ∷ []) (p .nextGlobal) (newMeaning s (declares e) p))
     → ((m : ℕ) → Known s (h ++ record { event = e; stack = z } ∷ []) (lookupGlobal p m) (lookupMeaning p m))
     → r < length (o .table) / 8 → (r ≡ 0 → ⊥)
     → listAt o (8 * inside s z + 6) ≡ map nodeOf (captures s (h ++ record { event = e; stack = z } ∷ []) (inside s z))
-    → WrittenBy s h (rowWords (o .table) r) (final (filter (λ m. eqb (rowWritten s (m .event) (m .stack)) r) h))
-    → WrittenBy s (h ++ record { event = e; stack = z } ∷ []) (rowWords (storeRow s e p o .table) r)
+    → WrittenBy O s h (rowWords (o .table) r) (final (filter (λ m. eqb (rowWritten s (m .event) (m .stack)) r) h))
+    → WrittenBy O s (h ++ record { event = e; stack = z } ∷ []) (rowWords (storeRow O s e p o .table) r)
     (final (filter (λ m. eqb (rowWritten s (m .event) (m .stack)) r) (h ++ record { event = e; stack = z } ∷ [])))
 unfolding storeRow
-row-part s h z p op snd e o r kl ku l nz i t =
-    rw (filter-append (λ m. eqb (rowWritten s (m .event) (m .stack)) r) h (record { event = e; stack = z } ∷ []), writtenRow-is s h z p op e)
+row-part O s h z p op snd e o r kl ku l nz i t =
+    rw (filter-append (λ m. eqb (rowWritten s (m .event) (m .stack)) r) h (record { event = e; stack = z } ∷ []), writtenRow-is O s h z p op e)
     (go (eqb (rowWritten s e z) r) refl)
   where
     old : List Moment
     old = filter (λ m. eqb (rowWritten s (m .event) (m .stack)) r) h
 
     at-row : eqb (rowWritten s e z) r ≡ true
-        → rowWords ((if eqb (rowWritten s e z) 0 then o else writeRow (rowWritten s e z) (writtenWords s e p o) o) .table) r
-        ≡ fourWords (wordsWritten s (h ++ record { event = e; stack = z } ∷ []) (record { event = e; stack = z }))
+        → rowWords ((if eqb (rowWritten s e z) 0 then o else writeRow (rowWritten s e z) (writtenWords O s e p o) o) .table) r
+        ≡ fourWords (wordsWritten O s (h ++ record { event = e; stack = z } ∷ []) (record { event = e; stack = z }))
     at-row q =
-        ap (λ (k : ℕ). rowWords ((if eqb k 0 then o else writeRow k (writtenWords s e p o) o) .table) r) (eqb-true (rowWritten s e z) r q)
-        ∙ ap (λ (t : Bool). rowWords ((if t then o else writeRow r (writtenWords s e p o) o) .table) r) (ne-eqb r 0 nz)
-        ∙ writeRow-same r (writtenWords s e p o) o l
-        ∙ ap fourWords (written-is s (h ++ record { event = e; stack = z } ∷ []) z p op e o i kl ku)
+        ap (λ (k : ℕ). rowWords ((if eqb k 0 then o else writeRow k (writtenWords O s e p o) o) .table) r) (eqb-true (rowWritten s e z) r q)
+        ∙ ap (λ (t : Bool). rowWords ((if t then o else writeRow r (writtenWords O s e p o) o) .table) r) (ne-eqb r 0 nz)
+        ∙ writeRow-same r (writtenWords O s e p o) o l
+        ∙ ap fourWords (written-is O s (h ++ record { event = e; stack = z } ∷ []) z p op e o i kl ku)
 
     there : (t : Bool) → eqb (rowWritten s e z) r ≡ false
-        → rowWords ((if t then o else writeRow (rowWritten s e z) (writtenWords s e p o) o) .table) r ≡ rowWords (o .table) r
+        → rowWords ((if t then o else writeRow (rowWritten s e z) (writtenWords O s e p o) o) .table) r ≡ rowWords (o .table) r
     there true q = refl
-    there false q = writeRow-other (rowWritten s e z) (writtenWords s e p o) o r (λ k. eqb-false (rowWritten s e z) r q (sym k))
+    there false q = writeRow-other (rowWritten s e z) (writtenWords O s e p o) o r (λ k. eqb-false (rowWritten s e z) r q (sym k))
 
     go : (t : Bool) → eqb (rowWritten s e z) r ≡ t
-        → WrittenBy s (h ++ record { event = e; stack = z } ∷ []) (rowWords ((if eqb (rowWritten s e z) 0 then o else writeRow (rowWritten s e z) (writtenWords s e p o) o) .table) r)
+        → WrittenBy O s (h ++ record { event = e; stack = z } ∷ []) (rowWords ((if eqb (rowWritten s e z) 0 then o else writeRow (rowWritten s e z) (writtenWords O s e p o) o) .table) r)
         (final (old ++ (if t then record { event = e; stack = z } ∷ [] else [])))
     go true q = rw (final-snoc old (record { event = e; stack = z })) (written (at-row q) (stable-new s h z p op e snd kl ku))
     go false q =
         rw (append-nil old)
-        (subst (λ (ws : List ℕ). WrittenBy s (h ++ record { event = e; stack = z } ∷ []) ws (final old)) (sym (there (eqb (rowWritten s e z) 0) q))
-        (written-on s h (record { event = e; stack = z }) t))
+        (subst (λ (ws : List ℕ). WrittenBy O s (h ++ record { event = e; stack = z } ∷ []) ws (final old)) (sym (there (eqb (rowWritten s e z) 0) q))
+        (written-on O s h (record { event = e; stack = z }) t))

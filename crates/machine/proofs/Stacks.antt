@@ -1,16 +1,20 @@
 -- What holds of the stacks of a walk: no function is open twice, and the function of an open local or argument is open.
-use mathlib.Core.Path.{_≡_, refl, sym, ap, _∙_}
-use mathlib.Core.List.{List, [], _∷_}
+use mathlib.Core.Path.{_≡_, refl, sym, ap, _∙_, subst}
+use mathlib.Core.List.{List, [], _∷_, map}
 use mathlib.Core.Bool.{Bool, true, false, _||_, true≢false}
 use Prim.Native.Nat.{ℕ, _-_}
-use lib.Dec.{eqb}
+use lib.Dec.{eqb, T, T-not}
 use borrow.Author.Tests.{eqb-true}
-use Rattle.definition.specs.Basics.{if_then_else_, _∈?_}
+use Rattle.definition.specs.Basics.{if_then_else_, _∈?_, all}
 use Rattle.definition.specs.Sheet.{Sheet, is}
-use Rattle.definition.specs.Meaning.{Meaning, isVariable, isToplevel, ownerOf}
+use Rattle.definition.specs.Outside.{Outside, OutsideFits, isOutward}
+use Rattle.definition.specs.Meaning.{Meaning, isVariable, isToplevel, ownerOf, Named}
 use Rattle.definition.specs.Walk.{Event, enter, leave, loop, declare, bring, visit}
 use Rattle.definition.specs.Scope.{scope, looping, bound, Stack, find, top, lookup, around, closed, declared, step, inside, start}
 use Rattle.definition.specs.Capture.{beyond}
+use Rattle.definition.proofs.Lists.Tests.{and-left, and-right}
+use Rattle.definition.proofs.Walk.Moments.{around-names}
+use Rattle.definition.proofs.Closure.Declared.{outward-plain}
 use Rattle.machine.proofs.Nodes.{isBefore}
 use Rattle.machine.proofs.Lists.{eqb-same}
 
@@ -111,9 +115,12 @@ wellFormed-step s z (declare r) (p-declare h) o = record { apart = o .apart; own
 wellFormed-step s z (bring r n d) (p-bring h g) o = record { apart = o .apart; owned = o-name (λ v. absurd (true≢false (sym v ∙ h))) (o .owned) }
 wellFormed-step s z (visit r) p-visit o = o
 
-pub wellFormed-start : (s : Sheet) → WellFormed s start
-wellFormed-start s =
-    record {
-      apart = a-none;
-      owned = o-name (λ v. absurd (true≢false (sym v))) (o-name (λ v. absurd (true≢false (sym v))) (o-name (λ v. absurd (true≢false (sym v))) (o-name (λ v. absurd (true≢false (sym v))) (o-name (λ v. absurd (true≢false (sym v))) (o-name (λ v. absurd (true≢false (sym v))) (o-name (λ v. absurd (true≢false (sym v))) (o-name (λ v. absurd (true≢false (sym v))) (o-name (λ v. absurd (true≢false (sym v))) o-none))))))));
-    }
+-- names from outside
+owned-names : (s : Sheet) (xs : List Named) → T (all (λ x. isOutward (x .means)) xs) → Owned s (map (λ x. bound (x .name) (x .means)) xs)
+owned-names s [] h = o-none
+owned-names s (x ∷ xs) h =
+    o-name (λ v. absurd (T-not (isVariable (x .means)) (outward-plain (x .means) (and-left (isOutward (x .means)) (all (λ y. isOutward (y .means)) xs) h)) (subst T (sym v) tt)))
+    (owned-names s xs (and-right (isOutward (x .means)) (all (λ y. isOutward (y .means)) xs) h))
+
+pub wellFormed-start : {O : Outside} → OutsideFits O → (s : Sheet) → WellFormed s (start O)
+wellFormed-start {O} known s = record { apart = subst Distinct (sym (around-names s (O .names))) a-none; owned = owned-names s (O .names) (known .outward) }

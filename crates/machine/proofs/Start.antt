@@ -5,13 +5,14 @@ use mathlib.Core.Bool.{Bool, false}
 use Prim.Native.Nat.{ℕ, zero, suc, _+_, _-_, _*_, _/_, _≤_, _<_, min}
 use native.Mathlib.Omega.{arith}
 use lib.ListN.{length, getD}
-use lib.Dec.{eqb}
-use Rattle.definition.specs.Basics.{if_then_else_, distinct}
+use lib.Dec.{eqb, T}
+use Rattle.definition.specs.Basics.{if_then_else_, distinct, all}
 use Rattle.definition.specs.Sheet.{Sheet, kind}
-use Rattle.definition.specs.Meaning.{Named, isToplevel}
-use Rattle.definition.specs.Outside.{outermost}
+use Rattle.definition.specs.Meaning.{Named, isToplevel, Meaning, nothing, function, class, global, toplevel, variable}
+use Rattle.definition.specs.Outside.{Outside, OutsideFits, isOutward}
 use Rattle.definition.specs.Walk.{walk}
 use Rattle.definition.specs.Scope.{Stack, bound, start}
+use Rattle.definition.proofs.Lists.Tests.{and-left, and-right}
 use Rattle.machine.specs.Machine.{nodeRoom, entryRoom, oneMore, chainTo, chainBack, reversed, listAt, Scopes, globalAt, meaningAt, tagOf, firstOf, secondOf, noScopes, openNames, startState, runState}
 use Rattle.machine.specs.Reads.{listedFields, rowWords}
 use Rattle.machine.proofs.Entries.{entries, entries-length}
@@ -27,9 +28,9 @@ unfolding entries
 noScopes-agree s v = record { stack-is = refl; slot-is = refl; slots = λ i h. absurd (omega arith); fun-is = refl; funs-kept = λ i h. absurd (omega arith) }
 
 -- a table of zeros agrees with the empty history
-kept-none : (s : Sheet) (t q : List ℕ) → ((j : ℕ) → getD t j 0 ≡ 0) → StoreAgrees s [] (record { used = 0; calls = 0; table = t; nodes = q })
+kept-none : (O : Outside) (s : Sheet) (t q : List ℕ) → ((j : ℕ) → getD t j 0 ≡ 0) → StoreAgrees O s [] (record { used = 0; calls = 0; table = t; nodes = q })
 unfolding listAt chainTo chainBack reversed rowWords
-kept-none s t q z =
+kept-none O s t q z =
     record {
       captures-is = λ f l. rw (z (8 * f + 6));
       captures-low = λ f. omega (arith, z (8 * f + 6));
@@ -83,27 +84,37 @@ start-numbered s v (f-one {x} {xs} e f) h w =
           (omega (arith, h, c, ap (λ (n : ℕ). min (n / 5) 4294967295) (openNames-length s xs (noScopes s v)))) (i .numbers) (known-stored s [] (x .means) (p .nextGlobal) (unnumbered e));
     }
 
-outermost-fixed : Fixed outermost
-outermost-fixed = f-one refl (f-one refl (f-one refl (f-one refl (f-one refl (f-one refl (f-one refl (f-one refl (f-one refl f-none))))))))
+outward-fixed : (d : Meaning) → T (isOutward d) → isToplevel d ≡ false
+outward-fixed nothing h = refl
+outward-fixed (function f) h = refl
+outward-fixed (class c) h = refl
+outward-fixed (global g m) h = refl
+outward-fixed (toplevel r) h = absurd h
+outward-fixed (variable r f) h = refl
+
+names-fixed : (xs : List Named) → T (all (λ x. isOutward (x .means)) xs) → Fixed xs
+names-fixed [] h = f-none
+names-fixed (x ∷ xs) h =
+    f-one (outward-fixed (x .means) (and-left (isOutward (x .means)) (all (λ y. isOutward (y .means)) xs) h)) (names-fixed xs (and-right (isOutward (x .means)) (all (λ y. isOutward (y .means)) xs) h))
 
 -- The state before the walk agrees with the definition's, if the table is all zeros and the outermost names have room.
-pub start-agrees : (s : Sheet) (v t q : List ℕ) → 9 ≤ entryRoom v → ((j : ℕ) → getD t j 0 ≡ 0)
-    → StateAgrees s (record { entries = entryRoom v; rows = length t / 8; nodes = nodeRoom q }) [] start (startState s v t q)
+pub start-agrees : {O : Outside} → OutsideFits O → (s : Sheet) (v t q : List ℕ) → length (O .names) ≤ entryRoom v → ((j : ℕ) → getD t j 0 ≡ 0)
+    → StateAgrees O s (record { entries = entryRoom v; rows = length t / 8; nodes = nodeRoom q }) [] (start O) (startState O s v t q)
 unfolding startState
-start-agrees s v t q h z =
+start-agrees {O} known s v t q h z =
     record {
-      opened = opened s v outermost h (omega arith);
-      numbered = start-numbered s v outermost-fixed h (omega arith);
-      sound = wellFormed-start s;
-      kept = kept-none s t q z;
+      opened = opened s v (O .names) h (omega (arith, known .few));
+      numbered = start-numbered s v (names-fixed (O .names) (known .outward)) h (omega (arith, known .few));
+      sound = wellFormed-start known s;
+      kept = kept-none O s t q z;
       agreed = refl;
-      entries-are = ap (λ (n : ℕ). min (n / 5) 4294967295) (openNames-length s outermost (noScopes s v));
+      entries-are = ap (λ (n : ℕ). min (n / 5) 4294967295) (openNames-length s (O .names) (noScopes s v));
       rows-are = refl;
       nodes-are = refl;
     }
 
 -- the walk of a sheet from that state
-pub refine-start : (s : Sheet) → kind s 0 ≡ 0 → (v t q : List ℕ) → 9 ≤ entryRoom v → ((j : ℕ) → getD t j 0 ≡ 0)
-    → Runs s (record { entries = entryRoom v; rows = length t / 8; nodes = nodeRoom q }) [] start (walk s)
-    → Ends s (record { entries = entryRoom v; rows = length t / 8; nodes = nodeRoom q }) [] start (walk s) (runState s (walk s) (startState s v t q))
-refine-start s hd v t q h z w = refine s hd _ [] start (walk s) (startState s v t q) w (start-agrees s v t q h z)
+pub refine-start : {O : Outside} → OutsideFits O → (s : Sheet) → kind s 0 ≡ 0 → (v t q : List ℕ) → length (O .names) ≤ entryRoom v → ((j : ℕ) → getD t j 0 ≡ 0)
+    → Runs O s (record { entries = entryRoom v; rows = length t / 8; nodes = nodeRoom q }) [] (start O) (walk s)
+    → Ends O s (record { entries = entryRoom v; rows = length t / 8; nodes = nodeRoom q }) [] (start O) (walk s) (runState O s (walk s) (startState O s v t q))
+refine-start {O} known s hd v t q h z w = refine O s hd _ [] (start O) (walk s) (startState O s v t q) w (start-agrees known s v t q h z)

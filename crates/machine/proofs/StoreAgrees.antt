@@ -8,6 +8,7 @@ use lib.ListN.{length, getD}
 use lib.Dec.{eqb, leb, ltb}
 use Rattle.definition.specs.Basics.{if_then_else_, filter, final, distinct, bit, _∈?_}
 use Rattle.definition.specs.Sheet.{Sheet, kind, is, a, child}
+use Rattle.definition.specs.Outside.{Outside}
 use Rattle.definition.specs.Walk.{Event}
 use Rattle.definition.specs.Scope.{Stack, Moment, around, inside, declares}
 use Rattle.definition.specs.Slots.{isLocal, localCount}
@@ -24,7 +25,7 @@ use Rattle.machine.proofs.StoreParts.{visitsKind-is, nodeCost, nodesNee
 use Rattle.machine.proofs.Globals.{Known}
 use Rattle.machine.proofs.RowWords.{rowWritten, WrittenBy, row-part}
 
-pub record StoreAgrees (s : Sheet) (h : List Moment) (o : Store) : Type 0 where
+pub record StoreAgrees (O : Outside) (s : Sheet) (h : List Moment) (o : Store) : Type 0 where
   pub captures-is : (f : ℕ) → f < length (o .table) / 8 → listAt o (8 * f + 6) ≡ map nodeOf (captures s h f)
   pub captures-low : (f : ℕ) → cell (o .table) f 6 ≤ o .used
   pub fields-is : (c : ℕ) → c < length (o .table) / 8 → (c ≡ 0 → ⊥)
@@ -35,7 +36,7 @@ pub record StoreAgrees (s : Sheet) (h : List Moment) (o : Store) : Type 0 where
   pub locals-is : (f : ℕ) → f < length (o .table) / 8 → cell (o .table) f 5 ≡ localCount s h f
   pub hidden-is : (r : ℕ) → r < length (o .table) / 8 → cell (o .table) r 4 ≡ bit (isHidden s h r)
   pub words-is : (r : ℕ) → r < length (o .table) / 8 → (r ≡ 0 → ⊥)
-      → WrittenBy s h (rowWords (o .table) r) (final (filter (λ m. eqb (rowWritten s (m .event) (m .stack)) r) h))
+      → WrittenBy O s h (rowWords (o .table) r) (final (filter (λ m. eqb (rowWritten s (m .event) (m .stack)) r) h))
   pub used-le : o .used ≤ nodesNeeded s h
 
 -- Bounds on the nodes, and the calls, part by part.
@@ -133,9 +134,9 @@ hidden-same : (s : Sheet) (e : Event) (p : Scopes) (o : Store) → Same o (store
 unfolding storeHidden markHidden
 hidden-same s e p o = same-if (visitsKind s 59 e && not (eqb (receiverClass s (eventRow e) p) 0)) o _
 
-row-same : (s : Sheet) (e : Event) (p : Scopes) (o : Store) → Same o (storeRow s e p o)
+row-same : (O : Outside) (s : Sheet) (e : Event) (p : Scopes) (o : Store) → Same o (storeRow O s e p o)
 unfolding storeRow writeRow
-row-same s e p o = go (eqb (writtenRow s e p) 0) _
+row-same O s e p o = go (eqb (writtenRow s e p) 0) _
   where
     go : (t : Bool) (w : List ℕ) → Same o (if t then o else (if ltb (writtenRow s e p) (length (o .table) / 8) then withTable w o else o))
     go true w = record { used-is = refl; calls-is = refl; nodes-is = refl }
@@ -150,7 +151,7 @@ rows-on : {o o′ : Store} → Extends o o′ → (f : ℕ) → f < length (o′
 rows-on g f l = omega (arith, ap (λ (j : ℕ). j / 8) (g .table-length))
 
 -- the parts of a step put together; o₁ to o₆ are the stores after each
-assemble : (s : Sheet) (h h′ : List Moment) (i : ℕ) (o o₁ o₂ o₃ o₄ o₅ o₆ : Store)
+assemble : (O : Outside) (s : Sheet) (h h′ : List Moment) (i : ℕ) (o o₁ o₂ o₃ o₄ o₅ o₆ : Store)
     → Unchanged (λ d. true) o o₁ → Unchanged (λ d. not (eqb d 7)) o₁ o₂ → Unchanged (λ d. not (eqb d 6)) o₂ o₃
     → Unchanged (λ d. not (eqb d 5)) o₃ o₄ → Unchanged (λ d. not (eqb d 4)) o₄ o₅ → Unchanged (λ d. leb 4 d) o₅ o₆
     → chainTo (o₁ .nodes) (o₁ .calls) ≡ map (callNode s) (callsOf s h′) → o₁ .calls ≤ o₁ .used → o₆ .calls ≡ o₁ .calls
@@ -164,12 +165,12 @@ assemble : (s : Sheet) (h h′ : List Moment) (i : ℕ) (o o₁ o₂ o₃ o₄ o
     → ((f : ℕ) → f < length (o₃ .table) / 8 → cell (o₃ .table) f 5 ≡ localCount s h f → cell (o₄ .table) f 5 ≡ localCount s h′ f)
     → ((r : ℕ) → r < length (o₄ .table) / 8 → cell (o₄ .table) r 4 ≡ bit (isHidden s h r) → cell (o₅ .table) r 4 ≡ bit (isHidden s h′ r))
     → ((r : ℕ) → r < length (o₅ .table) / 8 → (r ≡ 0 → ⊥) → listAt o₅ (8 * i + 6) ≡ map nodeOf (captures s h′ i)
-    → WrittenBy s h (rowWords (o₅ .table) r) (final (filter (λ m. eqb (rowWritten s (m .event) (m .stack)) r) h))
-    → WrittenBy s h′ (rowWords (o₆ .table) r) (final (filter (λ m. eqb (rowWritten s (m .event) (m .stack)) r) h′)))
+    → WrittenBy O s h (rowWords (o₅ .table) r) (final (filter (λ m. eqb (rowWritten s (m .event) (m .stack)) r) h))
+    → WrittenBy O s h′ (rowWords (o₆ .table) r) (final (filter (λ m. eqb (rowWritten s (m .event) (m .stack)) r) h′)))
     → o₆ .used ≤ nodesNeeded s h′ → i < length (o .table) / 8
-    → StoreAgrees s h o → StoreAgrees s h′ o₆
+    → StoreAgrees O s h o → StoreAgrees O s h′ o₆
 unfolding rowWords
-assemble s h h′ i o o₁ o₂ o₃ o₄ o₅ o₆ s₁ s₂ s₃ s₄ s₅ s₆ calls low₁ same fields low₂ caps low₃ locals hidden told used within-table k =
+assemble O s h h′ i o o₁ o₂ o₃ o₄ o₅ o₆ s₁ s₂ s₃ s₄ s₅ s₆ calls low₁ same fields low₂ caps low₃ locals hidden told used within-table k =
     record {
       captures-is = λ f l. list-kept o₃ o₆ (8 * f + 6) g₃₆ (w₃₆ f) (l₃ f) ∙ caps₃ f (rows-on g₃₆ f l);
       captures-low = λ f. low-on s₆ f 6 (omega arith) refl (low-on s₅ f 6 (omega arith) refl (low-on s₄ f 6 (omega arith) refl (l₃ f)));
@@ -192,7 +193,7 @@ assemble s h h′ i o o₁ o₂ o₃ o₄ o₅ o₆ s₁ s₂ s₃ s₄ s₅ s�
       words-is = λ r l nz.
           told r (rows-on (s₆ .grows) r l) nz
           (list-kept o₃ o₅ (8 * i + 6) (extends-trans (s₄ .grows) (s₅ .grows)) (s₅ .words i 6 (omega arith) refl ∙ s₄ .words i 6 (omega arith) refl) (l₃ i) ∙ caps₃ i (omega (arith, within-table, ap (λ (j : ℕ). j / 8) (g₃ .table-length))))
-          (subst (λ (ws : List ℕ). WrittenBy s h ws (final (filter (λ m. eqb (rowWritten s (m .event) (m .stack)) r) h))) (sym (w4 r)) (k .words-is r (rows-on g₆ r l) nz));
+          (subst (λ (ws : List ℕ). WrittenBy O s h ws (final (filter (λ m. eqb (rowWritten s (m .event) (m .stack)) r) h))) (sym (w4 r)) (k .words-is r (rows-on g₆ r l) nz));
       used-le = used;
     }
   where
@@ -246,22 +247,22 @@ nodeCost-is : (s : Sheet) → kind s 0 ≡ 0 → (e : Event) (z : Stack)
 nodeCost-is s hd e z = rw (visitsKind-is s hd 59 refl e, visitsKind-is s hd 21 refl e, visitsKind-is s hd 50 refl e)
 
 -- the store after one event more
-pub store-step : (s : Sheet) → kind s 0 ≡ 0 → (h : List Moment) (z : Stack) (p : Scopes) → ScopesAgree s z p → WellFormed s z → (e : Event) (o : Store)
+pub store-step : (O : Outside) (s : Sheet) → kind s 0 ≡ 0 → (h : List Moment) (z : Stack) (p : Scopes) → ScopesAgree s z p → WellFormed s z → (e : Event) (o : Store)
     → (declaresLet s e ≡ true → Known s (h ++ record { event = e; stack = z } ∷ []) (p .nextGlobal) (newMeaning s (declares e) p))
     → ((m : ℕ) → Known s (h ++ record { event = e; stack = z } ∷ []) (lookupGlobal p m) (lookupMeaning p m))
     → p .slot < 4294967295 → nodesNeeded s (h ++ record { event = e; stack = z } ∷ []) ≤ nodeRoom (o .nodes) → inside s z < length (o .table) / 8
     → ((g : ℕ) → (g ∈? around s z) ≡ true → g < length (o .table) / 8) → Outward s h (record { event = e; stack = z })
-    → StoreAgrees s h o → StoreAgrees s (h ++ record { event = e; stack = z } ∷ []) (stepStore s e p o)
+    → StoreAgrees O s h o → StoreAgrees O s (h ++ record { event = e; stack = z } ∷ []) (stepStore O s e p o)
 unfolding stepStore
-store-step s hd h z p op snd e o kl ku few room within-table rows out k =
-    assemble s h (h ++ record { event = e; stack = z } ∷ []) (inside s z) o o₁ o₂ o₃ o₄ o₅ o₆
-    (storeCall-unchanged s e p o) (storeField-unchanged s e p o₁) (storeCapture-unchanged s e p o₂) (storeLocal-unchanged s e p o₃) (storeHidden-unchanged s e p o₄) (storeRow-unchanged s e p o₅)
-    (call-part s hd h z p op e o r₁ (k .calls-low) (k .calls-is)) (call-low s e p o (k .calls-low))
-    (row-same s e p o₅ .calls-is ∙ hidden-same s e p o₄ .calls-is ∙ local-same s e p o₃ .calls-is ∙ capture-calls s e p o₂ ∙ field-calls s e p o₁)
-    (λ c l nz lo i. field-part s hd h z p op e o₁ c r₂ l nz lo i) (λ c l. field-low s e p o₁ (8 * c + 7) l)
-    (λ f l lo i. capture-part s hd h z p op snd e out o₂ f r₃ l (λ g m. omega (arith, rows g m, ap (λ (j : ℕ). j / 8) (g₂ .table-length))) lo i) (λ f l. capture-low s e p o₂ (8 * f + 6) l)
-    (λ f l i. local-part s hd h z p op few e o₃ f l i) (λ r l i. hidden-part s hd h z p op e o₄ r l i)
-    (λ r l nz i t. row-part s h z p op snd e o₅ r kl ku l nz i t)
+store-step O s hd h z p op snd e o kl ku few room within-table rows out k =
+    assemble O s h (h ++ record { event = e; stack = z } ∷ []) (inside s z) o o₁ o₂ o₃ o₄ o₅ o₆
+    (storeCall-unchanged O s e p o) (storeField-unchanged O s e p o₁) (storeCapture-unchanged O s e p o₂) (storeLocal-unchanged O s e p o₃) (storeHidden-unchanged O s e p o₄) (storeRow-unchanged O s e p o₅)
+    (call-part O s hd h z p op e o r₁ (k .calls-low) (k .calls-is)) (call-low s e p o (k .calls-low))
+    (row-same O s e p o₅ .calls-is ∙ hidden-same s e p o₄ .calls-is ∙ local-same s e p o₃ .calls-is ∙ capture-calls s e p o₂ ∙ field-calls s e p o₁)
+    (λ c l nz lo i. field-part O s hd h z p op e o₁ c r₂ l nz lo i) (λ c l. field-low s e p o₁ (8 * c + 7) l)
+    (λ f l lo i. capture-part O s hd h z p op snd e out o₂ f r₃ l (λ g m. omega (arith, rows g m, ap (λ (j : ℕ). j / 8) (g₂ .table-length))) lo i) (λ f l. capture-low s e p o₂ (8 * f + 6) l)
+    (λ f l i. local-part O s hd h z p op few e o₃ f l i) (λ r l i. hidden-part O s hd h z p op e o₄ r l i)
+    (λ r l nz i t. row-part O s h z p op snd e o₅ r kl ku l nz i t)
     u₆ within-table k
   where
     o₁ : Store
@@ -280,10 +281,10 @@ store-step s hd h z p op snd e o kl ku few room within-table rows out k =
     o₅ = storeHidden s e p o₄
 
     o₆ : Store
-    o₆ = storeRow s e p o₅
+    o₆ = storeRow O s e p o₅
 
     g₂ : Extends o o₂
-    g₂ = extends-trans (storeCall-unchanged s e p o .grows) (storeField-unchanged s e p o₁ .grows)
+    g₂ = extends-trans (storeCall-unchanged O s e p o .grows) (storeField-unchanged O s e p o₁ .grows)
 
     all : nodesNeeded s h + ((if visitsKind s 59 e then 1 else 0) + (if visitsKind s 21 e then 1 else 0) + (if visitsKind s 50 e then length (around s z) else 0)) ≡ nodesNeeded s (h ++ record { event = e; stack = z } ∷ [])
     all = ap (λ (c : ℕ). nodesNeeded s h + c) (sym (nodeCost-is s hd e z)) ∙ sym (needed-snoc s h (record { event = e; stack = z }))
@@ -295,7 +296,7 @@ store-step s hd h z p op snd e o kl ku few room within-table rows out k =
     u₁ = call-used s e p o r₁
 
     n₁ : nodeRoom (o .nodes) ≡ nodeRoom (o₁ .nodes)
-    n₁ = ap (λ (j : ℕ). min (j / 4) 4294967295) (sym (storeCall-unchanged s e p o .grows .nodes-length))
+    n₁ = ap (λ (j : ℕ). min (j / 4) 4294967295) (sym (storeCall-unchanged O s e p o .grows .nodes-length))
 
     r₂ : o₁ .used + (if visitsKind s 21 e then 1 else 0) ≤ nodeRoom (o₁ .nodes)
     r₂ = omega (arith, all, k .used-le, room, u₁, n₁)
@@ -304,7 +305,7 @@ store-step s hd h z p op snd e o kl ku few room within-table rows out k =
     u₂ = field-used s e p o₁ r₂
 
     n₂ : nodeRoom (o₁ .nodes) ≡ nodeRoom (o₂ .nodes)
-    n₂ = ap (λ (j : ℕ). min (j / 4) 4294967295) (sym (storeField-unchanged s e p o₁ .grows .nodes-length))
+    n₂ = ap (λ (j : ℕ). min (j / 4) 4294967295) (sym (storeField-unchanged O s e p o₁ .grows .nodes-length))
 
     r₃ : o₂ .used + (if visitsKind s 50 e then length (around s z) else 0) ≤ nodeRoom (o₂ .nodes)
     r₃ = omega (arith, all, k .used-le, room, u₁, n₁, u₂, n₂)
@@ -317,4 +318,4 @@ store-step s hd h z p op snd e o kl ku few room within-table rows out k =
         (capture-used s e p o₂ (subst (λ (n : ℕ). o₂ .used + (if visitsKind s 50 e then n else 0) ≤ nodeRoom (o₂ .nodes)) (sym fu) r₃))
 
     u₆ : o₆ .used ≤ nodesNeeded s (h ++ record { event = e; stack = z } ∷ [])
-    u₆ = omega (arith, all, k .used-le, u₁, u₂, u₃, row-same s e p o₅ .used-is, hidden-same s e p o₄ .used-is, local-same s e p o₃ .used-is)
+    u₆ = omega (arith, all, k .used-le, u₁, u₂, u₃, row-same O s e p o₅ .used-is, hidden-same s e p o₄ .used-is, local-same s e p o₃ .used-is)

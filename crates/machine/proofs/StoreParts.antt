@@ -10,6 +10,7 @@ use lib.Dec.{eqb}
 use borrow.Author.Tests.{ne-eqb, eqb-true, eqb-false}
 use Rattle.definition.specs.Basics.{if_then_else_, filter, any, distinct, largest, bit, _∈?_, head}
 use Rattle.definition.specs.Sheet.{Sheet, kind, is, a, child}
+use Rattle.definition.specs.Outside.{Outside}
 use Rattle.definition.specs.Meaning.{isVariable, rowOf, ownerOf}
 use Rattle.definition.specs.Walk.{Event, enter, leave, loop, declare, bring, visit}
 use Rattle.definition.specs.Scope.{Stack, Moment, lookup, around, inside, within, visited, declares, visits, declarings, declaration}
@@ -98,7 +99,7 @@ if-add : (x y : Bool) (u n k : ℕ) → u + (if x then n else 0) ≤ k → (x &&
 if-add true y u n k h e = h
 if-add false y u n k h e = absurd (true≢false (sym e))
 
-module _ (s : Sheet) (hd : kind s 0 ≡ 0) (h : List Moment) (z : Stack) (p : Scopes) (op : ScopesAgree s z p) (snd : WellFormed s z) where
+module _ (O : Outside) (s : Sheet) (hd : kind s 0 ≡ 0) (h : List Moment) (z : Stack) (p : Scopes) (op : ScopesAgree s z p) (snd : WellFormed s z) where
   captures-same : (e : Event) → visitsKind s 50 e ≡ false → (f : ℕ) → map nodeOf (captures s (h ++ record { event = e; stack = z } ∷ []) f) ≡ map nodeOf (captures s h f)
   captures-same e v f = keys-snoc s h (record { event = e; stack = z }) snd f ∙ rw (visitsKind-is s hd 50 refl e ∙ v)
 
@@ -133,7 +134,7 @@ module _ (s : Sheet) (hd : kind s 0 ≡ 0) (h : List Moment) (z : Stack) (p : Sc
   capture-part (bring r n d) out o f room l rows low i = i f l ∙ sym (captures-same (bring r n d) refl f)
   capture-part (visit r) out o f room l rows low i =
       let u : Use = useAt s (record { event = visit r; stack = z }) in
-      rw (← (lookup-is s z p op (a s r)), ← (slot-found s z p op (a s r)), ← (functions-is s z p op), ← (current-is s z p op))
+      rw (← (lookup-is s z p op (a s r)), ← (slot-found O s z p op (a s r)), ← (functions-is s z p op), ← (current-is s z p op))
       (ap (λ (o′ : Store). listAt o′ (8 * f + 6)) (own-skipped (is s 50 r) (isVariable (u .means)) (around s z) (nodeOf u) o)
       ∙ part-list (is s 50 r && isVariable (u .means)) (around s z) (nodeOf u) o f (snd .apart)
       (λ t. if-add (is s 50 r) (isVariable (u .means)) (o .used) (length (around s z)) _ room t) l low
@@ -218,7 +219,7 @@ hidden-snoc s h m r =
     go false true v e = refl
     go false false v e = refl
 
-module _ (s : Sheet) (hd : kind s 0 ≡ 0) (h : List Moment) (z : Stack) (p : Scopes) (op : ScopesAgree s z p) where
+module _ (O : Outside) (s : Sheet) (hd : kind s 0 ≡ 0) (h : List Moment) (z : Stack) (p : Scopes) (op : ScopesAgree s z p) where
   local-same : (e : Event) → declaresLet s e ≡ false → (f : ℕ) → localCount s (h ++ record { event = e; stack = z } ∷ []) f ≡ localCount s h f
   local-same e v f = local-snoc s h (record { event = e; stack = z }) f ∙ rw (declaresLet-is s hd e ∙ v)
 
@@ -249,7 +250,7 @@ module _ (s : Sheet) (hd : kind s 0 ≡ 0) (h : List Moment) (z : Stack) (p : Sc
   hidden-part (bring k n d) o r l i = i ∙ sym (hidden-same (bring k n d) refl r)
   hidden-part (visit k) o r l i =
       markHidden-if (is s 59 k && not (eqb (receiverClass s k p) 0)) (child s (child s k)) o r l
-      ∙ rw (i, ← (receiver-is s z p op k)) (sym (hidden-snoc s h (record { event = visit k; stack = z }) r))
+      ∙ rw (i, ← (receiver-is O s z p op k)) (sym (hidden-snoc s h (record { event = visit k; stack = z }) r))
 
 -- Constructor calls, in the walk's order.
 calls-snoc : (s : Sheet) (h : List Moment) (m : Moment)
@@ -339,7 +340,7 @@ field-list s true true d c n o room l nz low = go (eqb d c) refl
         ∙ own (n ∈? listedFields s c)
     go false e = other (not (eqb d 0) && not (n ∈? listedFields s d)) (eqb-false d c e)
 
-module _ (s : Sheet) (hd : kind s 0 ≡ 0) (h : List Moment) (z : Stack) (p : Scopes) (op : ScopesAgree s z p) where
+module _ (O : Outside) (s : Sheet) (hd : kind s 0 ≡ 0) (h : List Moment) (z : Stack) (p : Scopes) (op : ScopesAgree s z p) where
   calls-same : (e : Event) → visitsKind s 59 e ≡ false → map (callNode s) (callsOf s (h ++ record { event = e; stack = z } ∷ [])) ≡ map (callNode s) (callsOf s h)
   calls-same e v = calls-snoc s h (record { event = e; stack = z }) ∙ rw (visitsKind-is s hd 59 refl e ∙ v)
 
@@ -354,7 +355,7 @@ module _ (s : Sheet) (hd : kind s 0 ≡ 0) (h : List Moment) (z : Stack) (p : Sc
   call-part (bring k n d) o room l i = i ∙ sym (calls-same (bring k n d) refl)
   call-part (visit k) o room l i =
       call-if (is s 59 k && not (eqb (constructedClass s k p) 0)) (record { key = k; one = constructedClass s k p; two = 0 }) o (λ t. if-one (is s 59 k) (not (eqb (constructedClass s k p) 0)) (o .used) _ room t) l
-      ∙ rw (i, ← (constructed-is s z p op k)) (sym (calls-snoc s h (record { event = visit k; stack = z })))
+      ∙ rw (i, ← (constructed-is O s z p op k)) (sym (calls-snoc s h (record { event = visit k; stack = z })))
 
   fields-same : (e : Event) → visitsKind s 21 e ≡ false → (c : ℕ) → registered s (h ++ record { event = e; stack = z } ∷ []) c ≡ registered s h c
   fields-same e v c = registered-snoc s h (record { event = e; stack = z }) c ∙ rw (visitsKind-is s hd 21 refl e ∙ v) (append-nil (registered s h c))

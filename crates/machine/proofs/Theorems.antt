@@ -7,6 +7,7 @@ use Prim.Native.Nat.{ℕ, _+_, _*_, _/_, _<_, _≤_}
 use lib.ListN.{length, getD}
 use lib.Dec.{T, eqb, leb, leb→le}
 use Rattle.definition.specs.Sheet.{Sheet, rows, is}
+use Rattle.definition.specs.Outside.{Outside}
 use Rattle.definition.specs.Walk.{walk}
 use Rattle.definition.specs.Scope.{start, history}
 use Rattle.definition.specs.Format.{sheetFits}
@@ -28,8 +29,8 @@ use Rattle.machine.proofs.SheetRows.{let-rows, identifier-rows, host-ro
 use Rattle.machine.proofs.FittingSheet.{fitting-sheet}
 
 -- what the store says after the walk of a sheet past question 3
-pub store-reads : (n : ℕ) {s : Sheet} → Fits s → SheetFacts n s → (o : Store) → StoreAgrees s (history s) o → rows s ≤ length (o .table) / 8 → StoreReads s o
-store-reads n {s} ok fa o k e =
+pub store-reads : (n : ℕ) {O : Outside} {s : Sheet} → Fits O s → SheetFacts n s → (o : Store) → StoreAgrees O s (history O s) o → rows s ≤ length (o .table) / 8 → StoreReads O s o
+store-reads n {O} {s} ok fa o k e =
     record {
       lets = let-rows n ok fa o k e;
       hosts = host-rows n ok fa o k e;
@@ -38,8 +39,8 @@ store-reads n {s} ok fa o k e =
       members = member-rows n ok fa o k e;
       literals = literal-rows n ok fa o k e;
       functions = λ r l t. function-rows n ok fa o k e r l t _ refl;
-      fields = λ c l t. fields-nodes s (history s) o k c (omega arith) (kind-not-zero ok 4 c tt t);
-      parents = λ c l t. sym (parent-word s (ok .header) (history s) o k c (kind-not-zero ok 4 c tt t) (omega arith) (true-of (is s 4 c) t));
+      fields = λ c l t. fields-nodes O s (history O s) o k c (omega arith) (kind-not-zero ok 4 c tt t) (true-of (is s 4 c) t);
+      parents = λ c l t. sym (parent-word O s (ok .header) (history O s) o k c (kind-not-zero ok 4 c tt t) (omega arith) (true-of (is s 4 c) t));
       calls = k .calls-is;
     }
 
@@ -47,14 +48,14 @@ store-reads n {s} ok fa o k e =
 pub rows-few : (s : Sheet) → T (rowsFit s) → rows s ≤ 2048
 rows-few s h = leb→le (rows s) 2048 (and-right (eqb (8 * rows s) (length s) && leb 1 (rows s)) (leb (rows s) 2048) h)
 
--- The walk of every sheet past the first four questions: run over it from a table of zeros, with room for 1,059 open entries and three for each row,
+-- The walk of every sheet past the first four questions: run over it from a table of zeros, with room for 1,050 open entries, one for each name from outside and three for each row,
 -- a table row for each sheet row and 21 nodes for each, the machine refuses with the definition's first no of questions 5 to 17,
 -- or it holds what the definition's answer rows say.
-pub walk-refines : (s : Sheet) (v t q : List ℕ) → PastFour s → ((j : ℕ) → getD t j 0 ≡ 0)
-    → 1059 + 3 * rows s < length v / 5 → rows s ≤ length t / 8 → 21 * rows s ≤ length q / 4
-    → Walked s (runState s (walk s) (startState s v t q))
-walk-refines s v t q ok clear entries table nodes =
-    ended (fitting-sheet n s v t q clear z h (ok .shallow) (record { for-rows = table; for-entries = omega (arith, m, ok .few); for-words = omega (arith, m, ok .few); for-nodes = omega (arith, m) }))
+pub walk-refines : {O : Outside} (s : Sheet) (v t q : List ℕ) → PastFour O s → ((j : ℕ) → getD t j 0 ≡ 0)
+    → 1050 + length (O .names) + 3 * rows s < length v / 5 → rows s ≤ length t / 8 → 21 * rows s ≤ length q / 4
+    → Walked O s (runState O s (walk s) (startState O s v t q))
+walk-refines {O} s v t q ok clear entries table nodes =
+    ended (fitting-sheet n (ok .outside) s v t q clear z h (ok .shallow) (record { for-rows = table; for-entries = omega (arith, m, ok .few); for-words = omega (arith, m, ok .few, ok .outside .few); for-nodes = omega (arith, m) }))
   where
     n : ℕ
     n = ok .names
@@ -68,13 +69,13 @@ walk-refines s v t q ok clear entries table nodes =
     h : sheetFits n s ≡ true
     h = true-of (sheetFits n s) (ok .fitting)
 
-    ended : {x : State} → Ends s (record { entries = entryRoom v; rows = length t / 8; nodes = nodeRoom q }) [] start (walk s) x → Walked s x
+    ended : {x : State} → Ends O s (record { entries = entryRoom v; rows = length t / 8; nodes = nodeRoom q }) [] (start O) (walk s) x → Walked O s x
     ended {x} (Ends.accepted e g) =
         record {
           refused = λ k. absurd (k e);
           accepted = λ k. g .agreed;
           globals = λ k. g .numbered .next-is;
-          store = λ k. store-reads n (fits n s z h) (facts n s h) (x .store) (g .kept) (omega (arith, table, g .rows-are));
-          later = λ k. refused-later s (x .store) (g .kept .calls-is) k;
+          store = λ k. store-reads n (fits n s (ok .outside) z h) (facts n s h) (x .store) (g .kept) (omega (arith, table, g .rows-are));
+          later = λ k. refused-later O s (x .store) (g .kept .calls-is) k;
         }
-    ended (Ends.refused e i) = record { refused = λ k. i ∙ sym (refused-in-walk s k); accepted = λ k. absurd (e k); globals = λ k. absurd (e k); store = λ k. absurd (e k); later = λ k. absurd (e k) }
+    ended (Ends.refused e i) = record { refused = λ k. i ∙ sym (refused-in-walk O s k); accepted = λ k. absurd (e k); globals = λ k. absurd (e k); store = λ k. absurd (e k); later = λ k. absurd (e k) }

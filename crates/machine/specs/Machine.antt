@@ -10,11 +10,11 @@ use lib.Dec.{eqb, leb, ltb}
 use Rattle.definition.specs.Basics.{if_then_else_, any, place, bit, _∈?_}
 use Rattle.definition.specs.Sheet.{Sheet, child, a, b, is, kidsOf}
 use Rattle.definition.specs.Meaning.{Meaning, Named, nothing, function, class, global, toplevel, variable, rowOf, ownerOf, isVariable, isToplevel, classNumber, isDeclared, isClass}
-use Rattle.definition.specs.Outside.{outermost}
+use Rattle.definition.specs.Outside.{Outside, Method}
 use Rattle.definition.specs.Walk.{Event, enter, leave, loop, declare, bring, visit, literalLet}
 use Rattle.definition.specs.Scope.{declared}
 use Rattle.definition.specs.Slots.{isLocal, isMutable}
-use Rattle.definition.specs.Classes.{hasRecord, methodNamed, ownMethods, arity, classOf}
+use Rattle.definition.specs.Classes.{hasRecord, methodNamed, methodOf, ownMethods, classOf}
 use Rattle.definition.specs.Question.{Refusal, none, ask, arguments}
 
 -- word c of open entry i, of five
@@ -412,69 +412,69 @@ seenIn s d k g f o =
     else codeOf s d k g
 
 -- the code and values that an event writes: of a literal the function in which it stands, of a class its parent
-abbrev pub writtenWords : Sheet → Event → Scopes → Store → List ℕ
-writtenWords s e p o =
+abbrev pub writtenWords : Outside → Sheet → Event → Scopes → Store → List ℕ
+writtenWords O s e p o =
     if declaresLet s e then codeOf s (newMeaning s (eventRow e) p) (p .slot) (p .nextGlobal)
     else if visitsKind s 50 e then seenIn s (lookupMeaning p (a s (eventRow e))) (lookupSlot p (a s (eventRow e))) (lookupGlobal p (a s (eventRow e))) (currentFunction p) o
     else if visitsKind s 51 e then (if eqb (currentFunction p) (b s 0) then 7 else 8) ∷ []
     else if visitsKind s 52 e then 1 ∷ currentFunction p ∷ []
     else if visitsKind s 55 e then 2 ∷ classNumber (lookupMeaning p (a s (eventRow e))) ∷ []
     else if visitsKind s 30 e then 2 ∷ classNumber (lookupMeaning p (b s (a s (eventRow e)))) ∷ []
-    else 1 ∷ methodNamed (a s (child s (eventRow e))) (ownMethods s (receiverClass s (eventRow e) p)) ∷ []
+    else 1 ∷ methodNamed (a s (child s (eventRow e))) (ownMethods O s (receiverClass s (eventRow e) p)) ∷ []
 
 -- an event's code and values written
-unfoldable pub storeRow : Sheet → Event → Scopes → Store → Store
-storeRow s e p o = writeRowAt (writtenRow s e p) (writtenWords s e p o) o
+unfoldable pub storeRow : Outside → Sheet → Event → Scopes → Store → Store
+storeRow O s e p o = writeRowAt (writtenRow s e p) (writtenWords O s e p o) o
 
 -- the store after an event, with the scopes before it; captures come before the row that counts them
-unfoldable pub stepStore : Sheet → Event → Scopes → Store → Store
-stepStore s e p o = storeRow s e p (storeHidden s e p (storeLocal s e p (storeCapture s e p (storeField s e p (storeCall s e p o)))))
+unfoldable pub stepStore : Outside → Sheet → Event → Scopes → Store → Store
+stepStore O s e p o = storeRow O s e p (storeHidden s e p (storeLocal s e p (storeCapture s e p (storeField s e p (storeCall s e p o)))))
 
 -- the questions on the callee of call r
-abbrev pub checkCallee : Sheet → ℕ → Scopes → Refusal
-checkCallee s r p =
+abbrev pub checkCallee : Outside → Sheet → ℕ → Scopes → Refusal
+checkCallee O s r p =
     let callee : ℕ = child s r in
     let c : ℕ = receiverClass s r p in
-    let f : ℕ = methodNamed (a s callee) (ownMethods s c) in
-    if not (eqb (constructedClass s r p) 0) then ask 12 callee (a s callee) (hasRecord (constructedClass s r p))
+    let m : Method = methodOf (a s callee) (ownMethods O s c) in
+    if not (eqb (constructedClass s r p) 0) then ask 12 callee (a s callee) (hasRecord O s (constructedClass s r p))
     else if eqb c 0 then none
-    else if not (hasRecord c) then ask 17 callee (a s callee) false
-    else if eqb f 0 then ask 13 callee (a s callee) false
-    else ask 14 callee (a s callee) (eqb (arguments s r) (arity s f))
+    else if not (hasRecord O s c) then ask 17 callee (a s callee) false
+    else if eqb (m .fun) 0 then ask 13 callee (a s callee) false
+    else ask 14 callee (a s callee) (eqb (arguments s r) (m .params))
 
 -- the question on row r when it is visited
-abbrev pub checkVisit : Sheet → ℕ → Scopes → Refusal
-checkVisit s r p =
+abbrev pub checkVisit : Outside → Sheet → ℕ → Scopes → Refusal
+checkVisit O s r p =
     if is s 23 r || is s 24 r then ask 5 r 0 (loopIn s (p .env) (p .count))
     else if is s 21 r then ask 6 r (a s (child s r)) (not (is s 50 (child s r)) || isMutable s (lookupMeaning p (a s (child s r))))
     else if is s 50 r then ask (if eqb (a s r) 22 then 9 else 8) r (a s r) (isDeclared (lookupMeaning p (a s r)))
     else if is s 55 r then ask 10 r (a s r) (isClass (lookupMeaning p (a s r)))
     else if is s 30 r then ask 11 r (b s (a s r)) (eqb (b s (a s r)) 0 || isClass (lookupMeaning p (b s (a s r))))
     else if is s 51 r then ask 17 r (a s r) (eqb (a s r) 24)
-    else if is s 59 r then checkCallee s r p
+    else if is s 59 r then checkCallee O s r p
     else none
 
 -- the question at an event
-unfoldable pub checkEvent : Sheet → Event → Scopes → Refusal
-checkEvent s (enter r) p = none
-checkEvent s leave p = none
-checkEvent s loop p = none
-checkEvent s (declare r) p = ask (if is s 29 r && not (literalLet s r) then 7 else 16) r (a s r) (not (takenIn (p .env) (a s r) (p .count)))
-checkEvent s (bring r n d) p = if isDeclared d then ask 16 r n (not (takenIn (p .env) n (p .count))) else ask 15 r n false
-checkEvent s (visit r) p = checkVisit s r p
+unfoldable pub checkEvent : Outside → Sheet → Event → Scopes → Refusal
+checkEvent O s (enter r) p = none
+checkEvent O s leave p = none
+checkEvent O s loop p = none
+checkEvent O s (declare r) p = ask (if is s 29 r && not (literalLet s r) then 7 else 16) r (a s r) (not (takenIn (p .env) (a s r) (p .count)))
+checkEvent O s (bring r n d) p = if isDeclared d then ask 16 r n (not (takenIn (p .env) n (p .count))) else ask 15 r n false
+checkEvent O s (visit r) p = checkVisit O s r p
 
 -- the state after an event: unchanged after a refusal; refused by its question; or stepped
-unfoldable pub stepState : Sheet → Event → State → State
-stepState s e x =
+unfoldable pub stepState : Outside → Sheet → Event → State → State
+stepState O s e x =
     if not (eqb (x .refusal .number) 0) then x
-    else if eqb (checkEvent s e (x .scopes) .number) 0
-    then record { scopes = stepScopes s e (x .scopes); store = stepStore s e (x .scopes) (x .store); refusal = x .refusal }
-    else record { scopes = x .scopes; store = x .store; refusal = checkEvent s e (x .scopes) }
+    else if eqb (checkEvent O s e (x .scopes) .number) 0
+    then record { scopes = stepScopes s e (x .scopes); store = stepStore O s e (x .scopes) (x .store); refusal = x .refusal }
+    else record { scopes = x .scopes; store = x .store; refusal = checkEvent O s e (x .scopes) }
 
 -- the state after a list of events
-unfoldable pub runState : Sheet → List Event → State → State
-runState s [] x = x
-runState s (e ∷ es) x = runState s es (stepState s e x)
+unfoldable pub runState : Outside → Sheet → List Event → State → State
+runState O s [] x = x
+runState O s (e ∷ es) x = runState O s es (stepState O s e x)
 
 -- no scope open, and globals numbered from the starting count
 abbrev pub noScopes : Sheet → List ℕ → Scopes
@@ -486,5 +486,5 @@ openNames s [] p = p
 openNames s (x ∷ xs) p = pushName s (x .name) (x .means) (openNames s xs p)
 
 -- the state before the walk, on the buffers v of entries, t of the table and q of nodes
-unfoldable pub startState : Sheet → List ℕ → List ℕ → List ℕ → State
-startState s v t q = record { scopes = openNames s outermost (noScopes s v); store = record { used = 0; calls = 0; table = t; nodes = q }; refusal = none }
+unfoldable pub startState : Outside → Sheet → List ℕ → List ℕ → List ℕ → State
+startState O s v t q = record { scopes = openNames s (O .names) (noScopes s v); store = record { used = 0; calls = 0; table = t; nodes = q }; refusal = none }

@@ -8,9 +8,10 @@ use lib.Dec.{eqb, T}
 use Rattle.definition.specs.Basics.{if_then_else_, filter, any, distinct, from, concatMap}
 use Rattle.definition.specs.Sheet.{Sheet, rows, child, a, is, kidsOf}
 use Rattle.definition.specs.Meaning.{Meaning, variable}
+use Rattle.definition.specs.Outside.{Outside, Method, OutsideFits}
 use Rattle.definition.specs.Scope.{Moment, visited, visits, history}
 use Rattle.definition.specs.Slots.{isMutable, finalGlobals}
-use Rattle.definition.specs.Classes.{ownFields, parentOf, methodNamed, methods, className, arity}
+use Rattle.definition.specs.Classes.{ownFields, parentOf, methodOf, methods, className}
 use Rattle.definition.specs.Question.{Refusal, ask, firstNo, askEvent, askClimb, constructed, arguments, refusal}
 use Rattle.definition.specs.Format.{sheetFits, depthsFit}
 use Rattle.definition.specs.Outcome.{rowsFit}
@@ -54,32 +55,33 @@ abbrev pub callNode : Sheet → Moment → Node
 callNode s m = record { key = visited (m .event); one = constructed s (visited (m .event)) (m .stack); two = 0 }
 
 -- Of the store o after the walk over sheet s, with all answer rows of a row in the definition's order:
-pub record StoreReads (s : Sheet) (o : Store) : Type 0 where
+pub record StoreReads (O : Outside) (s : Sheet) (o : Store) : Type 0 where
   -- a let, a host constant and an instanceof have their words in the table,
-  pub lets : (r : ℕ) → r < rows s → T (is s 29 r) → map (λ vs. eight (r ∷ vs)) (letRow s (history s) r) ≡ answerRow r (rowWords (o .table) r) ∷ []
-  pub hosts : (r : ℕ) → r < rows s → T (is s 51 r) → map (λ vs. eight (r ∷ vs)) (hostRow s (history s) r) ≡ answerRow r (rowWords (o .table) r) ∷ []
-  pub instances : (r : ℕ) → r < rows s → T (is s 55 r) → map (λ vs. eight (r ∷ vs)) (instanceRow s (history s) r) ≡ answerRow r (rowWords (o .table) r) ∷ []
+  pub lets : (r : ℕ) → r < rows s → T (is s 29 r) → map (λ vs. eight (r ∷ vs)) (letRow s (history O s) r) ≡ answerRow r (rowWords (o .table) r) ∷ []
+  pub hosts : (r : ℕ) → r < rows s → T (is s 51 r) → map (λ vs. eight (r ∷ vs)) (hostRow s (history O s) r) ≡ answerRow r (rowWords (o .table) r) ∷ []
+  pub instances : (r : ℕ) → r < rows s → T (is s 55 r) → map (λ vs. eight (r ∷ vs)) (instanceRow s (history O s) r) ≡ answerRow r (rowWords (o .table) r) ∷ []
   -- an identifier too unless it is marked as hidden, and a member if it has a code;
   pub identifiers : (r : ℕ) → r < rows s → T (is s 50 r)
-      → map (λ vs. eight (r ∷ vs)) (identifierRow s (history s) r) ≡ (if eqb (cell (o .table) r 4) 0 then answerRow r (rowWords (o .table) r) ∷ [] else [])
+      → map (λ vs. eight (r ∷ vs)) (identifierRow s (history O s) r) ≡ (if eqb (cell (o .table) r 4) 0 then answerRow r (rowWords (o .table) r) ∷ [] else [])
   pub members : (r : ℕ) → r < rows s → T (is s 54 r)
-      → map (λ vs. eight (r ∷ vs)) (memberRow s (history s) r) ≡ (if eqb (cell (o .table) r 0) 0 then [] else answerRow r (rowWords (o .table) r) ∷ [])
+      → map (λ vs. eight (r ∷ vs)) (memberRow O s (history O s) r) ≡ (if eqb (cell (o .table) r 0) 0 then [] else answerRow r (rowWords (o .table) r) ∷ [])
   -- a literal has its sources in the capture list of its function, seen from the function in which it stands,
   pub literals : (r : ℕ) → r < rows s → T (is s 52 r)
-      → literalRows s (history s) r ≡ map (λ y. seenIn s (meaningOfNode y) (y .two) 0 (cell (o .table) r 1) o) (listAt o (8 * child s r + 6))
+      → literalRows s (history O s) r ≡ map (λ y. seenIn s (meaningOfNode y) (y .two) 0 (cell (o .table) r 1) o) (listAt o (8 * child s r + 6))
   -- and a function its local count, captures and escaping slots;
   pub functions : (r : ℕ) → r < rows s → T (is s 6 r)
-      → functionRows s (history s) r
+      → functionRows s (history O s) r
       ≡ (20 ∷ cell (o .table) r 5 ∷ length (listAt o (8 * r + 6)) ∷ length (escapingSlots s o r) ∷ [])
       ∷ map (λ y. codeOf s (meaningOfNode y) (y .two) 0) (listAt o (8 * r + 6)) ++ map (λ j. 5 ∷ j ∷ r ∷ 1 ∷ []) (escapingSlots s o r)
   -- a class has its own fields, the listed and then the stored, and its parent, before inheritance;
-  pub fields : (c : ℕ) → c < rows s → T (is s 4 c) → ownFields s (history s) (256 + c) ≡ distinct eqb (listedFields s c) ++ map (λ y. y .key) (listAt o (8 * c + 7))
-  pub parents : (c : ℕ) → c < rows s → T (is s 4 c) → parentOf s (history s) (256 + c) ≡ cell (o .table) c 1
+  pub fields : (c : ℕ) → c < rows s → T (is s 4 c) → ownFields O s (history O s) (256 + c) ≡ distinct eqb (listedFields s c) ++ map (λ y. y .key) (listAt o (8 * c + 7))
+  pub parents : (c : ℕ) → c < rows s → T (is s 4 c) → parentOf s (history O s) (256 + c) ≡ cell (o .table) c 1
   -- and the constructor calls are stored in the walk's order.
-  pub calls : chainTo (o .nodes) (o .calls) ≡ map (callNode s) (callsOf s (history s))
+  pub calls : chainTo (o .nodes) (o .calls) ≡ map (callNode s) (callsOf s (history O s))
 
--- A sheet past questions 1, 3 and 4, with a number of names that question 2 allows.
-pub record PastFour (s : Sheet) : Type 0 where
+-- A sheet past questions 1, 3 and 4, with a number of names that question 2 allows, and what stands outside it.
+pub record PastFour (O : Outside) (s : Sheet) : Type 0 where
+  pub outside : OutsideFits O
   pub names : ℕ
   pub few : names ≤ 1048
   pub whole : T (rowsFit s)
@@ -87,31 +89,31 @@ pub record PastFour (s : Sheet) : Type 0 where
   pub shallow : T (depthsFit s)
 
 -- the questions 20 and 21 on a stored constructor call
-abbrev pub checkCall : Sheet → List Moment → Node → Refusal
-checkCall s h y =
-    let f : ℕ = methodNamed 23 (methods s h (rows s) (y .one)) in
-    if eqb f 0 then ask 20 (child s (y .key)) (className s (y .one)) false
-    else ask 21 (child s (y .key)) (className s (y .one)) (eqb (arguments s (y .key) + 1) (arity s f))
+abbrev pub checkCall : Outside → Sheet → List Moment → Node → Refusal
+checkCall O s h y =
+    let m : Method = methodOf 23 (methods O s h (rows s) (y .one)) in
+    if eqb (m .fun) 0 then ask 20 (child s (y .key)) (className O s (y .one)) false
+    else ask 21 (child s (y .key)) (className O s (y .one)) (eqb (arguments s (y .key) + 1) (m .params))
 
 -- the first no of the questions that the walk asks, 5 to 17
-abbrev pub walkRefusal : Sheet → Refusal
-walkRefusal s = firstNo (map (λ m. askEvent s (m .event) (m .stack)) (history s))
+abbrev pub walkRefusal : Outside → Sheet → Refusal
+walkRefusal O s = firstNo (map (λ m. askEvent O s (m .event) (m .stack)) (history O s))
 
 -- the first no after the walk: of the classes in row order, then of the stored constructor calls
-abbrev pub laterRefusal : Sheet → Store → Refusal
-laterRefusal s o =
+abbrev pub laterRefusal : Outside → Sheet → Store → Refusal
+laterRefusal O s o =
     firstNo (
-    firstNo (map (λ r. askClimb s (history s) (suc (rows s)) [] (256 + r)) (filter (is s 4) (from 0 (rows s))))
-    ∷ firstNo (map (checkCall s (history s)) (chainTo (o .nodes) (o .calls)))
+    firstNo (map (λ r. askClimb O s (history O s) (suc (rows s)) [] (256 + r)) (filter (is s 4) (from 0 (rows s))))
+    ∷ firstNo (map (checkCall O s (history O s)) (chainTo (o .nodes) (o .calls)))
     ∷ [])
 
 -- The state x after the walk over sheet s refuses as the definition does, or holds what the definition says.
-pub record Walked (s : Sheet) (x : State) : Type 0 where
+pub record Walked (O : Outside) (s : Sheet) (x : State) : Type 0 where
   -- a no of the walk is the definition's first no, and the machine's refusal;
-  pub refused : (walkRefusal s .number ≡ 0 → ⊥) → x .refusal ≡ refusal s (history s)
+  pub refused : (walkRefusal O s .number ≡ 0 → ⊥) → x .refusal ≡ refusal O s (history O s)
   -- otherwise there is no refusal, the globals are counted, the store holds what the answer rows say, and the definition's first no is the
   -- first no after the walk.
-  pub accepted : walkRefusal s .number ≡ 0 → x .refusal .number ≡ 0
-  pub globals : walkRefusal s .number ≡ 0 → x .scopes .nextGlobal ≡ finalGlobals s (history s)
-  pub store : walkRefusal s .number ≡ 0 → StoreReads s (x .store)
-  pub later : walkRefusal s .number ≡ 0 → refusal s (history s) ≡ laterRefusal s (x .store)
+  pub accepted : walkRefusal O s .number ≡ 0 → x .refusal .number ≡ 0
+  pub globals : walkRefusal O s .number ≡ 0 → x .scopes .nextGlobal ≡ finalGlobals s (history O s)
+  pub store : walkRefusal O s .number ≡ 0 → StoreReads O s (x .store)
+  pub later : walkRefusal O s .number ≡ 0 → refusal O s (history O s) ≡ laterRefusal O s (x .store)

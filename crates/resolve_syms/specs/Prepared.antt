@@ -6,7 +6,7 @@ use lib.Dec.{eqb}
 use Rattle.definition.specs.Basics.{first}
 use Rattle.definition.specs.Sheet.{Sheet, rows}
 use Rattle.definition.specs.Meaning.{named, nothing, classNumber}
-use Rattle.definition.specs.Outside.{outermost}
+use Rattle.definition.specs.Outside.{core}
 use Rattle.classes.specs.Table.{Clear, ClassTable}
 
 -- The sheet has at most 2,048 rows, and the table holds the class of each.
@@ -26,4 +26,4 @@ pub record Lent (s : Sheet) (cs v t q : List ℕ) : Type 0 where
 
 -- the class that name m means in the outermost scope, or 0
 abbrev pub coreClass : ℕ → ℕ
-coreClass m = classNumber (first (λ x. eqb (x .name) m) (named 0 nothing) outermost .means)
+coreClass m = classNumber (first (λ x. eqb (x .name) m) (named 0 nothing) (core .names) .means)

@@ -7,6 +7,7 @@ ghost use Prim.Native.Nat.{ℕ, suc, _≤_, _<_};
 ghost use Rattle.definition.specs.Basics.{if_then_else_};
 ghost use Rattle.definition.specs.Sheet.{kind};
 ghost use Rattle.definition.specs.Walk.{isPart};
+ghost use Rattle.definition.specs.Outside.{core};
 ghost use Rattle.walk.specs.WalkState.{stateOf};
 ghost use Rattle.resolve_syms.specs.Prepared.{Prepared};
 ghost use Rattle.resolve_syms.specs.Walked.{walked, partsWalked, partWalked};
@@ -42,7 +43,7 @@ fn resolve_unit(
     q: &mut [u32],
 ) -> Walk
     requires { ⌜ (Prepared (now s) (now classes)) × (kind (now s) row ≡ 2) ⌝ }
-    ensures { λ x. ⌜ stateOf x (now (v .exit)) (now (t .exit)) (now (q .exit)) ≡ walked left (now (s .entry)) row (stateOf w (now (v .entry)) (now (t .entry)) (now (q .entry))) ⌝ }
+    ensures { λ x. ⌜ stateOf x (now (v .exit)) (now (t .exit)) (now (q .exit)) ≡ walked core left (now (s .entry)) row (stateOf w (now (v .entry)) (now (t .entry)) (now (q .entry))) ⌝ }
 {
     if left == 0 {
         return w;
@@ -64,7 +65,7 @@ fn resolve_fun(
     q: &mut [u32],
 ) -> Walk
     requires { ⌜ (Prepared (now s) (now classes)) × (kind (now s) row ≡ 6) ⌝ }
-    ensures { λ x. ⌜ stateOf x (now (v .exit)) (now (t .exit)) (now (q .exit)) ≡ walked left (now (s .entry)) row (stateOf w (now (v .entry)) (now (t .entry)) (now (q .entry))) ⌝ }
+    ensures { λ x. ⌜ stateOf x (now (v .exit)) (now (t .exit)) (now (q .exit)) ≡ walked core left (now (s .entry)) row (stateOf w (now (v .entry)) (now (t .entry)) (now (q .entry))) ⌝ }
 {
     if left == 0 {
         return w;
@@ -86,7 +87,7 @@ fn resolve_stmt(
     q: &mut [u32],
 ) -> Walk
     requires { ⌜ (Prepared (now s) (now classes)) × (7 < kind (now s) row) × (kind (now s) row < 40) ⌝ }
-    ensures { λ x. ⌜ stateOf x (now (v .exit)) (now (t .exit)) (now (q .exit)) ≡ walked left (now (s .entry)) row (stateOf w (now (v .entry)) (now (t .entry)) (now (q .entry))) ⌝ }
+    ensures { λ x. ⌜ stateOf x (now (v .exit)) (now (t .exit)) (now (q .exit)) ≡ walked core left (now (s .entry)) row (stateOf w (now (v .entry)) (now (t .entry)) (now (q .entry))) ⌝ }
 {
     if left == 0 {
         return w;
@@ -108,7 +109,7 @@ fn resolve_expr(
     q: &mut [u32],
 ) -> Walk
     requires { ⌜ (Prepared (now s) (now classes)) × (39 < kind (now s) row) ⌝ }
-    ensures { λ x. ⌜ stateOf x (now (v .exit)) (now (t .exit)) (now (q .exit)) ≡ walked left (now (s .entry)) row (stateOf w (now (v .entry)) (now (t .entry)) (now (q .entry))) ⌝ }
+    ensures { λ x. ⌜ stateOf x (now (v .exit)) (now (t .exit)) (now (q .exit)) ≡ walked core left (now (s .entry)) row (stateOf w (now (v .entry)) (now (t .entry)) (now (q .entry))) ⌝ }
 {
     if left == 0 {
         return w;
@@ -129,7 +130,7 @@ fn resolve_any(
     q: &mut [u32],
 ) -> Walk
     requires { ⌜ (Prepared (now s) (now classes)) × (isPart (now s) row ≡ true) ⌝ }
-    ensures { λ x. ⌜ stateOf x (now (v .exit)) (now (t .exit)) (now (q .exit)) ≡ walked left (now (s .entry)) row (stateOf w (now (v .entry)) (now (t .entry)) (now (q .entry))) ⌝ }
+    ensures { λ x. ⌜ stateOf x (now (v .exit)) (now (t .exit)) (now (q .exit)) ≡ walked core left (now (s .entry)) row (stateOf w (now (v .entry)) (now (t .entry)) (now (q .entry))) ⌝ }
 {
     let kind = word(s, row, 0);
     if kind == 2 {
@@ -158,7 +159,7 @@ fn resolve_part(
     q: &mut [u32],
 ) -> Walk
     requires { ⌜ Prepared (now s) (now classes) ⌝ }
-    ensures { λ x. ⌜ stateOf x (now (v .exit)) (now (t .exit)) (now (q .exit)) ≡ partWalked left (now (s .entry)) row i k (stateOf w (now (v .entry)) (now (t .entry)) (now (q .entry))) ⌝ }
+    ensures { λ x. ⌜ stateOf x (now (v .exit)) (now (t .exit)) (now (q .exit)) ≡ partWalked core left (now (s .entry)) row i k (stateOf w (now (v .entry)) (now (t .entry)) (now (q .entry))) ⌝ }
 {
     if !is_part(s, k) {
         return w;
@@ -179,7 +180,7 @@ pub fn resolve_parts(
     q: &mut [u32],
 ) -> Walk
     requires { ⌜ Prepared (now s) (now classes) ⌝ }
-    ensures { λ x. ⌜ stateOf x (now (v .exit)) (now (t .exit)) (now (q .exit)) ≡ partsWalked left (now (s .entry)) row (stateOf w (now (v .entry)) (now (t .entry)) (now (q .entry))) ⌝ }
+    ensures { λ x. ⌜ stateOf x (now (v .exit)) (now (t .exit)) (now (q .exit)) ≡ partsWalked core left (now (s .entry)) row (stateOf w (now (v .entry)) (now (t .entry)) (now (q .entry))) ⌝ }
 {
     let mut n = s.len() / 8;
     let mut k = part_list(s, row);

@@ -2,7 +2,7 @@
 ghost use mathlib.Core.Path.{_≡_};
 ghost use Rattle.machine.specs.Machine.{noScopes, openNames};
 ghost use Rattle.machine.specs.Reads.{PastFour, Walked};
-ghost use Rattle.definition.specs.Outside.{outermost};
+ghost use Rattle.definition.specs.Outside.{core};
 ghost use Rattle.symbols.specs.OpenScopes.{scopesOf};
 ghost use Rattle.walk.specs.WalkState.{stateOf};
 ghost use Rattle.resolve_syms.specs.Prepared.{Lent, coreClass};
@@ -50,7 +50,7 @@ fn core_class(m: u32) -> ClassId
 
 // The outermost scope: names 1 to 9 declared, the first of them innermost.
 fn open_core(s: &[u32], v: &mut [u32]) -> Env
-    ensures { λ x. ⌜ scopesOf x (now (v .exit)) ≡ openNames (now (s .entry)) outermost (noScopes (now (s .entry)) (now (v .entry))) ⌝ }
+    ensures { λ x. ⌜ scopesOf x (now (v .exit)) ≡ openNames (now (s .entry)) (core .names) (noScopes (now (s .entry)) (now (v .entry))) ⌝ }
 {
     let globals = word(s, 0, 6);
     let mut e = Env {
@@ -83,8 +83,8 @@ pub fn resolve_units(
     t: &mut [u32],
     q: &mut [u32],
 ) -> Walk
-    requires { ⌜ (PastFour (now s)) × (Lent (now s) (now classes) (now v) (now t) (now q)) ⌝ }
-    ensures { λ x. ⌜ Walked (now (s .entry)) (stateOf x (now (v .exit)) (now (t .exit)) (now (q .exit))) ⌝ }
+    requires { ⌜ (PastFour core (now s)) × (Lent (now s) (now classes) (now v) (now t) (now q)) ⌝ }
+    ensures { λ x. ⌜ Walked core (now (s .entry)) (stateOf x (now (v .exit)) (now (t .exit)) (now (q .exit))) ⌝ }
 {
     class_table(s, classes);
     let env = open_core(s, v);

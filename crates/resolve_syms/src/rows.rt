@@ -7,6 +7,7 @@ ghost use lib.ListN.{length};
 ghost use Rattle.definition.specs.Basics.{if_then_else_};
 ghost use Rattle.definition.specs.Sheet.{kind, child, a, is};
 ghost use Rattle.definition.specs.Walk.{before, after, afterPart, isPart};
+ghost use Rattle.definition.specs.Outside.{core};
 ghost use Rattle.machine.specs.Machine.{runState};
 ghost use Rattle.classes.specs.Table.{ClassTable};
 ghost use Rattle.walk.specs.WalkState.{stateOf};
@@ -32,7 +33,7 @@ use walk::visits::resolve_parent;
 // A unit opens a scope for its imports and classes.
 pub fn before_unit(s: &[u32], r: u32, w: Walk, v: &mut [u32], t: &mut [u32]) -> Walk
     requires { ⌜ (length (now s) ≤ 16384) × (kind (now s) r ≡ 2) ⌝ }
-    ensures { λ x. ⌜ ((q : List ℕ) → stateOf x (now (v .exit)) (now (t .exit)) q ≡ runState (now (s .entry)) (before (now (s .entry)) r) (stateOf w (now (v .entry)) (now (t .entry)) q)) ⌝ }
+    ensures { λ x. ⌜ ((q : List ℕ) → stateOf x (now (v .exit)) (now (t .exit)) q ≡ runState core (now (s .entry)) (before (now (s .entry)) r) (stateOf w (now (v .entry)) (now (t .entry)) q)) ⌝ }
 {
     let a = open_scope(s, r, w, v);
     let b = define_imports(s, r, a, v);
@@ -42,7 +43,7 @@ pub fn before_unit(s: &[u32], r: u32, w: Walk, v: &mut [u32], t: &mut [u32]) -> 
 // A function opens a scope for its parameters.
 pub fn before_fun(s: &[u32], r: u32, w: Walk, v: &mut [u32], t: &mut [u32]) -> Walk
     requires { ⌜ (length (now s) ≤ 16384) × (kind (now s) r ≡ 6) ⌝ }
-    ensures { λ x. ⌜ ((q : List ℕ) → stateOf x (now (v .exit)) (now (t .exit)) q ≡ runState (now (s .entry)) (before (now (s .entry)) r) (stateOf w (now (v .entry)) (now (t .entry)) q)) ⌝ }
+    ensures { λ x. ⌜ ((q : List ℕ) → stateOf x (now (v .exit)) (now (t .exit)) q ≡ runState core (now (s .entry)) (before (now (s .entry)) r) (stateOf w (now (v .entry)) (now (t .entry)) q)) ⌝ }
 {
     let a = open_scope(s, r, w, v);
     declare_kind(s, r, 11, a, v, t)
@@ -51,7 +52,7 @@ pub fn before_fun(s: &[u32], r: u32, w: Walk, v: &mut [u32], t: &mut [u32]) -> W
 // A block opens a scope and declares its literal lets first.
 fn before_block(s: &[u32], r: u32, w: Walk, v: &mut [u32], t: &mut [u32]) -> Walk
     requires { ⌜ (length (now s) ≤ 16384) × (kind (now s) r ≡ 25) ⌝ }
-    ensures { λ x. ⌜ ((q : List ℕ) → stateOf x (now (v .exit)) (now (t .exit)) q ≡ runState (now (s .entry)) (before (now (s .entry)) r) (stateOf w (now (v .entry)) (now (t .entry)) q)) ⌝ }
+    ensures { λ x. ⌜ ((q : List ℕ) → stateOf x (now (v .exit)) (now (t .exit)) q ≡ runState core (now (s .entry)) (before (now (s .entry)) r) (stateOf w (now (v .entry)) (now (t .entry)) q)) ⌝ }
 {
     let a = open_scope(s, r, w, v);
     hoist_literals(s, r, a, v, t)
@@ -60,7 +61,7 @@ fn before_block(s: &[u32], r: u32, w: Walk, v: &mut [u32], t: &mut [u32]) -> Wal
 // A block or `for` opens a scope; a class declaration asks for its parent.
 pub fn before_stmt(s: &[u32], r: u32, w: Walk, v: &mut [u32], t: &mut [u32]) -> Walk
     requires { ⌜ (length (now s) ≤ 16384) × (7 < kind (now s) r) ⌝ }
-    ensures { λ x. ⌜ ((q : List ℕ) → stateOf x (now (v .exit)) (now (t .exit)) q ≡ runState (now (s .entry)) (before (now (s .entry)) r) (stateOf w (now (v .entry)) (now (t .entry)) q)) ⌝ }
+    ensures { λ x. ⌜ ((q : List ℕ) → stateOf x (now (v .exit)) (now (t .exit)) q ≡ runState core (now (s .entry)) (before (now (s .entry)) r) (stateOf w (now (v .entry)) (now (t .entry)) q)) ⌝ }
 {
     let kind = word(s, r, 0);
     match kind {
@@ -74,7 +75,7 @@ pub fn before_stmt(s: &[u32], r: u32, w: Walk, v: &mut [u32], t: &mut [u32]) -> 
 // A let declares its name, unless its value is a literal: then the block has done so, or nothing does.
 fn after_let(s: &[u32], r: u32, w: Walk, v: &mut [u32], t: &mut [u32]) -> Walk
     requires { ⌜ (length (now s) ≤ 16384) × (kind (now s) r ≡ 29) ⌝ }
-    ensures { λ x. ⌜ ((q : List ℕ) → stateOf x (now (v .exit)) (now (t .exit)) q ≡ runState (now (s .entry)) (after (now (s .entry)) r) (stateOf w (now (v .entry)) (now (t .entry)) q)) ⌝ }
+    ensures { λ x. ⌜ ((q : List ℕ) → stateOf x (now (v .exit)) (now (t .exit)) q ≡ runState core (now (s .entry)) (after (now (s .entry)) r) (stateOf w (now (v .entry)) (now (t .entry)) q)) ⌝ }
 {
     if word(s, word(s, r, 2), 0) == 52 {
         return w;
@@ -93,7 +94,7 @@ pub fn after_stmt(
     q: &mut [u32],
 ) -> Walk
     requires { ⌜ (Prepared (now s) (now classes)) × (7 < kind (now s) r) × (kind (now s) r < 40) ⌝ }
-    ensures { λ x. ⌜ stateOf x (now (v .exit)) (now (t .exit)) (now (q .exit)) ≡ runState (now (s .entry)) (after (now (s .entry)) r) (stateOf w (now (v .entry)) (now (t .entry)) (now (q .entry))) ⌝ }
+    ensures { λ x. ⌜ stateOf x (now (v .exit)) (now (t .exit)) (now (q .exit)) ≡ runState core (now (s .entry)) (after (now (s .entry)) r) (stateOf w (now (v .entry)) (now (t .entry)) (now (q .entry))) ⌝ }
 {
     let kind = word(s, r, 0);
     match kind {
@@ -110,7 +111,7 @@ pub fn after_stmt(
 // An identifier, host constant or instanceof is looked up; a literal notes where it stands.
 pub fn after_expr(s: &[u32], r: u32, w: Walk, v: &[u32], t: &mut [u32], q: &mut [u32]) -> Walk
     requires { ⌜ (length (now s) ≤ 16384) × (39 < kind (now s) r) ⌝ }
-    ensures { λ x. ⌜ stateOf x (now (v .entry)) (now (t .exit)) (now (q .exit)) ≡ runState (now (s .entry)) (after (now (s .entry)) r) (stateOf w (now (v .entry)) (now (t .entry)) (now (q .entry))) ⌝ }
+    ensures { λ x. ⌜ stateOf x (now (v .entry)) (now (t .exit)) (now (q .exit)) ≡ runState core (now (s .entry)) (after (now (s .entry)) r) (stateOf w (now (v .entry)) (now (t .entry)) (now (q .entry))) ⌝ }
 {
     let kind = word(s, r, 0);
     match kind {
@@ -132,7 +133,7 @@ pub fn after_part(
     t: &mut [u32],
     q: &mut [u32],
 ) -> Walk
-    ensures { λ x. ⌜ stateOf x (now (v .exit)) (now (t .exit)) (now (q .exit)) ≡ runState (now (s .entry)) (afterPart (now (s .entry)) r i) (stateOf w (now (v .entry)) (now (t .entry)) (now (q .entry))) ⌝ }
+    ensures { λ x. ⌜ stateOf x (now (v .exit)) (now (t .exit)) (now (q .exit)) ≡ runState core (now (s .entry)) (afterPart (now (s .entry)) r i) (stateOf w (now (v .entry)) (now (t .entry)) (now (q .entry))) ⌝ }
 {
     let kind = word(s, r, 0);
     match kind {
@@ -152,7 +153,7 @@ fn after_callee(
     q: &mut [u32],
 ) -> Walk
     requires { ⌜ kind (now s) r ≡ 59 ⌝ }
-    ensures { λ x. ⌜ stateOf x (now (v .entry)) (now (t .exit)) (now (q .exit)) ≡ runState (now (s .entry)) (afterPart (now (s .entry)) r i) (stateOf w (now (v .entry)) (now (t .entry)) (now (q .entry))) ⌝ }
+    ensures { λ x. ⌜ stateOf x (now (v .entry)) (now (t .exit)) (now (q .exit)) ≡ runState core (now (s .entry)) (afterPart (now (s .entry)) r i) (stateOf w (now (v .entry)) (now (t .entry)) (now (q .entry))) ⌝ }
 {
     if i == 0 {
         return check_callee(s, r, w, v, t, q);
@@ -162,7 +163,7 @@ fn after_callee(
 
 fn after_test(s: &[u32], r: u32, i: usize, w: Walk, v: &mut [u32]) -> Walk
     requires { ⌜ kind (now s) r ≡ 27 ⌝ }
-    ensures { λ x. ⌜ ((t q : List ℕ) → stateOf x (now (v .exit)) t q ≡ runState (now (s .entry)) (afterPart (now (s .entry)) r i) (stateOf w (now (v .entry)) t q)) ⌝ }
+    ensures { λ x. ⌜ ((t q : List ℕ) → stateOf x (now (v .exit)) t q ≡ runState core (now (s .entry)) (afterPart (now (s .entry)) r i) (stateOf w (now (v .entry)) t q)) ⌝ }
 {
     if i == 1 {
         return begin_loop(w, v);

@@ -5,6 +5,7 @@ use Prim.Native.Nat.{ℕ, zero, suc, _+_, _*_, _/_, _<_, _≤_}
 use native.Mathlib.Omega.{arith}
 use lib.ListN.{length, getD, replicate, length-replicate}
 use Rattle.definition.specs.Sheet.{Sheet, rows}
+use Rattle.definition.specs.Outside.{core}
 use Rattle.machine.specs.Reads.{PastFour}
 use Rattle.machine.proofs.Theorems.{rows-few}
 use Rattle.classes.specs.Table.{Clear}
@@ -47,14 +48,14 @@ scratch-zeros s n few = record {
 }
 
 -- a sheet past question 1 is not long
-pub rows-most : (s : Sheet) → PastFour s → rows s ≤ 2048
+pub rows-most : (s : Sheet) → PastFour core s → rows s ≤ 2048
 rows-most s ok = rows-few s (ok .whole)
 
 pub rows-small : (s : Sheet) → length s ≤ 2560 → rows s ≤ 320
 rows-small s l = omega arith
 
 -- no class has a place yet
-pub places-zeros : (s t q : List ℕ) (n : ℕ) (ps w : List ℕ) → length s ≤ 16384 → 2048 ≤ n → ps ≡ replicate n 0 → Placed s t q ps w 0 0
+pub places-zeros : (s t q : List ℕ) (n : ℕ) (ps w : List ℕ) → length s ≤ 16384 → 2048 ≤ n → ps ≡ replicate n 0 → Placed core s t q ps w 0 0
 places-zeros s t q n ps w l b e = record {
   room = omega (arith, ap length e ∙ zeros-long n);
   told = λ j p g. absurd (omega (arith, g, ap (λ (z : List ℕ). getD z j 0) e ∙ zero-at n j));

@@ -11,6 +11,7 @@ ghost use Rattle.store.specs.Stored.{storeOf};
 ghost use Rattle.walk.specs.WalkState.{stateOf};
 ghost use Rattle.resolver.specs.Answered.{Answered, Tells};
 ghost use Rattle.resolver.specs.Settled.{Settled, Scratch, RowsReady, Accepted};
+ghost use Rattle.definition.specs.Outside.{core};
 
 mod rows;
 
@@ -103,7 +104,7 @@ fn finish(
     parents: &mut [u32],
     out: &mut [u32],
 ) -> Answer
-    requires { ⌜ (PastFour (now s)) × (Walked (now s) (stateOf w (now v) (now t) (now q))) × (w .number ≡ 0) × (Scratch (now s) (now marks) (now heads) (now nexts) (now parents)) ⌝ }
+    requires { ⌜ (PastFour core (now s)) × (Walked core (now s) (stateOf w (now v) (now t) (now q))) × (w .number ≡ 0) × (Scratch (now s) (now marks) (now heads) (now nexts) (now parents)) ⌝ }
     ensures { λ x. ⌜ Settled (now (s .entry)) (length (now (out .entry))) x (now (out .exit)) ⌝ }
 {
     let o = w.store;
@@ -130,7 +131,7 @@ fn resolve_in(
     parents: &mut [u32],
     out: &mut [u32],
 ) -> Answer
-    requires { ⌜ (PastFour (now s)) × (Lent (now s) (now classes) (now v) (now t) (now q)) × (Scratch (now s) (now marks) (now heads) (now nexts) (now parents)) ⌝ }
+    requires { ⌜ (PastFour core (now s)) × (Lent (now s) (now classes) (now v) (now t) (now q)) × (Scratch (now s) (now marks) (now heads) (now nexts) (now parents)) ⌝ }
     ensures { λ x. ⌜ Settled (now (s .entry)) (length (now (out .entry))) x (now (out .exit)) ⌝ }
 {
     let w = resolve_units(s, classes, v, t, q);
@@ -149,7 +150,7 @@ fn resolve_with(
     q: &mut [u32],
     out: &mut [u32],
 ) -> Answer
-    requires { ⌜ (PastFour (now s)) × (Lent (now s) (now classes) (now v) (now t) (now q)) ⌝ }
+    requires { ⌜ (PastFour core (now s)) × (Lent (now s) (now classes) (now v) (now t) (now q)) ⌝ }
     ensures { λ x. ⌜ Settled (now (s .entry)) (length (now (out .entry))) x (now (out .exit)) ⌝ }
 {
     let mut marks = [0u32; 2048];
@@ -173,7 +174,7 @@ fn resolve_with(
 // The walk's scratch space for up to 2,048 rows: a class for each row, 7,204 open entries of five words, a table of eight words a row,
 // 43,008 nodes of four.
 fn resolve_large(s: &[u32], out: &mut [u32]) -> Answer
-    requires { ⌜ PastFour (now s) ⌝ }
+    requires { ⌜ PastFour core (now s) ⌝ }
     ensures { λ x. ⌜ Settled (now (s .entry)) (length (now (out .entry))) x (now (out .exit)) ⌝ }
 {
     let mut classes = [0u32; 2048];
@@ -185,7 +186,7 @@ fn resolve_large(s: &[u32], out: &mut [u32]) -> Answer
 
 // The same for up to 320 rows, which would spend a quarter of their time on clearing 906 KB.
 fn resolve_small(s: &[u32], out: &mut [u32]) -> Answer
-    requires { ⌜ (PastFour (now s)) × (length (now s) ≤ 2560) ⌝ }
+    requires { ⌜ (PastFour core (now s)) × (length (now s) ≤ 2560) ⌝ }
     ensures { λ x. ⌜ Settled (now (s .entry)) (length (now (out .entry))) x (now (out .exit)) ⌝ }
 {
     let mut classes = [0u32; 320];
@@ -197,7 +198,7 @@ fn resolve_small(s: &[u32], out: &mut [u32]) -> Answer
 
 // A sheet past the first four questions.
 fn resolve_past(s: &[u32], out: &mut [u32]) -> Answer
-    requires { ⌜ PastFour (now s) ⌝ }
+    requires { ⌜ PastFour core (now s) ⌝ }
     ensures { λ x. ⌜ Settled (now (s .entry)) (length (now (out .entry))) x (now (out .exit)) ⌝ }
 {
     if s.len() <= 2560 {

@@ -12,6 +12,7 @@ use Rattle.definition.specs.Format.{sheetFits, depthsFit}
 use Rattle.definition.specs.Names.{namesFit, nameCount}
 use Rattle.definition.specs.Outcome.{refused, rowsFit, asked, outcome}
 use Rattle.definition.proofs.Lists.Tests.{T-true, T-and}
+use Rattle.definition.specs.Outside.{core}
 use Rattle.sheet.specs.Pass.{rowsNoted, depthOk}
 use Rattle.sheet.specs.Rising.{Rising}
 use Rattle.sheet.specs.Questions.{formatQuestion, firstFour}
@@ -71,12 +72,12 @@ sized s e =
     (sym (eqb→eq (8 * rows s) (length s) (q2 .0)), leb→le 1 (rows s) (q2 .1), leb→le (rows s) 2048 (q1 .1))
 
 -- the outcome by the answer of the first four questions
-pub outcome-of : (s : Sheet) (ns : List ℕ) (lent : ℕ) → outcome s ns lent ≡ (if eqb (firstFour s ns) 0 then asked lent s else refused (firstFour s ns))
+pub outcome-of : (s : Sheet) (ns : List ℕ) (lent : ℕ) → outcome s ns lent ≡ (if eqb (firstFour s ns) 0 then asked core lent s else refused (firstFour s ns))
 outcome-of s ns lent = go (rowsFit s) (namesFit ns) (sheetFits (nameCount ns) s) (depthsFit s)
   where
     go : (x y z w : Bool)
-        → (if not x then refused 1 else if not y then refused 2 else if not z then refused 3 else if not w then refused 4 else asked lent s)
-        ≡ (if eqb (if not x then 1 else if not y then 2 else if not z then 3 else if not w then 4 else 0) 0 then asked lent s
+        → (if not x then refused 1 else if not y then refused 2 else if not z then refused 3 else if not w then refused 4 else asked core lent s)
+        ≡ (if eqb (if not x then 1 else if not y then 2 else if not z then 3 else if not w then 4 else 0) 0 then asked core lent s
         else refused (if not x then 1 else if not y then 2 else if not z then 3 else if not w then 4 else 0))
     go false y z w = refl
     go true false z w = refl

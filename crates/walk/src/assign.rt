@@ -4,6 +4,7 @@ ghost use mathlib.Core.List.{List};
 ghost use Prim.Native.Nat.{ℕ};
 ghost use Rattle.definition.specs.Sheet.{kind, child};
 ghost use Rattle.definition.specs.Walk.{visit};
+ghost use Rattle.definition.specs.Outside.{Outside};
 ghost use Rattle.machine.specs.Machine.{stepState};
 ghost use Rattle.classes.specs.Table.{ClassTable};
 ghost use Rattle.walk.specs.WalkState.{stateOf};
@@ -19,7 +20,7 @@ use tree::words::word;
 // Question 6: is an assigned identifier mutable?
 fn assign_name(s: &[u32], r: u32, w: Walk, v: &[u32]) -> Walk
     requires { ⌜ (kind (now s) r ≡ 21) × (kind (now s) (child (now s) r) ≡ 50) ⌝ }
-    ensures { λ x. ⌜ ((t q : List ℕ) → stateOf x (now (v .entry)) t q ≡ stepState (now (s .entry)) (visit r) (stateOf w (now (v .entry)) t q)) ⌝ }
+    ensures { λ x. ⌜ ((O : Outside) (t q : List ℕ) → stateOf x (now (v .entry)) t q ≡ stepState O (now (s .entry)) (visit r) (stateOf w (now (v .entry)) t q)) ⌝ }
 {
     if w.number != 0 {
         return w;
@@ -35,7 +36,7 @@ fn assign_name(s: &[u32], r: u32, w: Walk, v: &[u32]) -> Walk
 // A member that is assigned to is a field of the innermost function's class, if it has one and does not list it.
 fn assign_member(s: &[u32], classes: &[u32], r: u32, w: Walk, t: &mut [u32], q: &mut [u32]) -> Walk
     requires { ⌜ (ClassTable (now s) (now classes)) × (kind (now s) r ≡ 21) × (kind (now s) (child (now s) r) ≡ 54) ⌝ }
-    ensures { λ x. ⌜ ((v : List ℕ) → stateOf x v (now (t .exit)) (now (q .exit)) ≡ stepState (now (s .entry)) (visit r) (stateOf w v (now (t .entry)) (now (q .entry)))) ⌝ }
+    ensures { λ x. ⌜ ((O : Outside) (v : List ℕ) → stateOf x v (now (t .exit)) (now (q .exit)) ≡ stepState O (now (s .entry)) (visit r) (stateOf w v (now (t .entry)) (now (q .entry)))) ⌝ }
 {
     if w.number != 0 {
         return w;
@@ -71,7 +72,7 @@ pub fn check_assign(
     q: &mut [u32],
 ) -> Walk
     requires { ⌜ (ClassTable (now s) (now classes)) × (kind (now s) r ≡ 21) ⌝ }
-    ensures { λ x. ⌜ stateOf x (now (v .entry)) (now (t .exit)) (now (q .exit)) ≡ stepState (now (s .entry)) (visit r) (stateOf w (now (v .entry)) (now (t .entry)) (now (q .entry))) ⌝ }
+    ensures { λ x. ⌜ ((O : Outside) → stateOf x (now (v .entry)) (now (t .exit)) (now (q .exit)) ≡ stepState O (now (s .entry)) (visit r) (stateOf w (now (v .entry)) (now (t .entry)) (now (q .entry)))) ⌝ }
 {
     let kind = word(s, word(s, r, 2), 0);
     match kind {

@@ -5,8 +5,10 @@ ghost use Prim.Native.Nat.{ℕ};
 ghost use Rattle.definition.specs.Sheet.{kind, a, child};
 ghost use Rattle.definition.specs.Walk.{visit};
 ghost use Rattle.definition.specs.Classes.{methodNamed, ownMethods};
+ghost use Rattle.definition.specs.Outside.{core};
 ghost use Rattle.machine.specs.Machine.{constructedClass, receiverClass, stepState};
 ghost use Rattle.symbols.specs.OpenScopes.{scopesOf};
+ghost use Rattle.definition.specs.Classes.{arity as arityOf};
 ghost use Rattle.walk.specs.Callee.{methodQuestion};
 ghost use Rattle.walk.specs.WalkState.{stateOf};
 use crate::state::Walk;
@@ -59,13 +61,13 @@ fn receiver_class(s: &[u32], r: u32, e: Env, v: &[u32]) -> ClassId
 fn construct(s: &[u32], r: u32, class: ClassId, w: Walk, q: &mut [u32]) -> Walk
     requires { ⌜ (kind (now s) r ≡ 59) × (class .0 ≡ 0 → ⊥) ⌝ }
     ensures { λ x. ⌜ ((v t : List ℕ) → class .0 ≡ constructedClass (now (s .entry)) r (scopesOf (w .env) v)
-        → stateOf x v t (now (q .exit)) ≡ stepState (now (s .entry)) (visit r) (stateOf w v t (now (q .entry)))) ⌝ }
+        → stateOf x v t (now (q .exit)) ≡ stepState core (now (s .entry)) (visit r) (stateOf w v t (now (q .entry)))) ⌝ }
 {
     if w.number != 0 {
         return w;
     }
     let callee = word(s, r, 2);
-    if !has_record(class) {
+    if !has_record(s, class) {
         return refuse(w, 12, callee, word(s, callee, 6));
     }
     let call = Node {
@@ -87,9 +89,9 @@ fn construct(s: &[u32], r: u32, class: ClassId, w: Walk, q: &mut [u32]) -> Walk
 // The question that the call `r` of method `f` on a class gets a no to: 17, has the class a record? 13, has it the method? 14, with as
 // many parameters as arguments? Or 0.
 fn method_question(s: &[u32], r: u32, class: ClassId, f: FunId) -> u32
-    ensures { λ x. ⌜ x ≡ methodQuestion (now (s .entry)) r (class .0) (f .0) ⌝ }
+    ensures { λ x. ⌜ x ≡ methodQuestion core (now (s .entry)) r (class .0) (f .0) (arityOf (now (s .entry)) (f .0)) ⌝ }
 {
-    if !has_record(class) {
+    if !has_record(s, class) {
         return 17;
     }
     if f.0 == 0 {
@@ -105,7 +107,7 @@ fn method_question(s: &[u32], r: u32, class: ClassId, f: FunId) -> u32
 fn call_method(s: &[u32], r: u32, class: ClassId, w: Walk, t: &mut [u32]) -> Walk
     requires { ⌜ (kind (now s) r ≡ 59) × (class .0 ≡ 0 → ⊥) ⌝ }
     ensures { λ x. ⌜ ((v q : List ℕ) → class .0 ≡ receiverClass (now (s .entry)) r (scopesOf (w .env) v)
-        → stateOf x v (now (t .exit)) q ≡ stepState (now (s .entry)) (visit r) (stateOf w v (now (t .entry)) q)) ⌝ }
+        → stateOf x v (now (t .exit)) q ≡ stepState core (now (s .entry)) (visit r) (stateOf w v (now (t .entry)) q)) ⌝ }
 {
     if w.number != 0 {
         return w;
@@ -131,7 +133,7 @@ fn call_method(s: &[u32], r: u32, class: ClassId, w: Walk, t: &mut [u32]) -> Wal
 // The checks on the callee of call `r`.
 pub fn check_callee(s: &[u32], r: u32, w: Walk, v: &[u32], t: &mut [u32], q: &mut [u32]) -> Walk
     requires { ⌜ kind (now s) r ≡ 59 ⌝ }
-    ensures { λ x. ⌜ stateOf x (now (v .entry)) (now (t .exit)) (now (q .exit)) ≡ stepState (now (s .entry)) (visit r) (stateOf w (now (v .entry)) (now (t .entry)) (now (q .entry))) ⌝ }
+    ensures { λ x. ⌜ stateOf x (now (v .entry)) (now (t .exit)) (now (q .exit)) ≡ stepState core (now (s .entry)) (visit r) (stateOf w (now (v .entry)) (now (t .entry)) (now (q .entry))) ⌝ }
 {
     let e = w.env;
     let class = constructed_class(s, r, e, v);

@@ -8,6 +8,7 @@ ghost use Rattle.definition.specs.Basics.{if_then_else_, filter};
 ghost use Rattle.definition.specs.Sheet.{is, kids, kidsOf};
 ghost use Rattle.definition.specs.Slots.{isLocal};
 ghost use Rattle.definition.specs.Walk.{literalLet, declare};
+ghost use Rattle.definition.specs.Outside.{Outside};
 ghost use Rattle.machine.specs.Machine.{oneMore, newMeaning, raiseLocals, stepStore, stepState, runState};
 ghost use Rattle.symbols.specs.OpenScopes.{scopesOf};
 ghost use Rattle.symbols.specs.OpenDecls.{means, entryFor};
@@ -62,8 +63,8 @@ fn count_local(s: &[u32], e: Env, d: OpenDecl, t: &mut [u32])
 // What a let stores when it is declared as `d`: its local, and its code and values. Any other row stores nothing.
 fn store_let(s: &[u32], r: u32, e: Env, d: OpenDecl, t: &mut [u32])
     requires { ⌜ length (now s) ≤ 16384 ⌝ }
-    ensures { λ _. ⌜ ((o : Store) (v q : List ℕ) → d ≡ entryFor (newMeaning (now (s .entry)) r (scopesOf e v)) (scopesOf e v)
-        → storeOf o (now (t .exit)) q ≡ stepStore (now (s .entry)) (declare r) (scopesOf e v) (storeOf o (now (t .entry)) q)) ⌝ }
+    ensures { λ _. ⌜ ((O : Outside) (o : Store) (v q : List ℕ) → d ≡ entryFor (newMeaning (now (s .entry)) r (scopesOf e v)) (scopesOf e v)
+        → storeOf o (now (t .exit)) q ≡ stepStore O (now (s .entry)) (declare r) (scopesOf e v) (storeOf o (now (t .entry)) q)) ⌝ }
 {
     if word(s, r, 0) != 29 {
         return;
@@ -75,7 +76,7 @@ fn store_let(s: &[u32], r: u32, e: Env, d: OpenDecl, t: &mut [u32])
 // Row `r` declares its name: questions 7 and 16.
 pub fn declare(s: &[u32], r: u32, w: Walk, v: &mut [u32], t: &mut [u32]) -> Walk
     requires { ⌜ length (now s) ≤ 16384 ⌝ }
-    ensures { λ x. ⌜ ((q : List ℕ) → stateOf x (now (v .exit)) (now (t .exit)) q ≡ stepState (now (s .entry)) (declare r) (stateOf w (now (v .entry)) (now (t .entry)) q)) ⌝ }
+    ensures { λ x. ⌜ ((O : Outside) (q : List ℕ) → stateOf x (now (v .exit)) (now (t .exit)) q ≡ stepState O (now (s .entry)) (declare r) (stateOf w (now (v .entry)) (now (t .entry)) q)) ⌝ }
 {
     if w.number != 0 {
         return w;
@@ -101,8 +102,8 @@ pub fn declare(s: &[u32], r: u32, w: Walk, v: &mut [u32], t: &mut [u32]) -> Walk
 // Declares row `k`, if it is of a kind.
 fn declare_if(s: &[u32], k: u32, kind: u32, w: Walk, v: &mut [u32], t: &mut [u32]) -> Walk
     requires { ⌜ length (now s) ≤ 16384 ⌝ }
-    ensures { λ x. ⌜ ((q : List ℕ) → stateOf x (now (v .exit)) (now (t .exit)) q
-        ≡ runState (now (s .entry)) (if is (now (s .entry)) kind k then declare k ∷ [] else []) (stateOf w (now (v .entry)) (now (t .entry)) q)) ⌝ }
+    ensures { λ x. ⌜ ((O : Outside) (q : List ℕ) → stateOf x (now (v .exit)) (now (t .exit)) q
+        ≡ runState O (now (s .entry)) (if is (now (s .entry)) kind k then declare k ∷ [] else []) (stateOf w (now (v .entry)) (now (t .entry)) q)) ⌝ }
 {
     if word(s, k, 0) != kind {
         return w;
@@ -113,8 +114,8 @@ fn declare_if(s: &[u32], k: u32, kind: u32, w: Walk, v: &mut [u32], t: &mut [u32
 // Declares the children of row `r` that are of a kind: the classes of a unit, the parameters of a function.
 pub fn declare_kind(s: &[u32], r: u32, kind: u32, w: Walk, v: &mut [u32], t: &mut [u32]) -> Walk
     requires { ⌜ length (now s) ≤ 16384 ⌝ }
-    ensures { λ x. ⌜ ((q : List ℕ) → stateOf x (now (v .exit)) (now (t .exit)) q
-        ≡ runState (now (s .entry)) (map declare (kidsOf (now (s .entry)) kind r)) (stateOf w (now (v .entry)) (now (t .entry)) q)) ⌝ }
+    ensures { λ x. ⌜ ((O : Outside) (q : List ℕ) → stateOf x (now (v .exit)) (now (t .exit)) q
+        ≡ runState O (now (s .entry)) (map declare (kidsOf (now (s .entry)) kind r)) (stateOf w (now (v .entry)) (now (t .entry)) q)) ⌝ }
 {
     let mut n = s.len() / 8;
     let mut k = word(s, r, 2);
@@ -133,8 +134,8 @@ pub fn declare_kind(s: &[u32], r: u32, kind: u32, w: Walk, v: &mut [u32], t: &mu
 // Declares row `k`, if it is a let whose value is a function literal.
 fn declare_literal(s: &[u32], k: u32, w: Walk, v: &mut [u32], t: &mut [u32]) -> Walk
     requires { ⌜ length (now s) ≤ 16384 ⌝ }
-    ensures { λ x. ⌜ ((q : List ℕ) → stateOf x (now (v .exit)) (now (t .exit)) q
-        ≡ runState (now (s .entry)) (if literalLet (now (s .entry)) k then declare k ∷ [] else []) (stateOf w (now (v .entry)) (now (t .entry)) q)) ⌝ }
+    ensures { λ x. ⌜ ((O : Outside) (q : List ℕ) → stateOf x (now (v .exit)) (now (t .exit)) q
+        ≡ runState O (now (s .entry)) (if literalLet (now (s .entry)) k then declare k ∷ [] else []) (stateOf w (now (v .entry)) (now (t .entry)) q)) ⌝ }
 {
     if !is_literal_let(s, k) {
         return w;
@@ -145,8 +146,8 @@ fn declare_literal(s: &[u32], k: u32, w: Walk, v: &mut [u32], t: &mut [u32]) -> 
 // Declares the lets of block `r` whose values are function literals: they come first.
 pub fn hoist_literals(s: &[u32], r: u32, w: Walk, v: &mut [u32], t: &mut [u32]) -> Walk
     requires { ⌜ length (now s) ≤ 16384 ⌝ }
-    ensures { λ x. ⌜ ((q : List ℕ) → stateOf x (now (v .exit)) (now (t .exit)) q
-        ≡ runState (now (s .entry)) (map declare (filter (literalLet (now (s .entry))) (kids (now (s .entry)) r))) (stateOf w (now (v .entry)) (now (t .entry)) q)) ⌝ }
+    ensures { λ x. ⌜ ((O : Outside) (q : List ℕ) → stateOf x (now (v .exit)) (now (t .exit)) q
+        ≡ runState O (now (s .entry)) (map declare (filter (literalLet (now (s .entry))) (kids (now (s .entry)) r))) (stateOf w (now (v .entry)) (now (t .entry)) q)) ⌝ }
 {
     let mut n = s.len() / 8;
     let mut k = word(s, r, 2);

@@ -8,6 +8,7 @@ ghost use Rattle.definition.specs.Basics.{if_then_else_, first as firstWith, co
 ghost use Rattle.definition.specs.Sheet.{a, b, is, kids, kidsOf};
 ghost use Rattle.definition.specs.Meaning.{named, nothing};
 ghost use Rattle.definition.specs.Walk.{bring as brings, exports, seen, imports};
+ghost use Rattle.definition.specs.Outside.{Outside};
 ghost use Rattle.machine.specs.Machine.{stepState, runState};
 ghost use Rattle.tree.specs.Exports.{exportOf};
 ghost use Rattle.symbols.specs.OpenScopes.{scopesOf};
@@ -59,7 +60,7 @@ fn exported(s: &[u32], x: u32, e: Env) -> OpenDecl
 // Import row `i` declares name `m` as export row `x`. Question 15: is there such an export? Question 16: is the name new in its scope?
 fn bring(s: &[u32], i: u32, m: u32, x: u32, w: Walk, v: &mut [u32]) -> Walk
     requires { ⌜ length (now s) ≤ 16384 ⌝ }
-    ensures { λ r. ⌜ ((t q : List ℕ) → stateOf r (now (v .exit)) t q ≡ stepState (now (s .entry)) (brings i m (exportOf (now (s .entry)) x)) (stateOf w (now (v .entry)) t q)) ⌝ }
+    ensures { λ r. ⌜ ((O : Outside) (t q : List ℕ) → stateOf r (now (v .exit)) t q ≡ stepState O (now (s .entry)) (brings i m (exportOf (now (s .entry)) x)) (stateOf w (now (v .entry)) t q)) ⌝ }
 {
     if w.number != 0 {
         return w;
@@ -86,8 +87,8 @@ fn bring(s: &[u32], i: u32, m: u32, x: u32, w: Walk, v: &mut [u32]) -> Walk
 // Row `k` brought under its own name, if it is of a kind.
 fn bring_if(s: &[u32], k: u32, kind: u32, i: u32, w: Walk, v: &mut [u32]) -> Walk
     requires { ⌜ length (now s) ≤ 16384 ⌝ }
-    ensures { λ r. ⌜ ((t q : List ℕ) → stateOf r (now (v .exit)) t q
-        ≡ runState (now (s .entry)) (if is (now (s .entry)) kind k then brings i (a (now (s .entry)) k) (exportOf (now (s .entry)) k) ∷ [] else []) (stateOf w (now (v .entry)) t q)) ⌝ }
+    ensures { λ r. ⌜ ((O : Outside) (t q : List ℕ) → stateOf r (now (v .exit)) t q
+        ≡ runState O (now (s .entry)) (if is (now (s .entry)) kind k then brings i (a (now (s .entry)) k) (exportOf (now (s .entry)) k) ∷ [] else []) (stateOf w (now (v .entry)) t q)) ⌝ }
 {
     if word(s, k, 0) != kind {
         return w;
@@ -98,8 +99,8 @@ fn bring_if(s: &[u32], k: u32, kind: u32, i: u32, w: Walk, v: &mut [u32]) -> Wal
 // All exports of a kind of unit row `u`, in the order of its children.
 fn import_kind(s: &[u32], u: u32, kind: u32, i: u32, w: Walk, v: &mut [u32]) -> Walk
     requires { ⌜ length (now s) ≤ 16384 ⌝ }
-    ensures { λ r. ⌜ ((t q : List ℕ) → stateOf r (now (v .exit)) t q
-        ≡ runState (now (s .entry)) (map (λ k. brings i (a (now (s .entry)) k) (exportOf (now (s .entry)) k)) (kidsOf (now (s .entry)) kind u)) (stateOf w (now (v .entry)) t q)) ⌝ }
+    ensures { λ r. ⌜ ((O : Outside) (t q : List ℕ) → stateOf r (now (v .exit)) t q
+        ≡ runState O (now (s .entry)) (map (λ k. brings i (a (now (s .entry)) k) (exportOf (now (s .entry)) k)) (kidsOf (now (s .entry)) kind u)) (stateOf w (now (v .entry)) t q)) ⌝ }
 {
     let mut n = s.len() / 8;
     let mut k = word(s, u, 2);
@@ -118,8 +119,8 @@ fn import_kind(s: &[u32], u: u32, kind: u32, i: u32, w: Walk, v: &mut [u32]) -> 
 // All exports of unit row `u`: functions, classes, constants.
 fn import_all(s: &[u32], u: u32, i: u32, w: Walk, v: &mut [u32]) -> Walk
     requires { ⌜ length (now s) ≤ 16384 ⌝ }
-    ensures { λ r. ⌜ ((t q : List ℕ) → stateOf r (now (v .exit)) t q
-        ≡ runState (now (s .entry)) (map (λ y. brings i (y .name) (y .means)) (exports (now (s .entry)) u)) (stateOf w (now (v .entry)) t q)) ⌝ }
+    ensures { λ r. ⌜ ((O : Outside) (t q : List ℕ) → stateOf r (now (v .exit)) t q
+        ≡ runState O (now (s .entry)) (map (λ y. brings i (y .name) (y .means)) (exports (now (s .entry)) u)) (stateOf w (now (v .entry)) t q)) ⌝ }
 {
     let x = import_kind(s, u, 7, i, w, v);
     let y = import_kind(s, u, 4, i, x, v);
@@ -129,8 +130,8 @@ fn import_all(s: &[u32], u: u32, i: u32, w: Walk, v: &mut [u32]) -> Walk
 // The name that row `k` lists, brought as the export that import `i` of unit row `u` finds for it.
 fn bring_listed(s: &[u32], u: u32, i: u32, k: u32, w: Walk, v: &mut [u32]) -> Walk
     requires { ⌜ length (now s) ≤ 16384 ⌝ }
-    ensures { λ r. ⌜ ((t q : List ℕ) → stateOf r (now (v .exit)) t q
-        ≡ runState (now (s .entry)) (brings i (a (now (s .entry)) k) (firstWith (λ y. eqb (y .name) (a (now (s .entry)) k)) (named 0 nothing) (seen (now (s .entry)) u i) .means) ∷ []) (stateOf w (now (v .entry)) t q)) ⌝ }
+    ensures { λ r. ⌜ ((O : Outside) (t q : List ℕ) → stateOf r (now (v .exit)) t q
+        ≡ runState O (now (s .entry)) (brings i (a (now (s .entry)) k) (firstWith (λ y. eqb (y .name) (a (now (s .entry)) k)) (named 0 nothing) (seen (now (s .entry)) u i) .means) ∷ []) (stateOf w (now (v .entry)) t q)) ⌝ }
 {
     let m = word(s, k, 6);
     let x = find_export(s, u, i, m);
@@ -140,8 +141,8 @@ fn bring_listed(s: &[u32], u: u32, i: u32, k: u32, w: Walk, v: &mut [u32]) -> Wa
 // All names that import row `i` of unit row `u` lists.
 fn import_listed(s: &[u32], u: u32, i: u32, w: Walk, v: &mut [u32]) -> Walk
     requires { ⌜ length (now s) ≤ 16384 ⌝ }
-    ensures { λ r. ⌜ ((t q : List ℕ) → stateOf r (now (v .exit)) t q
-        ≡ runState (now (s .entry)) (map (λ k. brings i (a (now (s .entry)) k) (firstWith (λ y. eqb (y .name) (a (now (s .entry)) k)) (named 0 nothing) (seen (now (s .entry)) u i) .means)) (kids (now (s .entry)) i)) (stateOf w (now (v .entry)) t q)) ⌝ }
+    ensures { λ r. ⌜ ((O : Outside) (t q : List ℕ) → stateOf r (now (v .exit)) t q
+        ≡ runState O (now (s .entry)) (map (λ k. brings i (a (now (s .entry)) k) (firstWith (λ y. eqb (y .name) (a (now (s .entry)) k)) (named 0 nothing) (seen (now (s .entry)) u i) .means)) (kids (now (s .entry)) i)) (stateOf w (now (v .entry)) t q)) ⌝ }
 {
     let mut n = s.len() / 8;
     let mut k = word(s, i, 2);
@@ -160,8 +161,8 @@ fn import_listed(s: &[u32], u: u32, i: u32, w: Walk, v: &mut [u32]) -> Walk
 // All that unit row `u` sees of the unit that import row `i` names, if the import says so. A unit sees nothing of itself.
 fn import_seen(s: &[u32], u: u32, i: u32, w: Walk, v: &mut [u32]) -> Walk
     requires { ⌜ length (now s) ≤ 16384 ⌝ }
-    ensures { λ r. ⌜ ((t q : List ℕ) → stateOf r (now (v .exit)) t q
-        ≡ runState (now (s .entry)) (if eqb (b (now (s .entry)) i) 1 then map (λ y. brings i (y .name) (y .means)) (seen (now (s .entry)) u i) else []) (stateOf w (now (v .entry)) t q)) ⌝ }
+    ensures { λ r. ⌜ ((O : Outside) (t q : List ℕ) → stateOf r (now (v .exit)) t q
+        ≡ runState O (now (s .entry)) (if eqb (b (now (s .entry)) i) 1 then map (λ y. brings i (y .name) (y .means)) (seen (now (s .entry)) u i) else []) (stateOf w (now (v .entry)) t q)) ⌝ }
 {
     if word(s, i, 7) != 1 {
         return w;
@@ -176,7 +177,7 @@ fn import_seen(s: &[u32], u: u32, i: u32, w: Walk, v: &mut [u32]) -> Walk
 // Import row `i` of unit row `u`: all that it sees, if it says so; then each listed name.
 fn import_one(s: &[u32], u: u32, i: u32, w: Walk, v: &mut [u32]) -> Walk
     requires { ⌜ length (now s) ≤ 16384 ⌝ }
-    ensures { λ r. ⌜ ((t q : List ℕ) → stateOf r (now (v .exit)) t q ≡ runState (now (s .entry)) (imports (now (s .entry)) u i) (stateOf w (now (v .entry)) t q)) ⌝ }
+    ensures { λ r. ⌜ ((O : Outside) (t q : List ℕ) → stateOf r (now (v .exit)) t q ≡ runState O (now (s .entry)) (imports (now (s .entry)) u i) (stateOf w (now (v .entry)) t q)) ⌝ }
 {
     let x = import_seen(s, u, i, w, v);
     import_listed(s, u, i, x, v)
@@ -185,8 +186,8 @@ fn import_one(s: &[u32], u: u32, i: u32, w: Walk, v: &mut [u32]) -> Walk
 // Row `k` of unit row `u`, if it is an import.
 fn import_if(s: &[u32], u: u32, k: u32, w: Walk, v: &mut [u32]) -> Walk
     requires { ⌜ length (now s) ≤ 16384 ⌝ }
-    ensures { λ r. ⌜ ((t q : List ℕ) → stateOf r (now (v .exit)) t q
-        ≡ runState (now (s .entry)) (if is (now (s .entry)) 3 k then imports (now (s .entry)) u k else []) (stateOf w (now (v .entry)) t q)) ⌝ }
+    ensures { λ r. ⌜ ((O : Outside) (t q : List ℕ) → stateOf r (now (v .exit)) t q
+        ≡ runState O (now (s .entry)) (if is (now (s .entry)) 3 k then imports (now (s .entry)) u k else []) (stateOf w (now (v .entry)) t q)) ⌝ }
 {
     if word(s, k, 0) != 3 {
         return w;
@@ -197,7 +198,7 @@ fn import_if(s: &[u32], u: u32, k: u32, w: Walk, v: &mut [u32]) -> Walk
 // All imports of unit row `u`, in the order of its children.
 pub fn define_imports(s: &[u32], u: u32, w: Walk, v: &mut [u32]) -> Walk
     requires { ⌜ length (now s) ≤ 16384 ⌝ }
-    ensures { λ r. ⌜ ((t q : List ℕ) → stateOf r (now (v .exit)) t q ≡ runState (now (s .entry)) (concatMap (imports (now (s .entry)) u) (kidsOf (now (s .entry)) 3 u)) (stateOf w (now (v .entry)) t q)) ⌝ }
+    ensures { λ r. ⌜ ((O : Outside) (t q : List ℕ) → stateOf r (now (v .exit)) t q ≡ runState O (now (s .entry)) (concatMap (imports (now (s .entry)) u) (kidsOf (now (s .entry)) 3 u)) (stateOf w (now (v .entry)) t q)) ⌝ }
 {
     let mut n = s.len() / 8;
     let mut k = word(s, u, 2);

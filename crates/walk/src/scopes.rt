@@ -4,6 +4,7 @@ ghost use mathlib.Core.List.{List};
 ghost use Prim.Native.Nat.{ℕ};
 ghost use Rattle.definition.specs.Sheet.{Sheet};
 ghost use Rattle.definition.specs.Walk.{enter, leave, loop};
+ghost use Rattle.definition.specs.Outside.{Outside};
 ghost use Rattle.machine.specs.Machine.{stepState};
 ghost use Rattle.walk.specs.WalkState.{stateOf};
 use crate::state::Walk;
@@ -13,7 +14,7 @@ use symbols::env::push_scope;
 
 // The scope of row `r` opens.
 pub fn open_scope(s: &[u32], r: u32, w: Walk, v: &mut [u32]) -> Walk
-    ensures { λ x. ⌜ ((t q : List ℕ) → stateOf x (now (v .exit)) t q ≡ stepState (now (s .entry)) (enter r) (stateOf w (now (v .entry)) t q)) ⌝ }
+    ensures { λ x. ⌜ ((O : Outside) (t q : List ℕ) → stateOf x (now (v .exit)) t q ≡ stepState O (now (s .entry)) (enter r) (stateOf w (now (v .entry)) t q)) ⌝ }
 {
     if w.number != 0 {
         return w;
@@ -31,7 +32,7 @@ pub fn open_scope(s: &[u32], r: u32, w: Walk, v: &mut [u32]) -> Walk
 
 // The innermost scope closes.
 pub fn close_scope(w: Walk, v: &[u32]) -> Walk
-    ensures { λ x. ⌜ ((s : Sheet) (t q : List ℕ) → stateOf x (now (v .entry)) t q ≡ stepState s leave (stateOf w (now (v .entry)) t q)) ⌝ }
+    ensures { λ x. ⌜ ((O : Outside) (s : Sheet) (t q : List ℕ) → stateOf x (now (v .entry)) t q ≡ stepState O s leave (stateOf w (now (v .entry)) t q)) ⌝ }
 {
     if w.number != 0 {
         return w;
@@ -49,7 +50,7 @@ pub fn close_scope(w: Walk, v: &[u32]) -> Walk
 
 // The rest of the innermost scope is in a loop.
 pub fn begin_loop(w: Walk, v: &mut [u32]) -> Walk
-    ensures { λ x. ⌜ ((s : Sheet) (t q : List ℕ) → stateOf x (now (v .exit)) t q ≡ stepState s loop (stateOf w (now (v .entry)) t q)) ⌝ }
+    ensures { λ x. ⌜ ((O : Outside) (s : Sheet) (t q : List ℕ) → stateOf x (now (v .exit)) t q ≡ stepState O s loop (stateOf w (now (v .entry)) t q)) ⌝ }
 {
     if w.number != 0 {
         return w;

@@ -9,6 +9,7 @@ ghost use Rattle.definition.specs.Basics.{if_then_else_};
 ghost use Rattle.definition.specs.Sheet.{kind, is, b};
 ghost use Rattle.definition.specs.Meaning.{rowOf, ownerOf};
 ghost use Rattle.definition.specs.Walk.{visit};
+ghost use Rattle.definition.specs.Outside.{Outside};
 ghost use Rattle.machine.specs.Machine.{openFunctions, isOuterVariable, addCapture, writeRowAt, stepState};
 ghost use Rattle.symbols.specs.OpenScopes.{scopesOf};
 ghost use Rattle.symbols.specs.OpenDecls.{means};
@@ -35,7 +36,7 @@ use tree::words::word;
 // Question 5: does a break or continue stand in a loop?
 pub fn check_jump(s: &[u32], r: u32, w: Walk, v: &[u32]) -> Walk
     requires { ⌜ (is (now s) 23 r || is (now s) 24 r) ≡ true ⌝ }
-    ensures { λ x. ⌜ ((t q : List ℕ) → stateOf x (now (v .entry)) t q ≡ stepState (now (s .entry)) (visit r) (stateOf w (now (v .entry)) t q)) ⌝ }
+    ensures { λ x. ⌜ ((O : Outside) (t q : List ℕ) → stateOf x (now (v .entry)) t q ≡ stepState O (now (s .entry)) (visit r) (stateOf w (now (v .entry)) t q)) ⌝ }
 {
     if w.number != 0 {
         return w;
@@ -88,7 +89,7 @@ fn capture(
 // An identifier: questions 8 and 9, the captures, and what it means.
 pub fn resolve_ident(s: &[u32], r: u32, w: Walk, v: &[u32], t: &mut [u32], q: &mut [u32]) -> Walk
     requires { ⌜ (length (now s) ≤ 16384) × (kind (now s) r ≡ 50) ⌝ }
-    ensures { λ x. ⌜ stateOf x (now (v .entry)) (now (t .exit)) (now (q .exit)) ≡ stepState (now (s .entry)) (visit r) (stateOf w (now (v .entry)) (now (t .entry)) (now (q .entry))) ⌝ }
+    ensures { λ x. ⌜ ((O : Outside) → stateOf x (now (v .entry)) (now (t .exit)) (now (q .exit)) ≡ stepState O (now (s .entry)) (visit r) (stateOf w (now (v .entry)) (now (t .entry)) (now (q .entry)))) ⌝ }
 {
     if w.number != 0 {
         return w;
@@ -116,7 +117,7 @@ pub fn resolve_ident(s: &[u32], r: u32, w: Walk, v: &[u32], t: &mut [u32], q: &m
 // Question 10: does instanceof name a class?
 pub fn check_instanceof(s: &[u32], r: u32, w: Walk, v: &[u32], t: &mut [u32]) -> Walk
     requires { ⌜ kind (now s) r ≡ 55 ⌝ }
-    ensures { λ x. ⌜ ((q : List ℕ) → stateOf x (now (v .entry)) (now (t .exit)) q ≡ stepState (now (s .entry)) (visit r) (stateOf w (now (v .entry)) (now (t .entry)) q)) ⌝ }
+    ensures { λ x. ⌜ ((O : Outside) (q : List ℕ) → stateOf x (now (v .entry)) (now (t .exit)) q ≡ stepState O (now (s .entry)) (visit r) (stateOf w (now (v .entry)) (now (t .entry)) q)) ⌝ }
 {
     if w.number != 0 {
         return w;
@@ -146,7 +147,7 @@ fn main_unit_code(s: &[u32], fun: FunId) -> u32
 // Question 17: is a host constant MAIN_UNIT?
 pub fn resolve_host_const(s: &[u32], r: u32, w: Walk, t: &mut [u32]) -> Walk
     requires { ⌜ kind (now s) r ≡ 51 ⌝ }
-    ensures { λ x. ⌜ ((v q : List ℕ) → stateOf x v (now (t .exit)) q ≡ stepState (now (s .entry)) (visit r) (stateOf w v (now (t .entry)) q)) ⌝ }
+    ensures { λ x. ⌜ ((O : Outside) (v q : List ℕ) → stateOf x v (now (t .exit)) q ≡ stepState O (now (s .entry)) (visit r) (stateOf w v (now (t .entry)) q)) ⌝ }
 {
     if w.number != 0 {
         return w;
@@ -170,7 +171,7 @@ pub fn resolve_host_const(s: &[u32], r: u32, w: Walk, t: &mut [u32]) -> Walk
 // A literal notes the function in which it stands.
 pub fn note_literal(s: &[u32], r: u32, w: Walk, t: &mut [u32]) -> Walk
     requires { ⌜ kind (now s) r ≡ 52 ⌝ }
-    ensures { λ x. ⌜ ((v q : List ℕ) → stateOf x v (now (t .exit)) q ≡ stepState (now (s .entry)) (visit r) (stateOf w v (now (t .entry)) q)) ⌝ }
+    ensures { λ x. ⌜ ((O : Outside) (v q : List ℕ) → stateOf x v (now (t .exit)) q ≡ stepState O (now (s .entry)) (visit r) (stateOf w v (now (t .entry)) q)) ⌝ }
 {
     if w.number != 0 {
         return w;
@@ -216,7 +217,7 @@ fn write_parent(s: &[u32], c: u32, class: ClassId, t: &mut [u32])
 // Question 11: does a parent name a class?
 pub fn resolve_parent(s: &[u32], r: u32, w: Walk, v: &[u32], t: &mut [u32]) -> Walk
     requires { ⌜ kind (now s) r ≡ 30 ⌝ }
-    ensures { λ x. ⌜ ((q : List ℕ) → stateOf x (now (v .entry)) (now (t .exit)) q ≡ stepState (now (s .entry)) (visit r) (stateOf w (now (v .entry)) (now (t .entry)) q)) ⌝ }
+    ensures { λ x. ⌜ ((O : Outside) (q : List ℕ) → stateOf x (now (v .entry)) (now (t .exit)) q ≡ stepState O (now (s .entry)) (visit r) (stateOf w (now (v .entry)) (now (t .entry)) q)) ⌝ }
 {
     if w.number != 0 {
         return w;

@@ -9,12 +9,13 @@ use Rattle.class_rows.proofs.AboveLaws.{entry-fits, fields-shown, metho
 use borrow.Author.Needs.{needs}
 use Rattle.class_rows.proofs.emit_class.Statement.{statement}
 use Rattle.class_rows.proofs.emit_class.Tie as tie
+use Rattle.definition.specs.Outside.{core}
 
 add-result : tie.Need-add-result
 add-result c = search needs
 
 returns : tie.Need-returns
-returns c = let a = c .before .before .before .before .before .before .before .args in let o : Store = record { used = 0; calls = 0 } in (λ o. class-full (a .s .now) (storeOf o (a .t .now) (a .q .now)) (a .r) (a .k) (a .out .now) (c .if1 .taken), placed-kept (c .before .before .before .before .before .before .before .pre .1) _ (class-full (a .s .now) (storeOf o (a .t .now) (a .q .now)) (a .r) (a .k) (a .out .now) (c .if1 .taken)))
+returns c = let a = c .before .before .before .before .before .before .before .args in let o : Store = record { used = 0; calls = 0 } in (λ o. class-full core (a .s .now) (storeOf o (a .t .now) (a .q .now)) (a .r) (a .k) (a .out .now) (c .if1 .taken), placed-kept (c .before .before .before .before .before .before .before .pre .1) _ (class-full core (a .s .now) (storeOf o (a .t .now) (a .q .now)) (a .r) (a .k) (a .out .now) (c .if1 .taken)))
 
 add-t18 : tie.Need-add-t18
 add-t18 c = search needs
@@ -75,7 +76,7 @@ returns-4 c = let a = c .before .before .before .before .before .before .before 
     let steady = line-steady (c .before .before .before .before .before .before .before .before .before .before .before .before .before .before .before .before .before .before .before .before .before .pre .1) (c .before .before .before .before .before .before .before .before .before .before .before .before .before .before .before .before .before .before .before .before .before .pre .0 .row) (λ o. c .before .before .before .before .before .before .before .before .before .before .before .before .before .parent-of .ensures o (a .q .now)) (c .before .before .before .before .before .before .before .before .before .before .before .place-of .ensures) (sym (not-false (c .before .line-ends .result) (c .if3 .left)) ∙ c .before .line-ends .ensures) in (
       c .before .before .before .before .before .write-class .ensures,
       placed-more (c .before .before .before .before .before .before .before .before .before .before .before .before .before .before .before .before .before .before .before .before .before .pre .1) _ (c .before .before .before .before .before .write-class .ensures (record { used = 0; calls = 0 }))
-          (λ o. stands-now (a .s .now) (storeOf o (a .t .now) (a .q .now)) (a .out .now) (a .k) (a .r) (c .before .before .before .before .before .write-class .result) (c .before .before .before .before .before .write-class .ensures o) (omega (arith, c .before .before .if2 .left)) (omega (arith, c .before .before .before .before .before .write-class .kept)) (steady o .0) (steady o .1))
+          (λ o. stands-now core (a .s .now) (storeOf o (a .t .now) (a .q .now)) (a .out .now) (a .k) (a .r) (c .before .before .before .before .before .write-class .result) (c .before .before .before .before .before .write-class .ensures o) (omega (arith, c .before .before .if2 .left)) (omega (arith, c .before .before .before .before .before .write-class .kept)) (steady o .0) (steady o .1))
           (omega (arith, c .before .before .before .before .before .before .before .before .before .before .before .before .before .before .before .before .before .before .before .before .before .pre .0 .row, c .before .before .before .before .before .before .before .before .before .before .before .before .before .before .before .before .before .before .before .before .before .pre .1 .room)),
     )
 

@@ -2,6 +2,7 @@
 use Rattle.classes.proofs.Filling.{Filled, filled-none, next-turn, filled-all}
 use Rattle.machine.proofs.Theorems.{rows-few}
 use Rattle.definition.specs.Sheet.{rows}
+use Rattle.definition.specs.Outside.{core}
 use lib.ListN.{length}
 use native.Mathlib.Omega.{arith}
 use Prim.Native.Nat.{_-_, _≤_}
@@ -18,7 +19,7 @@ abbrev μ-loop : tie.MeasureT-loop
 loop-holds : tie.Need-loop-holds Inv-loop μ-loop
 loop-holds c =
     let entry = c .before .before in
-    (omega arith, (refl, filled-none (entry .args .s .now) (entry .pre .0) (entry .args .t .now) (entry .pre .2)))
+    (omega arith, (refl, filled-none core (entry .args .s .now) (entry .pre .0) (entry .args .t .now) (entry .pre .2)))
 
 cast-loop : tie.Need-cast-loop Inv-loop μ-loop
 cast-loop c = omega arith
@@ -39,7 +40,7 @@ loop-again c =
     let z = c .before .before .before .before .before in
     let entry = z .before .before .before in (
       omega arith,
-      next-turn (entry .args .s .now) (entry .pre .0) (entry .args .t .now) (z .loop .t) _ (z .loop .r) (c .before .before .before .before .loop-test .taken) (entry .pre .1) (z .loop .inv .1)
+      next-turn core (entry .args .s .now) (entry .pre .0) (entry .args .t .now) (z .loop .t) _ (z .loop .r) (c .before .before .before .before .loop-test .taken) (entry .pre .1) (z .loop .inv .1)
           (c .before .before .fill-row .ensures),
     )
 
@@ -49,7 +50,7 @@ same-length c = c .before .loop .inv .1 .0
 returns : tie.Need-returns Inv-loop μ-loop
 returns c =
     let entry = c .before .before .before .before in
-    filled-all (entry .args .s .now) (entry .pre .0) (c .before .loop .t) (c .before .loop .r) (c .loop-test .left) (c .before .loop .inv .1 .1)
+    filled-all core (entry .args .s .now) (entry .pre .0) (c .before .loop .t) (c .before .loop .r) (c .loop-test .left) (c .before .loop .inv .1 .1)
 
 pub class-table-spec : {M : Type 1} → statement M
 class-table-spec =

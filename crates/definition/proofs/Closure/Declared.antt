@@ -6,8 +6,9 @@ use mathlib.Core.Bool.{Bool, true, false, not, _||_, _&&_}
 use Prim.Native.Nat.{ℕ, zero, suc, _+_, _-_, _<_, _≤_}
 use native.Mathlib.Omega.{arith}
 use lib.Dec.{eqb, leb, T, T-not}
-use Rattle.definition.specs.Basics.{if_then_else_, filter, first, concatMap, largest}
+use Rattle.definition.specs.Basics.{if_then_else_, all, filter, first, concatMap, largest}
 use Rattle.definition.specs.Sheet.{Sheet, rows, child, a, b, is, kids, kidsOf}
+use Rattle.definition.specs.Outside.{Outside, OutsideFits, isOutward}
 use Rattle.definition.specs.Meaning.{Meaning, nothing, variable, rowOf, ownerOf, isVariable, global, function, class, toplevel, Named, named}
 use Rattle.definition.specs.Walk.{Event, enter, leave, loop, declare, bring, visit, imports, seen, literalLet, before, after, parts, each, trace, walk}
 use Rattle.definition.specs.Scope.{Stack, Moment, Entry, scope, looping, bound, closed, step, moments, history, start, inside, within, declared, newGlobal, declares, declarings, declaration}
@@ -217,16 +218,27 @@ none-open (plainly {d = c} h q) zero n d st p v =
     T-not (isVariable d) (subst (λ (x : Meaning). T (not (isVariable x))) e h) v
 none-open (plainly h q) (suc j) n d st p v = none-open q j n d st p v
 
-start-plain : PlainStack start
-start-plain = plainly tt (plainly tt (plainly tt (plainly tt (plainly tt (plainly tt (plainly tt (plainly tt (plainly tt bare))))))))
+pub outward-plain : (d : Meaning) → T (isOutward d) → T (not (isVariable d))
+outward-plain nothing h = tt
+outward-plain (function f) h = tt
+outward-plain (class c) h = tt
+outward-plain (global g m) h = tt
+outward-plain (toplevel r) h = tt
+outward-plain (variable r f) h = h
 
-pub earlier : (s : Sheet) (m : Moment) → List·Memᴰ m (history s) → (i n : ℕ) (d : Meaning) (st : Stack)
-    → OpenAt (m .stack) i n d st → T (isVariable d) → Declares s (history s) d st
+start-plain : (xs : List Named) → T (all (λ x. isOutward (x .means)) xs) → PlainStack (map (λ x. bound (x .name) (x .means)) xs)
+start-plain [] h = bare
+start-plain (x ∷ xs) h =
+    plainly (outward-plain (x .means) (and-left (isOutward (x .means)) (all (λ y. isOutward (y .means)) xs) h))
+    (start-plain xs (and-right (isOutward (x .means)) (all (λ y. isOutward (y .means)) xs) h))
+
+pub earlier : {O : Outside} → OutsideFits O → (s : Sheet) (m : Moment) → List·Memᴰ m (history O s) → (i n : ℕ) (d : Meaning) (st : Stack)
+    → OpenAt (m .stack) i n d st → T (isVariable d) → Declares s (history O s) d st
 unfolding Was
-earlier s m q i n d st p v = go (was s start (walk s) (plain-trace (rows s) s 0) m q i n d st p v)
+earlier {O} known s m q i n d st p v = go (was s (start O) (walk s) (plain-trace (rows s) s 0) m q i n d st p v)
   where
-    go : ((j : ℕ) × OpenAt start j n d st) ⊎ Declares s (history s) d st → Declares s (history s) d st
-    go (inl w) = absurd (none-open start-plain (w .0) n d st (w .1) v)
+    go : ((j : ℕ) × OpenAt (start O) j n d st) ⊎ Declares s (history O s) d st → Declares s (history O s) d st
+    go (inl w) = absurd (none-open (start-plain (O .names) (known .outward)) (w .0) n d st (w .1) v)
     go (inr r) = r
 
 mem-largest : (f : Moment → ℕ) {x : Moment} {xs : List Moment} → List·Memᴰ x xs → f x ≤ largest (map f xs)
@@ -236,21 +248,21 @@ mem-largest f {x} (List·Memᴰ·head {x = y} {xs = ys} e) =
 mem-largest f (List·Memᴰ·tail {x = y} q) = omega (arith, mem-largest f q)
 
 -- a local's slot is below the local count of its function
-pub slots-counted : (s : Sheet) (m : Moment) → List·Memᴰ m (history s) → (i n : ℕ) (d : Meaning) (st : Stack) → OpenAt (m .stack) i n d st → T (isLocal s d)
-    → openLocals s st < localCount s (history s) (ownerOf d)
-slots-counted s m q i n d st p l =
+pub slots-counted : {O : Outside} → OutsideFits O → (s : Sheet) (m : Moment) → List·Memᴰ m (history O s) → (i n : ℕ) (d : Meaning) (st : Stack) → OpenAt (m .stack) i n d st → T (isLocal s d)
+    → openLocals s st < localCount s (history O s) (ownerOf d)
+slots-counted {O} known s m q i n d st p l =
     let v : T (isVariable d) = and-left (isVariable d) (is s 29 (rowOf d)) l in
-    let r = earlier s m q i n d st p v in
+    let r = earlier known s m q i n d st p v in
     let m′ : Moment = r .moment in
     let row : rowOf d ≡ declares (m′ .event) = sym (ap declares (r .event-is)) in
     let decl : declaration s m′ ≡ d = ap (λ (k : ℕ). declared s k (within s m′)) (sym row) ∙ r .decl-is in
     let own : ownerOf d ≡ within s m′ =
     ap ownerOf (sym (r .decl-is) ∙ declared-variable s (rowOf d) (within s m′) (subst (λ (x : Meaning). T (isVariable x)) (sym (r .decl-is)) v) .0) in
-    let first-in : List·Memᴰ m′ (declarings s (history s) 29) =
-    mem-filter (λ x. is s 29 (declares (x .event))) m′ (history s)
+    let first-in : List·Memᴰ m′ (declarings s (history O s) 29) =
+    mem-filter (λ x. is s 29 (declares (x .event))) m′ (history O s)
     (subst (λ (k : ℕ). T (is s 29 k)) row (and-right (isVariable d) (is s 29 (rowOf d)) l)) (r .among) in
-    let then-in : List·Memᴰ m′ (filter (λ x. isLocal s (declaration s x) && eqb (within s x) (ownerOf d)) (declarings s (history s) 29)) =
-    mem-filter (λ x. isLocal s (declaration s x) && eqb (within s x) (ownerOf d)) m′ (declarings s (history s) 29)
+    let then-in : List·Memᴰ m′ (filter (λ x. isLocal s (declaration s x) && eqb (within s x) (ownerOf d)) (declarings s (history O s) 29)) =
+    mem-filter (λ x. isLocal s (declaration s x) && eqb (within s x) (ownerOf d)) m′ (declarings s (history O s) 29)
     (and-both (isLocal s (declaration s m′)) (eqb (within s m′) (ownerOf d)) (subst (λ (x : Meaning). T (isLocal s x)) (sym decl) l) (eqb-of (within s m′) (ownerOf d) (sym own))) first-in in
-    subst (λ (x : Stack). suc (openLocals s x) ≤ localCount s (history s) (ownerOf d)) (r .stack-is)
+    subst (λ (x : Stack). suc (openLocals s x) ≤ localCount s (history O s) (ownerOf d)) (r .stack-is)
     (mem-largest (λ x. suc (openLocals s (x .stack))) then-in)

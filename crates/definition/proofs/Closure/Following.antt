@@ -9,6 +9,7 @@ use lib.ListN.{getD, drop}
 use lib.Dec.{eqb, T, T-not, not-T, eqb-refl, eqb→eq}
 use Rattle.definition.specs.Basics.{filter, place, concatMap, from, bit, head, _∈?_, count, total}
 use Rattle.definition.specs.Sheet.{Sheet, kind, child, a, rows, is, holder, functionsOf, functionOf}
+use Rattle.definition.specs.Outside.{Outside}
 use Rattle.definition.specs.Meaning.{Meaning, nothing, variable, rowOf, ownerOf, isVariable, isClass, global, function, class, toplevel}
 use Rattle.definition.specs.Walk.{Event, visit, before, after, each, parts, walk}
 use Rattle.definition.specs.Scope.{Stack, Moment, around, history, start, visited, visits, visitOf, within}
@@ -31,8 +32,8 @@ use Rattle.definition.proofs.Closure.Captured.{rowMeant, captured-use, 
 use Rattle.definition.proofs.Closure.OpenApart.{argument-code, local-code}
 
 -- answer row y has the code and values of what identifier u means
-abbrev pub Tells : Sheet → Row → Use → Type 0
-Tells s y u = y ≡ eight (getD y 0 0 ∷ code s (history s) (u .means) (u .slot))
+abbrev pub Tells : Outside → Sheet → Row → Use → Type 0
+Tells O s y u = y ≡ eight (getD y 0 0 ∷ code s (history O s) (u .means) (u .slot))
 
 -- a step outward from answer row x
 abbrev pub outward : Sheet → List Row → Row → Row
@@ -65,21 +66,21 @@ module _ (f : ℕ → List Row) (tag : (k : ℕ) (x : Row) → Mem x (f k) → g
 tagged : (k : ℕ) (vs : List Row) (x : Row) → Mem x (map (λ v. eight (k ∷ v)) vs) → getD x 0 0 ≡ k
 tagged k vs x m = ap (λ (z : Row). getD z 0 0) (map-mem (λ v. eight (k ∷ v)) x vs m .2)
 
-pub rows-for : (s : Sheet) (h : List Moment) (r : ℕ) → r < rows s → rowsFor (answers s h) r ≡ map (λ vs. eight (r ∷ vs)) (rowsOf s h r)
-rows-for s h r l =
-    rows-among (λ k. map (λ vs. eight (k ∷ vs)) (rowsOf s h k)) (λ k x m. tagged k (rowsOf s h k) x m) r 0 (rows s) (omega arith) (omega arith)
+pub rows-for : (O : Outside) (s : Sheet) (h : List Moment) (r : ℕ) → r < rows s → rowsFor (answers O s h) r ≡ map (λ vs. eight (r ∷ vs)) (rowsOf O s h r)
+rows-for O s h r l =
+    rows-among (λ k. map (λ vs. eight (k ∷ vs)) (rowsOf O s h k)) (λ k x m. tagged k (rowsOf O s h k) x m) r 0 (rows s) (omega arith) (omega arith)
 
 pub not-kind : (s : Sheet) (j k r : ℕ) → T (not (eqb j k)) → T (is s j r) → T (not (is s k r))
 not-kind s j k r d h = not-T (is s k r) (kind-apart (kind s r) j k d h)
 
-rows-of-identifier : (s : Sheet) (h : List Moment) (r : ℕ) → T (is s 50 r) → rowsOf s h r ≡ identifierRow s h r
-rows-of-identifier s h r t = if-false (is s 29 r) (letRow s h r) _ (not-kind s 50 29 r tt t) ∙ if-true (is s 50 r) (identifierRow s h r) _ t
+rows-of-identifier : (O : Outside) (s : Sheet) (h : List Moment) (r : ℕ) → T (is s 50 r) → rowsOf O s h r ≡ identifierRow s h r
+rows-of-identifier O s h r t = if-false (is s 29 r) (letRow s h r) _ (not-kind s 50 29 r tt t) ∙ if-true (is s 50 r) (identifierRow s h r) _ t
 
-pub rows-of-literal : (s : Sheet) (h : List Moment) (r : ℕ) → T (is s 52 r) → rowsOf s h r ≡ literalRows s h r
-rows-of-literal s h r t =
+pub rows-of-literal : (O : Outside) (s : Sheet) (h : List Moment) (r : ℕ) → T (is s 52 r) → rowsOf O s h r ≡ literalRows s h r
+rows-of-literal O s h r t =
     if-false (is s 29 r) (letRow s h r) _ (not-kind s 52 29 r tt t) ∙ if-false (is s 50 r) (identifierRow s h r) _ (not-kind s 52 50 r tt t)
     ∙ if-false (is s 51 r) (hostRow s h r) _ (not-kind s 52 51 r tt t) ∙ if-false (is s 55 r) (instanceRow s h r) _ (not-kind s 52 55 r tt t)
-    ∙ if-false (is s 54 r) (memberRow s h r) _ (not-kind s 52 54 r tt t) ∙ if-true (is s 52 r) (literalRows s h r) _ t
+    ∙ if-false (is s 54 r) (memberRow O s h r) _ (not-kind s 52 54 r tt t) ∙ if-true (is s 52 r) (literalRows s h r) _ t
 
 variable-no-class : (d : Meaning) → T (isVariable d) → T (not (isClass d))
 variable-no-class nothing h = absurd h
@@ -112,7 +113,7 @@ after-literal s r h = rw (eqb→eq (kind s r) 52 h)
 pub after-identifier : (s : Sheet) (r : ℕ) → T (is s 50 r) → after s r ≡ visit r ∷ []
 after-identifier s r h = rw (eqb→eq (kind s r) 50 h)
 
-module _ {s : Sheet} (ok : Fits s) where
+module _ {O : Outside} {s : Sheet} (ok : Fits O s) where
   told-visit : {fs : List ℕ} {x : ℕ} → Told s fs (visit x) → (fs ≡ functionsOf s x) × Walks s x
   told-visit (t-visit e w) = (e, w)
 
@@ -125,52 +126,52 @@ module _ {s : Sheet} (ok : Fits s) where
   visited-event (visit r) x p z = ap visit p
 
   -- at a visit, the functions around are those that the row lies in
-  visit-around : (m : Moment) (x : ℕ) → Mem m (history s) → visited (m .event) ≡ x → (x ≡ 0 → ⊥) → (around s (m .stack) ≡ functionsOf s x) × Walks s x
+  visit-around : (m : Moment) (x : ℕ) → Mem m (history O s) → visited (m .event) ≡ x → (x ≡ 0 → ⊥) → (around s (m .stack) ≡ functionsOf s x) × Walks s x
   visit-around m x q e z = told-visit (subst (λ (v : Event). Told s (around s (m .stack)) v) (visited-event (m .event) x e z) (told ok m q))
 
   pub walks-range : (x : ℕ) → Walks s x → x < rows s
   walks-range x w = found ok (rows s) 0 x (reached-root ok) w .reached .in-range
 
   -- a walked literal or identifier is visited
-  pub walked-visited : (r : ℕ) → Walks s r → after s r ≡ visit r ∷ [] → (m : Moment) × Mem m (history s) × (visited (m .event) ≡ r)
+  pub walked-visited : (r : ℕ) → Walks s r → after s r ≡ visit r ∷ [] → (m : Moment) × Mem m (history O s) × (visited (m .event) ≡ r)
   walked-visited r w h =
       let p : Event → Bool = λ e. eqb (visited e) r in
       let own-visit : Mem (visit r) (own s r) = Memᴰ·append-right (before s r ++ each (λ k. []) s r 0 (parts s r)) (subst (λ (es : List Event). Mem (visit r) es) (sym h) (here refl)) in
       let e = count-some p (walk s) (omega (arith, count-trace p (rows s) s 0, mem-total (λ x. count p (own s x)) r (walked (rows s) s 0) w, count-mem p (visit r) (own s r) (eqb-refl r) own-visit)) in
-      let m = mem-moments s start (e .0) (walk s) (e .1) in
+      let m = mem-moments s (start O) (e .0) (walk s) (e .1) in
       (m .0, m .1, ap visited (m .2) ∙ eqb→eq (visited (e .0)) r (e .2))
 
 -- An identifier that means a variable: where it lies, and how the variable was declared.
-pub record Located (s : Sheet) (u : Use) : Type 0 where
+pub record Located (O : Outside) (s : Sheet) (u : Use) : Type 0 where
   pub moment : Moment
-  pub among : Mem moment (history s)
+  pub among : Mem moment (history O s)
   pub use-is : u ≡ useAt s moment
   pub identifier : T (is s 50 (u .row))
   pub walks : Walks s (u .row)
   pub funs-is : u .funs ≡ functionsOf s (u .row)
   pub open-before : Stack
-  pub declared-as : Variable s (u .means) open-before
+  pub declared-as : Variable O s (u .means) open-before
   pub slot-is : u .slot ≡ openLocals s open-before
   pub owner-around : Mem (ownerOf (u .means)) (u .funs)
 
 -- The captured use that stands for an identifier u in function g.
-pub record CapturedAs (s : Sheet) (g : ℕ) (u : Use) : Type 0 where
+pub record CapturedAs (O : Outside) (s : Sheet) (g : ℕ) (u : Use) : Type 0 where
   pub stand-in : Use
   pub rest : List Use
-  pub stands : drop (place (same u) (captures s (history s) g)) (captures s (history s) g) ≡ stand-in ∷ rest
-  pub is-use : Mem stand-in (uses s (history s))
+  pub stands : drop (place (same u) (captures s (history O s) g)) (captures s (history O s) g) ≡ stand-in ∷ rest
+  pub is-use : Mem stand-in (uses s (history O s))
   pub is-variable : T (isVariable (stand-in .means))
   pub is-outer : T (isOuter g stand-in)
   pub decl-is : u .means ≡ stand-in .means
   pub slot-is : u .slot ≡ stand-in .slot
 
-module _ {s : Sheet} (ok : Fits s) where
-  located-at : (m : Moment) → Mem m (history s) → T (is s 50 (visited (m .event))) → T (isVariable (useAt s m .means)) → Located s (useAt s m)
+module _ {O : Outside} {s : Sheet} (ok : Fits O s) where
+  located-at : (m : Moment) → Mem m (history O s) → T (is s 50 (visited (m .event))) → T (isVariable (useAt s m .means)) → Located O s (useAt s m)
   located-at m q t v =
       let r : ℕ = visited (m .event) in
       let w = visit-around ok m r q refl (kind-not-zero ok 50 r tt t) in
       let f = find-open s (a s r) (m .stack) v in
-      let d : Variable s (useAt s m .means) (f .before) = open-variable ok m q (f .at) (a s r) (useAt s m .means) (f .before) (f .is-open) v in
+      let d : Variable O s (useAt s m .means) (f .before) = open-variable ok m q (f .at) (a s r) (useAt s m .means) (f .before) (f .is-open) v in
       record {
         moment = m;
         among = q;
@@ -185,22 +186,22 @@ module _ {s : Sheet} (ok : Fits s) where
             (around-open s (m .stack) (f .at) (a s r) (useAt s m .means) (f .before) (head (around s (f .before))) (f .is-open) (head-mem (around s (f .before)) (d .some-around)));
       }
 
-  pub located : (u : Use) → Mem u (uses s (history s)) → T (isVariable (u .means)) → Located s u
+  pub located : (u : Use) → Mem u (uses s (history O s)) → T (isVariable (u .means)) → Located O s u
   located u q v =
-      let x = map-mem (useAt s) u (visits s (history s) 50) q in
-      let y = filter-mem (λ m. is s 50 (visited (m .event))) (x .0) (history s) (x .1) in
-      subst (λ (w : Use). Located s w) (sym (x .2)) (located-at (x .0) (y .0) (y .1) (subst (λ (w : Use). T (isVariable (w .means))) (x .2) v))
+      let x = map-mem (useAt s) u (visits s (history O s) 50) q in
+      let y = filter-mem (λ m. is s 50 (visited (m .event))) (x .0) (history O s) (x .1) in
+      subst (λ (w : Use). Located O s w) (sym (x .2)) (located-at (x .0) (y .0) (y .1) (subst (λ (w : Use). T (isVariable (w .means))) (x .2) v))
 
   -- two identifiers that mean one row mean one declaration
-  located-same : (u v : Use) → Located s u → Located s v → rowMeant u ≡ rowMeant v → (u .means ≡ v .means) × (u .slot ≡ v .slot)
+  located-same : (u v : Use) → Located O s u → Located O s v → rowMeant u ≡ rowMeant v → (u .means ≡ v .means) × (u .slot ≡ v .slot)
   located-same u v x y e =
       let q = variable-same ok (u .means) (v .means) (x .open-before) (y .open-before) (x .declared-as) (y .declared-as) e in
       (q .0, x .slot-is ∙ ap (openLocals s) (q .1) ∙ sym (y .slot-is))
 
   -- the answer row of an identifier
-  pub identifier-rows : (u : Use) → Located s u → T (isVariable (u .means))
-      → rowsFor (answers s (history s)) (u .row) ≡ eight (u .row ∷ seenFrom s (history s) (functionOf s (u .row)) u) ∷ []
-  identifier-rows u x v = rows-for s (history s) r (walks-range ok r (x .walks)) ∙ ap (map (λ vs. eight (r ∷ vs))) (rows-of-identifier s (history s) r (x .identifier) ∙ one)
+  pub identifier-rows : (u : Use) → Located O s u → T (isVariable (u .means))
+      → rowsFor (answers O s (history O s)) (u .row) ≡ eight (u .row ∷ seenFrom s (history O s) (functionOf s (u .row)) u) ∷ []
+  identifier-rows u x v = rows-for O s (history O s) r (walks-range ok r (x .walks)) ∙ ap (map (λ vs. eight (r ∷ vs))) (rows-of-identifier O s (history O s) r (x .identifier) ∙ one)
     where
       r : ℕ
       r = u .row
@@ -217,60 +218,60 @@ module _ {s : Sheet} (ok : Fits s) where
       kept : T (keep m)
       kept = subst (λ (w : Use). T (not (isCalleeBase s r && isClass (w .means)))) (x .use-is) (and-not (isCalleeBase s r) (isClass (u .means)) (variable-no-class (u .means) v))
 
-      visits-is : visitOf (history s) r ≡ m ∷ []
-      visits-is = subst (λ (k : ℕ). visitOf (history s) k ≡ m ∷ []) row-is (visit-of ok m (x .among) (λ e. kind-not-zero ok 50 r tt (x .identifier) (sym row-is ∙ e)))
+      visits-is : visitOf (history O s) r ≡ m ∷ []
+      visits-is = subst (λ (k : ℕ). visitOf (history O s) k ≡ m ∷ []) row-is (visit-of ok m (x .among) (λ e. kind-not-zero ok 50 r tt (x .identifier) (sym row-is ∙ e)))
 
       inside-is : within s m ≡ functionOf s r
       inside-is = ap head (visit-around ok m r (x .among) row-is (kind-not-zero ok 50 r tt (x .identifier)) .0)
 
-      one : identifierRow s (history s) r ≡ seenFrom s (history s) (functionOf s r) u ∷ []
+      one : identifierRow s (history O s) r ≡ seenFrom s (history O s) (functionOf s r) u ∷ []
       one =
-          ap (λ (l : List Moment). map (λ k. seenFrom s (history s) (within s k) (useAt s k)) (filter keep l)) visits-is
-          ∙ ap (map (λ k. seenFrom s (history s) (within s k) (useAt s k))) (if-true (keep m) (m ∷ []) [] kept)
-          ∙ ap (λ (f : ℕ). seenFrom s (history s) f (useAt s m) ∷ []) inside-is
-          ∙ ap (λ (w : Use). seenFrom s (history s) (functionOf s r) w ∷ []) (sym (x .use-is))
+          ap (λ (l : List Moment). map (λ k. seenFrom s (history O s) (within s k) (useAt s k)) (filter keep l)) visits-is
+          ∙ ap (map (λ k. seenFrom s (history O s) (within s k) (useAt s k))) (if-true (keep m) (m ∷ []) [] kept)
+          ∙ ap (λ (f : ℕ). seenFrom s (history O s) f (useAt s m) ∷ []) inside-is
+          ∙ ap (λ (w : Use). seenFrom s (history O s) (functionOf s r) w ∷ []) (sym (x .use-is))
 
   -- the answer rows of a walked literal
   pub literal-rows : (l : ℕ) → Walks s l → T (is s 52 l)
-      → rowsFor (answers s (history s)) l ≡ map (λ vs. eight (l ∷ vs)) (map (seenFrom s (history s) (functionOf s l)) (captures s (history s) (child s l)))
+      → rowsFor (answers O s (history O s)) l ≡ map (λ vs. eight (l ∷ vs)) (map (seenFrom s (history O s) (functionOf s l)) (captures s (history O s) (child s l)))
   literal-rows l w t =
       let v = walked-visited ok l w (after-literal s l t) in
       let m : Moment = v .0 in
       let z : l ≡ 0 → ⊥ = kind-not-zero ok 52 l tt t in
-      let visits-is : visitOf (history s) l ≡ m ∷ [] = subst (λ (k : ℕ). visitOf (history s) k ≡ m ∷ []) (v .2) (visit-of ok m (v .1) (λ e. z (sym (v .2) ∙ e))) in
+      let visits-is : visitOf (history O s) l ≡ m ∷ [] = subst (λ (k : ℕ). visitOf (history O s) k ≡ m ∷ []) (v .2) (visit-of ok m (v .1) (λ e. z (sym (v .2) ∙ e))) in
       let inside-is : within s m ≡ functionOf s l = ap head (visit-around ok m l (v .1) (v .2) z .0) in
-      rows-for s (history s) l (walks-range ok l w)
+      rows-for O s (history O s) l (walks-range ok l w)
       ∙ ap (map (λ vs. eight (l ∷ vs)))
-      (rows-of-literal s (history s) l t
-      ∙ ap (concatMap (λ k. sources s (history s) (within s k) (child s l))) visits-is
-      ∙ append-nil (sources s (history s) (within s m) (child s l))
-      ∙ ap (λ (f : ℕ). sources s (history s) f (child s l)) inside-is)
+      (rows-of-literal O s (history O s) l t
+      ∙ ap (concatMap (λ k. sources s (history O s) (within s k) (child s l))) visits-is
+      ∙ append-nil (sources s (history O s) (within s m) (child s l))
+      ∙ ap (λ (f : ℕ). sources s (history O s) f (child s l)) inside-is)
 
   -- an identifier in function g that means a variable of a function around it
-  pub outer-around : (g : ℕ) (u : Use) → Located s u → T (isOuter g u) → Mem g (u .funs) × Mem (ownerOf (u .means)) (functionsOf s g)
+  pub outer-around : (g : ℕ) (u : Use) → Located O s u → T (isOuter g u) → Mem g (u .funs) × Mem (ownerOf (u .means)) (functionsOf s g)
   outer-around g u x t =
       let o : Mem (ownerOf (u .means)) (beyond g (u .funs)) = test-mem (ownerOf (u .means)) (beyond g (u .funs)) (and-right (isVariable (u .means)) (ownerOf (u .means) ∈? beyond g (u .funs)) t) in
       let i : Mem g (u .funs) = beyond-mem g (ownerOf (u .means)) (u .funs) o .0 in
       (i, subst (λ (l : List ℕ). Mem (ownerOf (u .means)) l) (ap (beyond g) (x .funs-is) ∙ beyond-around ok (u .row) g (x .walks) (subst (λ (l : List ℕ). Mem g l) (x .funs-is) i)) o)
 
-  pub around-outer : (g : ℕ) (u : Use) → Located s u → T (isVariable (u .means)) → Mem g (u .funs) → Mem (ownerOf (u .means)) (functionsOf s g) → T (isOuter g u)
+  pub around-outer : (g : ℕ) (u : Use) → Located O s u → T (isVariable (u .means)) → Mem g (u .funs) → Mem (ownerOf (u .means)) (functionsOf s g) → T (isOuter g u)
   around-outer g u x v i o =
       and-both (isVariable (u .means)) (ownerOf (u .means) ∈? beyond g (u .funs)) v (mem-test (ownerOf (u .means)) (beyond g (u .funs))
       (subst (λ (l : List ℕ). Mem (ownerOf (u .means)) l) (sym (ap (beyond g) (x .funs-is) ∙ beyond-around ok (u .row) g (x .walks) (subst (λ (l : List ℕ). Mem g l) (x .funs-is) i))) o))
 
   -- what is around g is around what lies in g
-  pub around-trans : (g k : ℕ) (u : Use) → Located s u → Mem g (u .funs) → Mem k (functionsOf s g) → Mem k (u .funs)
+  pub around-trans : (g k : ℕ) (u : Use) → Located O s u → Mem g (u .funs) → Mem k (functionsOf s g) → Mem k (u .funs)
   around-trans g k u x i j =
       beyond-mem g k (u .funs) (subst (λ (l : List ℕ). Mem k l) (sym (ap (beyond g) (x .funs-is) ∙ beyond-around ok (u .row) g (x .walks) (subst (λ (l : List ℕ). Mem g l) (x .funs-is) i))) j) .1
 
-  pub use-literal : (g : ℕ) (u : Use) → Located s u → Mem g (u .funs) → Mem (ownerOf (u .means)) (functionsOf s g) → Literal s g
+  pub use-literal : (g : ℕ) (u : Use) → Located O s u → Mem g (u .funs) → Mem (ownerOf (u .means)) (functionsOf s g) → Literal s g
   use-literal g u x i o =
       let w = around-walks ok (u .row) g (x .walks) (subst (λ (l : List ℕ). Mem g l) (x .funs-is) i) in
       literal-of ok g (ownerOf (u .means)) (w .0) (w .1) o (x .declared-as .no-unit)
 
   -- what follows from row r in function g for use u, in n steps
   abbrev pub Leads : ℕ → ℕ → Use → ℕ → Type 0
-  Leads r g u n = (y : Row) × Follows s (answers s (history s)) (eight (r ∷ seenFrom s (history s) g u)) n y × Tells s y u
+  Leads r g u n = (y : Row) × Follows s (answers O s (history O s)) (eight (r ∷ seenFrom s (history O s) g u)) n y × Tells O s y u
 
   not-not : (t : Bool) → T t → T (not (not t))
   not-not true h = tt
@@ -278,55 +279,55 @@ module _ {s : Sheet} (ok : Fits s) where
 
   -- in its own function a variable has its code, and is at its end
   follow-here : (r g : ℕ) (u : Use) → T (isVariable (u .means)) → T (eqb (ownerOf (u .means)) g) → Leads r g u 0
-  follow-here r g u v t = (eight (r ∷ seenFrom s (history s) g u), go (decide (is s 11 (rowOf (u .means)))), ap (λ (c : List ℕ). eight (r ∷ c)) e)
+  follow-here r g u v t = (eight (r ∷ seenFrom s (history O s) g u), go (decide (is s 11 (rowOf (u .means)))), ap (λ (c : List ℕ). eight (r ∷ c)) e)
     where
-      e : seenFrom s (history s) g u ≡ code s (history s) (u .means) (u .slot)
-      e = if-false (isVariable (u .means) && not (eqb (ownerOf (u .means)) g)) _ (code s (history s) (u .means) (u .slot)) (and-not (isVariable (u .means)) (not (eqb (ownerOf (u .means)) g)) (not-not (eqb (ownerOf (u .means)) g) t))
+      e : seenFrom s (history O s) g u ≡ code s (history O s) (u .means) (u .slot)
+      e = if-false (isVariable (u .means) && not (eqb (ownerOf (u .means)) g)) _ (code s (history O s) (u .means) (u .slot)) (and-not (isVariable (u .means)) (not (eqb (ownerOf (u .means)) g)) (not-not (eqb (ownerOf (u .means)) g) t))
 
-      go : T (is s 11 (rowOf (u .means))) ⊎ T (not (is s 11 (rowOf (u .means)))) → Follows s (answers s (history s)) (eight (r ∷ seenFrom s (history s) g u)) 0 (eight (r ∷ seenFrom s (history s) g u))
-      go (inl k) = ends (inl (ap (λ (c : List ℕ). getD (eight (r ∷ c)) 1 0) (e ∙ argument-code s (u .means) (u .slot) v k)))
-      go (inr k) = ends (inr (ap (λ (c : List ℕ). getD (eight (r ∷ c)) 1 0) (e ∙ local-code s (u .means) (u .slot) v k)))
+      go : T (is s 11 (rowOf (u .means))) ⊎ T (not (is s 11 (rowOf (u .means)))) → Follows s (answers O s (history O s)) (eight (r ∷ seenFrom s (history O s) g u)) 0 (eight (r ∷ seenFrom s (history O s) g u))
+      go (inl k) = ends (inl (ap (λ (c : List ℕ). getD (eight (r ∷ c)) 1 0) (e ∙ argument-code O s (u .means) (u .slot) v k)))
+      go (inr k) = ends (inr (ap (λ (c : List ℕ). getD (eight (r ∷ c)) 1 0) (e ∙ local-code O s (u .means) (u .slot) v k)))
 
   -- elsewhere it is captured: the captured use that stands for u in g, at the index that u has there
-  first-captured : (g : ℕ) (u : Use) → Mem u (uses s (history s)) → T (isVariable (u .means)) → T (isOuter g u) → CapturedAs s g u
+  first-captured : (g : ℕ) (u : Use) → Mem u (uses s (history O s)) → T (isVariable (u .means)) → T (isOuter g u) → CapturedAs O s g u
   first-captured g u q v t =
-      let f = use-captured s (history s) g u q t in
-      let p = place-found (same u) (f .0) (captures s (history s) g) (eqb-of (rowMeant u) (rowMeant (f .0)) (sym (f .2))) (f .1) in
-      let c = captured-use s (history s) g (p .0) (drop-mem (place (same u) (captures s (history s) g)) (captures s (history s) g) (p .0) (p .1) (p .2)) in
+      let f = use-captured s (history O s) g u q t in
+      let p = place-found (same u) (f .0) (captures s (history O s) g) (eqb-of (rowMeant u) (rowMeant (f .0)) (sym (f .2))) (f .1) in
+      let c = captured-use s (history O s) g (p .0) (drop-mem (place (same u) (captures s (history O s) g)) (captures s (history O s) g) (p .0) (p .1) (p .2)) in
       let v′ : T (isVariable (p .0 .means)) = and-left (isVariable (p .0 .means)) (ownerOf (p .0 .means) ∈? beyond g (p .0 .funs)) (c .1) in
       let e = located-same u (p .0) (located u q v) (located (p .0) (c .0) v′) (eqb→eq (rowMeant u) (rowMeant (p .0)) (p .3)) in
       record { stand-in = p .0; rest = p .1; stands = p .2; is-use = c .0; is-variable = v′; is-outer = c .1; decl-is = e .0; slot-is = e .1 }
 
   -- the source of index i of the literal of function g
-  source-is : (g g′ i : ℕ) (w : Use) (ws : List Use) (L : Literal s g) → functionOf s (L .literal) ≡ g′ → drop i (captures s (history s) g) ≡ w ∷ ws
-      → getD (rowsFor (answers s (history s)) (holder s g)) i [] ≡ eight (L .literal ∷ seenFrom s (history s) g′ w)
+  source-is : (g g′ i : ℕ) (w : Use) (ws : List Use) (L : Literal s g) → functionOf s (L .literal) ≡ g′ → drop i (captures s (history O s) g) ≡ w ∷ ws
+      → getD (rowsFor (answers O s (history O s)) (holder s g)) i [] ≡ eight (L .literal ∷ seenFrom s (history O s) g′ w)
   source-is g g′ i w ws L f p =
-      ap (λ (k : ℕ). getD (rowsFor (answers s (history s)) k) i []) (L .holds)
+      ap (λ (k : ℕ). getD (rowsFor (answers O s (history O s)) k) i []) (L .holds)
       ∙ ap (λ (z : List Row). getD z i []) (literal-rows (L .literal) (L .walks) (L .kind-is))
-      ∙ getD-drop-is i _ (eight (L .literal ∷ seenFrom s (history s) (functionOf s (L .literal)) w)) [] _
-      (drop-map (λ vs. eight (L .literal ∷ vs)) i (map (seenFrom s (history s) (functionOf s (L .literal))) (captures s (history s) (child s (L .literal)))) (seenFrom s (history s) (functionOf s (L .literal)) w) _
-      (drop-map (seenFrom s (history s) (functionOf s (L .literal))) i (captures s (history s) (child s (L .literal))) w ws
-      (subst (λ (k : ℕ). drop i (captures s (history s) k) ≡ w ∷ ws) (L .function-is) p)))
-      ∙ ap (λ (k : ℕ). eight (L .literal ∷ seenFrom s (history s) k w)) f
+      ∙ getD-drop-is i _ (eight (L .literal ∷ seenFrom s (history O s) (functionOf s (L .literal)) w)) [] _
+      (drop-map (λ vs. eight (L .literal ∷ vs)) i (map (seenFrom s (history O s) (functionOf s (L .literal))) (captures s (history O s) (child s (L .literal)))) (seenFrom s (history O s) (functionOf s (L .literal)) w) _
+      (drop-map (seenFrom s (history O s) (functionOf s (L .literal))) i (captures s (history O s) (child s (L .literal))) w ws
+      (subst (λ (k : ℕ). drop i (captures s (history O s) k) ≡ w ∷ ws) (L .function-is) p)))
+      ∙ ap (λ (k : ℕ). eight (L .literal ∷ seenFrom s (history O s) k w)) f
 
   -- a step from row r in g goes there
   outward-is : (r g g′ : ℕ) (u w : Use) (ws : List Use) (L : Literal s g) → functionOf s r ≡ g → functionOf s (L .literal) ≡ g′
-      → drop (place (same u) (captures s (history s) g)) (captures s (history s) g) ≡ w ∷ ws
-      → seenFrom s (history s) g u ≡ 6 ∷ place (same u) (captures s (history s) g) ∷ 0 ∷ bit (isMutable s (u .means)) ∷ []
-      → outward s (answers s (history s)) (eight (r ∷ seenFrom s (history s) g u)) ≡ eight (L .literal ∷ seenFrom s (history s) g′ w)
+      → drop (place (same u) (captures s (history O s) g)) (captures s (history O s) g) ≡ w ∷ ws
+      → seenFrom s (history O s) g u ≡ 6 ∷ place (same u) (captures s (history O s) g) ∷ 0 ∷ bit (isMutable s (u .means)) ∷ []
+      → outward s (answers O s (history O s)) (eight (r ∷ seenFrom s (history O s) g u)) ≡ eight (L .literal ∷ seenFrom s (history O s) g′ w)
   outward-is r g g′ u w ws L f f′ p e =
-      ap (λ (k : List ℕ). outward s (answers s (history s)) (eight (r ∷ k))) e
-      ∙ ap (λ (k : ℕ). getD (rowsFor (answers s (history s)) (holder s k)) (place (same u) (captures s (history s) g)) []) f
-      ∙ source-is g g′ (place (same u) (captures s (history s) g)) w ws L f′ p
+      ap (λ (k : List ℕ). outward s (answers O s (history O s)) (eight (r ∷ k))) e
+      ∙ ap (λ (k : ℕ). getD (rowsFor (answers O s (history O s)) (holder s k)) (place (same u) (captures s (history O s) g)) []) f
+      ∙ source-is g g′ (place (same u) (captures s (history O s) g)) w ws L f′ p
 
-  follow-step : (r g g′ : ℕ) (rest : List ℕ) (u : Use) → g′ ∷ rest ≡ functionsOf s g → Mem u (uses s (history s)) → T (isVariable (u .means)) → Mem g (u .funs)
+  follow-step : (r g g′ : ℕ) (rest : List ℕ) (u : Use) → g′ ∷ rest ≡ functionsOf s g → Mem u (uses s (history O s)) → T (isVariable (u .means)) → Mem g (u .funs)
       → Mem (ownerOf (u .means)) (g′ ∷ rest) → T (not (eqb (ownerOf (u .means)) g)) → functionOf s r ≡ g
-      → ((w : Use) → Mem w (uses s (history s)) → T (isVariable (w .means)) → Mem g′ (w .funs) → Mem (ownerOf (w .means)) (g′ ∷ rest) → (l : ℕ) → functionOf s l ≡ g′
+      → ((w : Use) → Mem w (uses s (history O s)) → T (isVariable (w .means)) → Mem g′ (w .funs) → Mem (ownerOf (w .means)) (g′ ∷ rest) → (l : ℕ) → functionOf s l ≡ g′
       → Leads l g′ w (place (eqb (ownerOf (w .means))) (g′ ∷ rest)))
       → Leads r g u (suc (place (eqb (ownerOf (u .means))) (g′ ∷ rest)))
   follow-step r g g′ rest u e q v i o t f below = (further .0, steps (ap (λ (k : List ℕ). getD (eight (r ∷ k)) 1 0) seen-is) at-literal path, end)
     where
-      x : Located s u
+      x : Located O s u
       x = located u q v
 
       around-g : Mem (ownerOf (u .means)) (functionsOf s g)
@@ -338,14 +339,14 @@ module _ {s : Sheet} (ok : Fits s) where
       l : ℕ
       l = L .literal
 
-      C : CapturedAs s g u
+      C : CapturedAs O s g u
       C = first-captured g u q v (around-outer g u x v i around-g)
 
       w : Use
       w = C .stand-in
 
-      seen-is : seenFrom s (history s) g u ≡ 6 ∷ place (same u) (captures s (history s) g) ∷ 0 ∷ bit (isMutable s (u .means)) ∷ []
-      seen-is = if-true (isVariable (u .means) && not (eqb (ownerOf (u .means)) g)) _ (code s (history s) (u .means) (u .slot)) (and-both (isVariable (u .means)) (not (eqb (ownerOf (u .means)) g)) v t)
+      seen-is : seenFrom s (history O s) g u ≡ 6 ∷ place (same u) (captures s (history O s) g) ∷ 0 ∷ bit (isMutable s (u .means)) ∷ []
+      seen-is = if-true (isVariable (u .means) && not (eqb (ownerOf (u .means)) g)) _ (code s (history O s) (u .means) (u .slot)) (and-both (isVariable (u .means)) (not (eqb (ownerOf (u .means)) g)) v t)
 
       function-l : functionOf s l ≡ g′
       function-l = ap head (sym (L .around-is) ∙ sym e)
@@ -362,21 +363,21 @@ module _ {s : Sheet} (ok : Fits s) where
       at-literal : T (is s 52 (holder s (functionOf s r)))
       at-literal = subst (λ (k : ℕ). T (is s 52 (holder s k))) (sym f) (subst (λ (k : ℕ). T (is s 52 k)) (sym (L .holds)) (L .kind-is))
 
-      path : Follows s (answers s (history s)) (outward s (answers s (history s)) (eight (r ∷ seenFrom s (history s) g u))) (place (eqb (ownerOf (u .means))) (g′ ∷ rest)) (further .0)
+      path : Follows s (answers O s (history O s)) (outward s (answers O s (history O s)) (eight (r ∷ seenFrom s (history O s) g u))) (place (eqb (ownerOf (u .means))) (g′ ∷ rest)) (further .0)
       path =
-          subst (λ (z : Row). Follows s (answers s (history s)) z (place (eqb (ownerOf (u .means))) (g′ ∷ rest)) (further .0)) (sym (outward-is r g g′ u w (C .rest) L f function-l (C .stands) seen-is))
-          (subst (λ (k : ℕ). Follows s (answers s (history s)) (eight (l ∷ seenFrom s (history s) g′ w)) (place (eqb k) (g′ ∷ rest)) (further .0)) (sym owner-is) (further .1))
+          subst (λ (z : Row). Follows s (answers O s (history O s)) z (place (eqb (ownerOf (u .means))) (g′ ∷ rest)) (further .0)) (sym (outward-is r g g′ u w (C .rest) L f function-l (C .stands) seen-is))
+          (subst (λ (k : ℕ). Follows s (answers O s (history O s)) (eight (l ∷ seenFrom s (history O s) g′ w)) (place (eqb k) (g′ ∷ rest)) (further .0)) (sym owner-is) (further .1))
 
-      end : Tells s (further .0) u
+      end : Tells O s (further .0) u
       end =
-          further .2 ∙ ap (λ (k : Meaning). eight (getD (further .0) 0 0 ∷ code s (history s) k (w .slot))) (sym (C .decl-is))
-          ∙ ap (λ (k : ℕ). eight (getD (further .0) 0 0 ∷ code s (history s) (u .means) k)) (sym (C .slot-is))
+          further .2 ∙ ap (λ (k : Meaning). eight (getD (further .0) 0 0 ∷ code s (history O s) k (w .slot))) (sym (C .decl-is))
+          ∙ ap (λ (k : ℕ). eight (getD (further .0) 0 0 ∷ code s (history O s) (u .means) k)) (sym (C .slot-is))
 
   not-head : (o g : ℕ) (l : List ℕ) → T (not (eqb o g)) → Mem o (g ∷ l) → Mem o l
   not-head o g l t (here e) = absurd (T-not (eqb o g) t (eqb-of o g e))
   not-head o g l t (there m) = m
 
-  pub follow : (rest : List ℕ) (g : ℕ) → rest ≡ functionsOf s g → (u : Use) → Mem u (uses s (history s)) → T (isVariable (u .means)) → Mem g (u .funs)
+  pub follow : (rest : List ℕ) (g : ℕ) → rest ≡ functionsOf s g → (u : Use) → Mem u (uses s (history O s)) → T (isVariable (u .means)) → Mem g (u .funs)
       → Mem (ownerOf (u .means)) (g ∷ rest) → (r : ℕ) → functionOf s r ≡ g → Leads r g u (place (eqb (ownerOf (u .means))) (g ∷ rest))
   follow [] g e u q v i o r f = go (decide (eqb (ownerOf (u .means)) g))
     where
@@ -391,7 +392,7 @@ module _ {s : Sheet} (ok : Fits s) where
       n = place (eqb (ownerOf (u .means))) (g′ ∷ rest)
 
       go : T (eqb (ownerOf (u .means)) g) ⊎ T (not (eqb (ownerOf (u .means)) g))
-          → ((w : Use) → Mem w (uses s (history s)) → T (isVariable (w .means)) → Mem g′ (w .funs) → Mem (ownerOf (w .means)) (g′ ∷ rest) → (l : ℕ) → functionOf s l ≡ g′
+          → ((w : Use) → Mem w (uses s (history O s)) → T (isVariable (w .means)) → Mem g′ (w .funs) → Mem (ownerOf (w .means)) (g′ ∷ rest) → (l : ℕ) → functionOf s l ≡ g′
           → Leads l g′ w (place (eqb (ownerOf (w .means))) (g′ ∷ rest)))
           → Leads r g u (place (eqb (ownerOf (u .means))) (g ∷ g′ ∷ rest))
       go (inl t) below = subst (λ (k : ℕ). Leads r g u k) (sym (if-true (eqb (ownerOf (u .means)) g) 0 (suc n) t)) (follow-here r g u v t)

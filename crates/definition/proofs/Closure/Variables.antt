@@ -7,6 +7,7 @@ use native.Mathlib.Omega.{arith}
 use lib.Dec.{eqb, T, T-not, eqb→eq}
 use Rattle.definition.specs.Basics.{if_then_else_, head}
 use Rattle.definition.specs.Sheet.{Sheet, b, rows, kids, is, functionsOf}
+use Rattle.definition.specs.Outside.{Outside}
 use Rattle.definition.specs.Meaning.{Meaning, variable, rowOf, ownerOf, isVariable}
 use Rattle.definition.specs.Walk.{Event, declare}
 use Rattle.definition.specs.Scope.{Stack, Moment, Entry, scope, looping, bound, find, top, around, history, declares, declared, within}
@@ -28,8 +29,8 @@ pub data Kind-of (s : Sheet) (x f : ℕ) : Type 0 where
   parameter : T (is s 11 x) → Mem x (kids s f) → Kind-of s x f
   local : T (is s 29 x) → Kind-of s x f
 
-pub record Variable (s : Sheet) (d : Meaning) (st : Stack) : Type 0 where
-  pub declaring : Declares s (history s) d st
+pub record Variable (O : Outside) (s : Sheet) (d : Meaning) (st : Stack) : Type 0 where
+  pub declaring : Declares s (history O s) d st
   pub around-is : functionsOf s (rowOf d) ≡ around s st
   pub owner-is : ownerOf d ≡ head (around s st)
   pub some-around : around s st ≡ [] → ⊥
@@ -38,11 +39,11 @@ pub record Variable (s : Sheet) (d : Meaning) (st : Stack) : Type 0 where
   pub in-range : rowOf d < rows s
   pub row-not-zero : rowOf d ≡ 0 → ⊥
 
-module _ {s : Sheet} (ok : Fits s) where
+module _ {O : Outside} {s : Sheet} (ok : Fits O s) where
   head-some : (l : List ℕ) → T (is s 6 (head l)) → l ≡ [] → ⊥
   head-some l h e = is-not-zero ok 6 tt (subst (λ (k : List ℕ). T (is s 6 (head k))) e h)
 
-  variable-of : (d : Meaning) (st : Stack) → T (isVariable d) → Declares s (history s) d st → Variable s d st
+  variable-of : (d : Meaning) (st : Stack) → T (isVariable d) → Declares s (history O s) d st → Variable O s d st
   variable-of d st v r = go (t .2)
     where
       m : Moment
@@ -66,7 +67,7 @@ module _ {s : Sheet} (ok : Fits s) where
       t : (around s (m .stack) ≡ functionsOf s x) × (x < rows s) × Declarer s (around s (m .stack)) x
       t = told-declare (subst (λ (e : Event). Told s (around s (m .stack)) e) (r .event-is) (told ok m (r .among)))
 
-      make : (around s (m .stack) ≡ [] → ⊥) → Kind-of s x f → (b s f ≡ 1 → ⊥) → (x ≡ 0 → ⊥) → Variable s d st
+      make : (around s (m .stack) ≡ [] → ⊥) → Kind-of s x f → (b s f ≡ 1 → ⊥) → (x ≡ 0 → ⊥) → Variable O s d st
       make some k n z =
           record {
             declaring = r;
@@ -79,20 +80,20 @@ module _ {s : Sheet} (ok : Fits s) where
             row-not-zero = z;
           }
 
-      go : Declarer s (around s (m .stack)) x → Variable s d st
+      go : Declarer s (around s (m .stack)) x → Variable O s d st
       go (a-class h) = absurd (T-not (is s 4 x) (mine .1) h)
       go (a-parameter h i l q) = make (head-some (around s (m .stack)) i) (parameter h q) (λ e. ok .no-parameters f x l i e q h) (kind-not-zero ok 11 x tt h)
       go (a-let h n) = make n (local h) (λ e. T-not (is s 29 x && eqb (b s f) 1) (mine .2) (and-both (is s 29 x) (eqb (b s f) 1) h (eqb-of (b s f) 1 e))) (kind-not-zero ok 29 x tt h)
 
   -- each open variable
-  pub open-variable : (m : Moment) → Mem m (history s) → (i n : ℕ) (d : Meaning) (st : Stack) → OpenAt (m .stack) i n d st → T (isVariable d) → Variable s d st
-  open-variable m q i n d st p v = variable-of d st v (earlier s m q i n d st p v)
+  pub open-variable : (m : Moment) → Mem m (history O s) → (i n : ℕ) (d : Meaning) (st : Stack) → OpenAt (m .stack) i n d st → T (isVariable d) → Variable O s d st
+  open-variable m q i n d st p v = variable-of d st v (earlier (ok .outside) s m q i n d st p v)
 
   -- the row tells the variable, and what was open before it
-  pub variable-same : (d e : Meaning) (st st′ : Stack) → Variable s d st → Variable s e st′ → rowOf d ≡ rowOf e → (d ≡ e) × (st ≡ st′)
+  pub variable-same : (d e : Meaning) (st st′ : Stack) → Variable O s d st → Variable O s e st′ → rowOf d ≡ rowOf e → (d ≡ e) × (st ≡ st′)
   variable-same d e st st′ x y q =
-      let p : Declares s (history s) d st = x .declaring in
-      let r : Declares s (history s) e st′ = y .declaring in
+      let p : Declares s (history O s) d st = x .declaring in
+      let r : Declares s (history O s) e st′ = y .declaring in
       let w : p .moment ≡ r .moment =
       one-declaring ok (p .moment) (r .moment) (λ f. x .row-not-zero (sym (ap declares (p .event-is)) ∙ f)) (p .among) (r .among) (ap declares (p .event-is) ∙ q ∙ sym (ap declares (r .event-is))) in (
         sym (p .decl-is) ∙ ap (λ (k : ℕ). declared s k (within s (p .moment))) q

@@ -8,6 +8,7 @@ use native.Mathlib.Omega.{arith}
 use lib.Dec.{eqb, leb, T, T-not, not-T, eqb-refl, eqb→eq, leb→le}
 use Rattle.definition.specs.Basics.{if_then_else_, head}
 use Rattle.definition.specs.Sheet.{Sheet, kind, next, child, a, b, rows, chain, kids, is, holder, liesIn, climb, functionsOf}
+use Rattle.definition.specs.Outside.{Outside}
 use Rattle.definition.specs.Walk.{parts, isPart}
 use Rattle.definition.specs.Capture.{beyond}
 use Rattle.definition.specs.Bounds.{walked}
@@ -22,7 +23,7 @@ use Rattle.definition.proofs.Walk.Walked.{found, walked-up}
 abbrev pub inner : Sheet → ℕ → List ℕ
 inner s p = if is s 6 p then p ∷ functionsOf s p else functionsOf s p
 
-module _ {s : Sheet} (ok : Fits s) where
+module _ {O : Outside} {s : Sheet} (ok : Fits O s) where
   climb-step : (n k p : ℕ) → liesIn s k ≡ p → climb (suc n) s k ≡ (if is s 6 p then p ∷ climb n s p else climb n s p)
   climb-step n k p e = ap (λ (q : ℕ). if is s 6 q then q ∷ climb n s q else climb n s q) e
 
@@ -53,7 +54,7 @@ pub record PartOf (s : Sheet) (x : ℕ) : Type 0 where
   pub not-class : T (not (is s 4 whole))
   pub around : functionsOf s x ≡ inner s whole
 
-module _ {s : Sheet} (ok : Fits s) where
+module _ {O : Outside} {s : Sheet} (ok : Fits O s) where
   pub part-of : (x : ℕ) → Walks s x → (x ≡ 0) ⊎ PartOf s x
   part-of x m = go (walked-up ok (rows s) 0 x m)
     where
@@ -227,7 +228,7 @@ pub record Literal (s : Sheet) (g : ℕ) : Type 0 where
   pub function-is : g ≡ child s literal
   pub around-is : functionsOf s g ≡ functionsOf s literal
 
-module _ {s : Sheet} (ok : Fits s) where
+module _ {O : Outside} {s : Sheet} (ok : Fits O s) where
   pub only-child : (n x k : ℕ) → next s x ≡ 0 → Mem k (chain n s x) → k ≡ x
   only-child zero x k e m = absurd (List·Memᴰ·not-nil m)
   only-child (suc n) zero k e m = absurd (List·Memᴰ·not-nil m)

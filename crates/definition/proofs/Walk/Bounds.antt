@@ -9,6 +9,7 @@ use lib.ListN.{length}
 use lib.Dec.{eqb, T, T-not, eqb-refl, eqb→eq}
 use Rattle.definition.specs.Basics.{if_then_else_, filter, concatMap, bit, count, total}
 use Rattle.definition.specs.Sheet.{Sheet, rows, is, kids, kidsOf, child}
+use Rattle.definition.specs.Outside.{Outside}
 use Rattle.definition.specs.Walk.{Event, enter, leave, loop, declare, bring, visit, imports, literalLet, before, after, afterPart, parts, each, walk}
 use Rattle.definition.specs.Scope.{start, declares, around}
 use Rattle.definition.specs.Bounds.{WalkBounds, own, isVisit, isEnter, isDeclare, walked}
@@ -121,7 +122,7 @@ nodup-once x (nodup-one {x = y} {xs = ys} h n) = go (decide (eqb x y)) (nodup-on
     go (inl t) l = omega (arith, bit-le (eqb x y), absent-once x ys (λ m. h (Memᴰ·cast (sym (eqb→eq x y t)) m)))
     go (inr t) l = omega (arith, bit-not (eqb x y) (T-not (eqb x y) t))
 
-module _ {s : Sheet} (ok : Fits s) where
+module _ {O : Outside} {s : Sheet} (ok : Fits O s) where
   pub visits-bound : count isVisit (walk s) ≤ rows s
   visits-bound =
       omega (
@@ -146,7 +147,7 @@ module _ {s : Sheet} (ok : Fits s) where
   declared-row x m =
       let q = map-mem declares x (filter isDeclare (walk s)) m in
       let f = filter-mem isDeclare (q .0) (walk s) (q .1) in
-      let k = mem-moments s start (q .0) (walk s) (f .0) in
+      let k = mem-moments s (start O) (q .0) (walk s) (f .0) in
       let e : k .0 .event ≡ declare x = k .2 ∙ is-declare (q .0) (f .1) ∙ ap declare (sym (q .2)) in
       declarer-row (subst (λ (v : Event). Told s (around s (k .0 .stack)) v) e (told ok (k .0) (k .1)))
 
@@ -164,7 +165,7 @@ module _ {s : Sheet} (ok : Fits s) where
   once r = nodup-once r (walked-nodup ok (rows s) 0 (reached-root ok))
 
 -- The bounds of every sheet that fits.
-pub walk-bounds : {s : Sheet} → Fits s → WalkBounds s
+pub walk-bounds : {O : Outside} {s : Sheet} → Fits O s → WalkBounds s
 walk-bounds {s} ok =
     record {
       at-rows = λ p. count-trace p (rows s) s 0;

@@ -9,6 +9,7 @@ use native.Mathlib.Nat.{le-refl}
 use lib.Dec.{eqb, T, T-not, not-T, eqb-refl, eqb→eq, eqb·suc-zero}
 use Rattle.definition.specs.Basics.{if_then_else_, filter, final, concatMap, bit, _∈?_, count, total}
 use Rattle.definition.specs.Sheet.{Sheet, kind, child, b, rows, kids, is, kidsOf, holder}
+use Rattle.definition.specs.Outside.{Outside}
 use Rattle.definition.specs.Meaning.{Meaning}
 use Rattle.definition.specs.Walk.{Event, enter, leave, loop, declare, bring, visit, imports, seen, literalLet, before, after, afterPart, parts, each, trace, walk}
 use Rattle.definition.specs.Scope.{Stack, Moment, step, moments, history, start, visited, declares, visitOf}
@@ -209,7 +210,7 @@ module _ (s : Sheet) (x : ℕ) (z : x ≡ 0 → ⊥) where
   bit-yes true h = refl
   bit-yes false h = absurd h
 
-  declare-kids : (ok : Fits s) (r : ℕ) (q : ℕ → Bool) → r < rows s → (T (q x) → T (not ownLet)) → count isDeclareOf (map declare (filter q (kids s r))) ≤ bit (eqb r home)
+  declare-kids : {O : Outside} (ok : Fits O s) (r : ℕ) (q : ℕ → Bool) → r < rows s → (T (q x) → T (not ownLet)) → count isDeclareOf (map declare (filter q (kids s r))) ≤ bit (eqb r home)
   declare-kids ok r q l f = go (decide (x ∈? filter q (kids s r)))
     where
       go : T (x ∈? filter q (kids s r)) ⊎ T (not (x ∈? filter q (kids s r))) → count isDeclareOf (map declare (filter q (kids s r))) ≤ bit (eqb r home)
@@ -271,7 +272,7 @@ module _ (s : Sheet) (x : ℕ) (z : x ≡ 0 → ⊥) where
   no-own-literal : T (literalLet s x) → T (not ownLet)
   no-own-literal h = not-T ownLet (λ t. T-not (is s 52 (child s x)) (and-right (is s 29 x) (not (is s 52 (child s x))) t) (and-right (is s 29 x) (is s 52 (child s x)) h))
 
-  pub declare-own : (ok : Fits s) (r : ℕ) → r < rows s → count isDeclareOf (own s r) ≤ bit (eqb r home)
+  pub declare-own : {O : Outside} (ok : Fits O s) (r : ℕ) → r < rows s → count isDeclareOf (own s r) ≤ bit (eqb r home)
   declare-own ok r l =
       let e : count isDeclareOf (before s r) ≤ (if is s 2 r || is s 6 r || is s 25 r then bit (eqb r home) else 0) =
       declare-before r (bit (eqb r home)) (is s 2 r) (is s 6 r) (is s 25 r) (is s 27 r) (is s 30 r)
@@ -314,7 +315,7 @@ only-visits : (x : ℕ) → (x ≡ 0 → ⊥) → OnlyVisits (λ e. eqb (visited
 only-visits x z =
     record { enters = λ r. not-zero x z; leaves = not-zero x z; loops = not-zero x z; declares = λ r. not-zero x z; brings = λ r n d. not-zero x z }
 
-module _ {s : Sheet} (ok : Fits s) where
+module _ {O : Outside} {s : Sheet} (ok : Fits O s) where
   -- row x is visited at most once, and declares at most once
   pub visits-once : (x : ℕ) → (x ≡ 0 → ⊥) → count (λ e. eqb (visited e) x) (walk s) ≤ 1
   visits-once x z =
@@ -333,22 +334,22 @@ module _ {s : Sheet} (ok : Fits s) where
             (λ y m. declare-own s x z ok y (found ok (rows s) 0 y (reached-root ok) m .reached .in-range)),
       )
 
-  pub declarings-of : (m : Moment) → Mem m (history s) → (declares (m .event) ≡ 0 → ⊥) → filter (λ k. eqb (declares (k .event)) (declares (m .event))) (history s) ≡ m ∷ []
+  pub declarings-of : (m : Moment) → Mem m (history O s) → (declares (m .event) ≡ 0 → ⊥) → filter (λ k. eqb (declares (k .event)) (declares (m .event))) (history O s) ≡ m ∷ []
   declarings-of m p z =
       let x : ℕ = declares (m .event) in
-      filter-one (λ k. eqb (declares (k .event)) x) m (history s) (eqb-refl x) p (omega (arith, count-moments (λ e. eqb (declares e) x) s start (walk s), declares-once x z))
+      filter-one (λ k. eqb (declares (k .event)) x) m (history O s) (eqb-refl x) p (omega (arith, count-moments (λ e. eqb (declares e) x) s (start O) (walk s), declares-once x z))
 
-  pub one-declaring : (m m′ : Moment) → (declares (m .event) ≡ 0 → ⊥) → Mem m (history s) → Mem m′ (history s) → declares (m .event) ≡ declares (m′ .event) → m ≡ m′
+  pub one-declaring : (m m′ : Moment) → (declares (m .event) ≡ 0 → ⊥) → Mem m (history O s) → Mem m′ (history O s) → declares (m .event) ≡ declares (m′ .event) → m ≡ m′
   one-declaring m m′ z p q e =
       let x : ℕ = declares (m .event) in
-      count-same (λ k. eqb (declares (k .event)) x) m m′ (history s) (eqb-refl x) (eqb-of (declares (m′ .event)) x (sym e)) p q
-      (omega (arith, count-moments (λ e. eqb (declares e) x) s start (walk s), declares-once x z))
+      count-same (λ k. eqb (declares (k .event)) x) m m′ (history O s) (eqb-refl x) (eqb-of (declares (m′ .event)) x (sym e)) p q
+      (omega (arith, count-moments (λ e. eqb (declares e) x) s (start O) (walk s), declares-once x z))
 
   -- so the moment of a visit is the one of its row
-  pub visits-of : (m : Moment) → Mem m (history s) → (visited (m .event) ≡ 0 → ⊥) → filter (λ k. eqb (visited (k .event)) (visited (m .event))) (history s) ≡ m ∷ []
+  pub visits-of : (m : Moment) → Mem m (history O s) → (visited (m .event) ≡ 0 → ⊥) → filter (λ k. eqb (visited (k .event)) (visited (m .event))) (history O s) ≡ m ∷ []
   visits-of m p z =
       let x : ℕ = visited (m .event) in
-      filter-one (λ k. eqb (visited (k .event)) x) m (history s) (eqb-refl x) p (omega (arith, count-moments (λ e. eqb (visited e) x) s start (walk s), visits-once x z))
+      filter-one (λ k. eqb (visited (k .event)) x) m (history O s) (eqb-refl x) p (omega (arith, count-moments (λ e. eqb (visited e) x) s (start O) (walk s), visits-once x z))
 
-  pub visit-of : (m : Moment) → Mem m (history s) → (visited (m .event) ≡ 0 → ⊥) → visitOf (history s) (visited (m .event)) ≡ m ∷ []
+  pub visit-of : (m : Moment) → Mem m (history O s) → (visited (m .event) ≡ 0 → ⊥) → visitOf (history O s) (visited (m .event)) ≡ m ∷ []
   visit-of m p z = ap final (visits-of m p z)

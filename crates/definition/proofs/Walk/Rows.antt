@@ -8,6 +8,7 @@ use native.Mathlib.Omega.{arith}
 use lib.Dec.{eqb, leb, T, T-not, not-T, eqb→eq, leb→le}
 use Rattle.definition.specs.Basics.{if_then_else_, first, from}
 use Rattle.definition.specs.Sheet.{Sheet, kind, next, child, a, rows, chain, kids, is, holder, liesIn}
+use Rattle.definition.specs.Outside.{Outside}
 use Rattle.definition.specs.Walk.{parts, isPart}
 use Rattle.definition.proofs.Lists.Tests.{and-both, and-left, and-right, or-cases, eqb-of, if-true, if-false, kind-apart}
 use Rattle.definition.proofs.Lists.Members.{Nodup, nodup-none, nodup-one, nodup-filter, filter-mem, first-found, mem-test, from-mem, mem-from}
@@ -26,7 +27,7 @@ chain-start zero s x k m e = List·Memᴰ·not-nil m
 chain-start (suc n) s zero k m e = List·Memᴰ·not-nil m
 chain-start (suc n) s (suc x) k m e = omega arith
 
-module _ {s : Sheet} (ok : Fits s) where
+module _ {O : Outside} {s : Sheet} (ok : Fits O s) where
   pub kids-row : (p k : ℕ) → p < rows s → Mem k (kids s p) → k < rows s
   kids-row p k l m = kid-bounds s (ok .links) p k l (mem-test k (kids s p) m) .1
 
@@ -88,7 +89,7 @@ pub record Reached (s : Sheet) (n r : ℕ) : Type 0 where
   pub in-range : r < rows s
   pub walkable : (r ≡ 0) ⊎ T (isPart s r)
 
-module _ {s : Sheet} (ok : Fits s) where
+module _ {O : Outside} {s : Sheet} (ok : Fits O s) where
   pub reached-root : Reached s 0 0
   reached-root = record { deep = root; in-range = ok .some-row; walkable = inl refl }
 

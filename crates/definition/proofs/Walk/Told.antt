@@ -7,11 +7,12 @@ use native.Mathlib.Omega.{arith}
 use lib.Dec.{eqb, leb, T, not-T, eqb→eq}
 use Rattle.definition.specs.Basics.{if_then_else_, filter, head}
 use Rattle.definition.specs.Sheet.{Sheet, kind, child, rows, kids, is, kidsOf, functionsOf}
+use Rattle.definition.specs.Outside.{Outside}
 use Rattle.definition.specs.Meaning.{Meaning}
 use Rattle.definition.specs.Walk.{Event, enter, leave, loop, declare, bring, visit, literalLet, afterPart, parts, each, trace}
 use Rattle.definition.specs.Scope.{Stack, Moment, around, step, run, moments, history, start}
 use Rattle.definition.specs.Bounds.{walked}
-use Rattle.definition.proofs.Walk.Moments.{moments-append}
+use Rattle.definition.proofs.Walk.Moments.{moments-append, around-names}
 use Rattle.definition.proofs.Walk.Balance.{Flat, none, a-loop, a-name, an-import, a-visit, flat-append, flat-declares, flat-imports, flat-if, around-grown, Keeps, keeps-append, keeps-flat, keeps-each, keeps-trace}
 use Rattle.definition.proofs.Lists.Tests.{and-left, if-true, if-false, kind-apart}
 use Rattle.definition.proofs.Lists.Members.{mem-concatMap, Every, every-none, every-one, every-append, every-mem, filter-mem}
@@ -126,7 +127,7 @@ every-declares : {P : Event → Type 0} (ks : List ℕ) → ((k : ℕ) → Mem k
 every-declares [] f = every-none
 every-declares (k ∷ ks) f = every-one (f k (here refl)) (every-declares ks (λ j m. f j (there m)))
 
-module _ {s : Sheet} (ok : Fits s) where
+module _ {O : Outside} {s : Sheet} (ok : Fits O s) where
   -- the functions around a child or a part
   kid-around : {n r : ℕ} (k : ℕ) → Reached s n r → suc n ≤ rows s → Mem k (kids s r) → inner s r ≡ functionsOf s k
   kid-around {n} {r} k w h m = sym (functions-step ok k r (w .deep) h (chain-nonzero (rows s) s (child s r) k m) (lies-in-reached ok k w m))
@@ -175,6 +176,6 @@ module _ {s : Sheet} (ok : Fits s) where
           a-parameter e (subst (λ (q : ℕ). T (is s 6 q)) (sym i) t) (subst (λ (q : ℕ). q < rows s) (sym i) (w .in-range)) (subst (λ (q : ℕ). Mem k (kids s q)) (sym i) m)
 
   -- every moment of the walk is so
-  pub told : (m : Moment) → Mem m (history s) → ToldAt s m
+  pub told : (m : Moment) → Mem m (history O s) → ToldAt s m
   unfolding Settled
-  told m q = every-mem (settled-trace (rows s) 0 0 (reached-root ok) (omega arith) (λ x p. p) start (sym (functions-zero ok))) q
+  told m q = every-mem (settled-trace (rows s) 0 0 (reached-root ok) (omega arith) (λ x p. p) (start O) (around-names s (O .names) ∙ sym (functions-zero ok))) q

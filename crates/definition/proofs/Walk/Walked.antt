@@ -7,6 +7,7 @@ use native.Mathlib.Omega.{arith}
 use lib.ListN.{length}
 use Rattle.definition.specs.Basics.{concatMap}
 use Rattle.definition.specs.Sheet.{Sheet, rows, liesIn}
+use Rattle.definition.specs.Outside.{Outside}
 use Rattle.definition.specs.Walk.{parts}
 use Rattle.definition.specs.Bounds.{walked}
 use Rattle.definition.proofs.Lists.Members.{Nodup, nodup-none, nodup-one, nodup-append, mem-concatMap, concatMap-mem, pigeonhole}
@@ -33,7 +34,7 @@ pub record Found (s : Sheet) (d n r x : ℕ) : Type 0 where
   pub reached : Reached s (by + n) x
   pub under : Under s r by x
 
-module _ {s : Sheet} (ok : Fits s) where
+module _ {O : Outside} {s : Sheet} (ok : Fits O s) where
   pub found : (d : ℕ) {n : ℕ} (r x : ℕ) → Reached s n r → Mem x (walked d s r) → Found s d n r x
   found zero r x w m = absurd (List·Memᴰ·not-nil m)
   found (suc d) {n} r x w (here e) =

@@ -9,6 +9,7 @@ use lib.ListN.{length}
 use lib.Dec.{leb, T, T-not, not-T, eqb→eq, leb→le}
 use Rattle.definition.specs.Basics.{if_then_else_, head}
 use Rattle.definition.specs.Sheet.{Sheet, kind, a, b, rows, chain, kids, is, holder, liesIn, climb}
+use Rattle.definition.specs.Outside.{Outside}
 use Rattle.definition.specs.Walk.{parts, isPart}
 use Rattle.definition.specs.Bounds.{walked}
 use Rattle.definition.proofs.Lists.Tests.{or-cases, or-left, or-right, decide, if-true, if-false, kind-apart}
@@ -25,7 +26,7 @@ data Line (s : Sheet) : ℕ → ℕ → Type 0 where
 abbrev Lined : Sheet → ℕ → Type 0
 Lined s x = (n : ℕ) × Line s n x
 
-module _ {s : Sheet} (ok : Fits s) where
+module _ {O : Outside} {s : Sheet} (ok : Fits O s) where
   -- every row but 0 is a child of a lower row
   held-by : (r : ℕ) → r < rows s → (r ≡ 0 → ⊥) → (p : ℕ) × (p < r) × (p < rows s) × Mem r (kids s p)
   held-by r l z =

@@ -5,7 +5,7 @@ use native.Mathlib.Omega.{arith}
 use lib.ListN.{length, drop}
 use Rattle.resolve_syms.specs.Prepared.{coreClass}
 use Rattle.definition.specs.Meaning.{class}
-use Rattle.definition.specs.Outside.{outermost}
+use Rattle.definition.specs.Outside.{core}
 use Rattle.machine.specs.Machine.{noScopes, openNames}
 use Rattle.symbols.specs.OpenScopes.{scopesOf}
 use Rattle.resolve_syms.proofs.StartLaws.{core-step}
@@ -13,7 +13,7 @@ use Rattle.resolve_syms.proofs.open_core.Statement.{statement}
 use Rattle.resolve_syms.proofs.open_core.Tie as tie
 
 abbrev Inv-loop : tie.InvT-loop
-Inv-loop s v₀ globals e₀ m₀ v e m = (scopesOf e v ≡ openNames s (drop m outermost) (noScopes s v₀)) × (m ≤ 9) × (length v ≡ length v₀)
+Inv-loop s v₀ globals e₀ m₀ v e m = (scopesOf e v ≡ openNames s (drop m (core .names)) (noScopes s v₀)) × (m ≤ 9) × (length v ≡ length v₀)
 
 abbrev μ-loop : tie.MeasureT-loop
 μ-loop s v₀ globals e₀ m₀ v e m = m
@@ -43,7 +43,7 @@ same-length : tie.Need-same-length Inv-loop μ-loop
 same-length c = c .before .loop .inv .2
 
 returns : tie.Need-returns Inv-loop μ-loop
-returns c = let z : c .before .loop .m ≡ 0 = omega (arith, c .loop-test .left) in c .before .loop .inv .0 ∙ ap (λ (k : ℕ). openNames (c .before .before .before .before .before .args .s .now) (drop k outermost) (noScopes (c .before .before .before .before .before .args .s .now) (c .before .before .before .before .before .args .v .now))) z
+returns c = let z : c .before .loop .m ≡ 0 = omega (arith, c .loop-test .left) in c .before .loop .inv .0 ∙ ap (λ (k : ℕ). openNames (c .before .before .before .before .before .args .s .now) (drop k (core .names)) (noScopes (c .before .before .before .before .before .args .s .now) (c .before .before .before .before .before .args .v .now))) z
 
 pub open-core-spec : {M : Type 1} → statement M
 open-core-spec =

@@ -3,6 +3,7 @@ use Rattle.resolve_syms.proofs.StartLaws.{units-walked, sheet-small, so
 use borrow.Author.Needs.{needs}
 use Rattle.resolve_syms.proofs.resolve_units.Statement.{statement}
 use Rattle.resolve_syms.proofs.resolve_units.Tie as tie
+use Rattle.definition.specs.Outside.{core}
 
 class-table-requires : tie.Need-class-table-requires
 class-table-requires c κs = search needs
@@ -11,10 +12,10 @@ open-core-requires : tie.Need-open-core-requires
 open-core-requires c κs = search needs
 
 sub-resolve-parts : tie.Need-sub-resolve-parts
-sub-resolve-parts c = omega (arith, some-rows (c .before .before .before .before .before .before .before .before .before .before .before .before .before .before .args .s .now) (c .before .before .before .before .before .before .before .before .before .before .before .before .before .before .pre .0))
+sub-resolve-parts c = omega (arith, some-rows core (c .before .before .before .before .before .before .before .before .before .before .before .before .before .before .args .s .now) (c .before .before .before .before .before .before .before .before .before .before .before .before .before .before .pre .0))
 
 resolve-parts-requires : tie.Need-resolve-parts-requires
-resolve-parts-requires c κs = record { small = sheet-small (c .before .before .before .before .before .before .before .before .before .before .before .before .before .before .before .before .before .args .s .now) (c .before .before .before .before .before .before .before .before .before .before .before .before .before .before .before .before .before .pre .0); classes = c .before .before .before .before .before .before .before .before .before .before .class-table .ensures }
+resolve-parts-requires c κs = record { small = sheet-small core (c .before .before .before .before .before .before .before .before .before .before .before .before .before .before .before .before .before .args .s .now) (c .before .before .before .before .before .before .before .before .before .before .before .before .before .before .before .before .before .pre .0); classes = c .before .before .before .before .before .before .before .before .before .before .class-table .ensures }
 
 same-length : tie.Need-same-length
 same-length c = search needs

@@ -18,7 +18,7 @@ assign-member-requires : tie.Need-assign-member-requires
 assign-member-requires c κs = (c .before .before .before .before .before .before .before .before .before .before .pre .0, c .before .before .before .before .before .before .before .before .before .before .pre .1, rw (← c .before .before .before .before .word .ensures) (sym (c .before .before .before .word2 .ensures) ∙ c .before .before .match .keys2))
 
 returns : tie.Need-returns
-returns c = c .assign-name .ensures _ _
+returns c = λ O. c .assign-name .ensures O _ _
 
 same-length : tie.Need-same-length
 same-length c = search needs
@@ -27,10 +27,10 @@ same-length-2 : tie.Need-same-length-2
 same-length-2 c = search needs
 
 returns-2 : tie.Need-returns-2
-returns-2 c = c .before .before .before .before .assign-member .ensures _
+returns-2 c = λ O. c .before .before .before .before .assign-member .ensures O _
 
 returns-3 : tie.Need-returns-3
-returns-3 c = assign-other (c .before .before .before .before .before .before .before .before .args .s .now) (c .before .before .before .before .before .before .before .before .args .r) (stateOf (c .before .before .before .before .before .before .before .before .args .w) (c .before .before .before .before .before .before .before .before .args .v .now) (c .before .before .before .before .before .before .before .before .args .t .now) (c .before .before .before .before .before .before .before .before .args .q .now)) (c .before .before .before .before .before .before .before .before .pre .1) (rw (← c .before .before .word .ensures) (λ e. c .match .rest .0 .1 (c .before .word2 .ensures ∙ e))) (rw (← c .before .before .word .ensures) (λ e. c .match .rest .1 (c .before .word2 .ensures ∙ e)))
+returns-3 c = λ O. assign-other O (c .before .before .before .before .before .before .before .before .args .s .now) (c .before .before .before .before .before .before .before .before .args .r) (stateOf (c .before .before .before .before .before .before .before .before .args .w) (c .before .before .before .before .before .before .before .before .args .v .now) (c .before .before .before .before .before .before .before .before .args .t .now) (c .before .before .before .before .before .before .before .before .args .q .now)) (c .before .before .before .before .before .before .before .before .pre .1) (rw (← c .before .before .word .ensures) (λ e. c .match .rest .0 .1 (c .before .word2 .ensures ∙ e))) (rw (← c .before .before .word .ensures) (λ e. c .match .rest .1 (c .before .word2 .ensures ∙ e)))
 
 pub check-assign-spec : {M : Type 1} → statement M
 check-assign-spec =

@@ -10,7 +10,7 @@ use Rattle.walk.proofs.declare.declare.Statement.{statement}
 use Rattle.walk.proofs.declare.declare.Tie as tie
 
 returns : tie.Need-returns
-returns c = λ q. idle (c .before .before .before .before .before .args .s .now) (declare (c .before .before .before .before .before .args .r)) (stateOf (c .before .before .before .before .before .args .w) (c .before .before .before .before .before .args .v .now) (c .before .before .before .before .before .args .t .now) q) (c .if1 .taken)
+returns c = λ O q. idle O (c .before .before .before .before .before .args .s .now) (declare (c .before .before .before .before .before .args .r)) (stateOf (c .before .before .before .before .before .args .w) (c .before .before .before .before .before .args .v .now) (c .before .before .before .before .before .args .t .now) q) (c .if1 .taken)
 
 word-requires : tie.Need-word-requires
 word-requires c κs = search needs
@@ -28,7 +28,7 @@ same-length : tie.Need-same-length
 same-length c = search needs
 
 returns-2 : tie.Need-returns-2
-returns-2 c = λ q. declare-no (c .before .before .before .before .before .before .before .before .before .before .before .before .before .args .s .now) (c .before .before .before .before .before .before .before .before .before .before .before .before .before .args .r) (stateOf (c .before .before .before .before .before .before .before .before .before .before .before .before .before .args .w) (c .before .before .before .before .before .before .before .before .before .before .before .before .before .args .v .now) (c .before .before .before .before .before .before .before .before .before .before .before .before .before .args .t .now) q) (c .before .before .before .before .before .before .before .before .if1 .left) _ (c .before .before .before .before .before .word .ensures) _ (c .before .declare-question .ensures) (sym (c .before .before .before .has-local .ensures) ∙ c .before .before .if2 .taken) (c .refuse .ensures (c .before .before .before .before .before .before .before .before .before .before .before .before .before .args .v .now) (c .before .before .before .before .before .before .before .before .before .before .before .before .before .args .t .now) q)
+returns-2 c = λ O q. declare-no O (c .before .before .before .before .before .before .before .before .before .before .before .before .before .args .s .now) (c .before .before .before .before .before .before .before .before .before .before .before .before .before .args .r) (stateOf (c .before .before .before .before .before .before .before .before .before .before .before .before .before .args .w) (c .before .before .before .before .before .before .before .before .before .before .before .before .before .args .v .now) (c .before .before .before .before .before .before .before .before .before .before .before .before .before .args .t .now) q) (c .before .before .before .before .before .before .before .before .if1 .left) _ (c .before .before .before .before .before .word .ensures) _ (c .before .declare-question .ensures) (sym (c .before .before .before .has-local .ensures) ∙ c .before .before .if2 .taken) (c .refuse .ensures (c .before .before .before .before .before .before .before .before .before .before .before .before .before .args .v .now) (c .before .before .before .before .before .before .before .before .before .before .before .before .before .args .t .now) q)
 
 declared-by-requires : tie.Need-declared-by-requires
 declared-by-requires c κs = search needs
@@ -46,7 +46,7 @@ same-length-3 : tie.Need-same-length-3
 same-length-3 c = search needs
 
 returns-3 : tie.Need-returns-3
-returns-3 c = λ q. declare-yes (c .before .before .before .before .before .before .before .before .before .before .before .before .before .before .before .before .before .before .before .before .args .s .now) (c .before .before .before .before .before .before .before .before .before .before .before .before .before .before .before .before .before .before .before .before .args .r) (stateOf (c .before .before .before .before .before .before .before .before .before .before .before .before .before .before .before .before .before .before .before .before .args .w) (c .before .before .before .before .before .before .before .before .before .before .before .before .before .before .before .before .before .before .before .before .args .v .now) (c .before .before .before .before .before .before .before .before .before .before .before .before .before .before .before .before .before .before .before .before .args .t .now) q) (c .before .before .before .before .before .before .before .before .before .before .before .before .before .before .before .if1 .left) _ (c .before .before .before .before .before .before .before .before .before .before .before .before .word .ensures) (sym (c .before .before .before .before .before .before .before .before .before .before .has-local .ensures) ∙ c .before .before .before .before .before .before .before .before .before .if2 .left) (c .before .before .define .ensures (newMeaning (c .before .before .before .before .before .before .before .before .before .before .before .before .before .before .before .before .before .before .before .before .args .s .now) (c .before .before .before .before .before .before .before .before .before .before .before .before .before .before .before .before .before .before .before .before .args .r) (scopesOf (c .before .before .before .before .before .before .before .before .before .before .before .before .before .before .before .before .before .before .before .before .args .w .env) (c .before .before .before .before .before .before .before .before .before .before .before .before .before .before .before .before .before .before .before .before .args .v .now))) (c .before .before .before .before .before .before .before .before .declared-by .ensures (c .before .before .before .before .before .before .before .before .before .before .before .before .before .before .before .before .before .before .before .before .args .v .now))) (c .before .before .before .before .before .before .store-let .ensures (c .before .before .before .before .before .before .before .before .before .before .before .before .before .before .before .before .before .before .before .before .args .w .store) (c .before .before .before .before .before .before .before .before .before .before .before .before .before .before .before .before .before .before .before .before .args .v .now) q (c .before .before .before .before .before .before .before .before .declared-by .ensures (c .before .before .before .before .before .before .before .before .before .before .before .before .before .before .before .before .before .before .before .before .args .v .now)))
+returns-3 c = λ O q. declare-yes O (c .before .before .before .before .before .before .before .before .before .before .before .before .before .before .before .before .before .before .before .before .args .s .now) (c .before .before .before .before .before .before .before .before .before .before .before .before .before .before .before .before .before .before .before .before .args .r) (stateOf (c .before .before .before .before .before .before .before .before .before .before .before .before .before .before .before .before .before .before .before .before .args .w) (c .before .before .before .before .before .before .before .before .before .before .before .before .before .before .before .before .before .before .before .before .args .v .now) (c .before .before .before .before .before .before .before .before .before .before .before .before .before .before .before .before .before .before .before .before .args .t .now) q) (c .before .before .before .before .before .before .before .before .before .before .before .before .before .before .before .if1 .left) _ (c .before .before .before .before .before .before .before .before .before .before .before .before .word .ensures) (sym (c .before .before .before .before .before .before .before .before .before .before .has-local .ensures) ∙ c .before .before .before .before .before .before .before .before .before .if2 .left) (c .before .before .define .ensures (newMeaning (c .before .before .before .before .before .before .before .before .before .before .before .before .before .before .before .before .before .before .before .before .args .s .now) (c .before .before .before .before .before .before .before .before .before .before .before .before .before .before .before .before .before .before .before .before .args .r) (scopesOf (c .before .before .before .before .before .before .before .before .before .before .before .before .before .before .before .before .before .before .before .before .args .w .env) (c .before .before .before .before .before .before .before .before .before .before .before .before .before .before .before .before .before .before .before .before .args .v .now))) (c .before .before .before .before .before .before .before .before .declared-by .ensures (c .before .before .before .before .before .before .before .before .before .before .before .before .before .before .before .before .before .before .before .before .args .v .now))) (c .before .before .before .before .before .before .store-let .ensures O (c .before .before .before .before .before .before .before .before .before .before .before .before .before .before .before .before .before .before .before .before .args .w .store) (c .before .before .before .before .before .before .before .before .before .before .before .before .before .before .before .before .before .before .before .before .args .v .now) q (c .before .before .before .before .before .before .before .before .declared-by .ensures (c .before .before .before .before .before .before .before .before .before .before .before .before .before .before .before .before .before .before .before .before .args .v .now)))
 
 pub declare-spec : {M : Type 1} → statement M
 declare-spec =

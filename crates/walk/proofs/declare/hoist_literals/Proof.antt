@@ -4,6 +4,7 @@ use Rattle.machine.specs.Machine.{runState}
 use Rattle.definition.specs.Walk.{declare, literalLet}
 use Rattle.definition.specs.Sheet.{kids}
 use Rattle.definition.specs.Basics.{filter}
+use Rattle.definition.specs.Outside.{Outside}
 use lib.ListN.{length}
 use Prim.Native.Nat.{ℕ}
 use mathlib.Core.List.{List, map}
@@ -14,7 +15,7 @@ use Rattle.walk.proofs.declare.hoist_literals.Statement.{statement}
 use Rattle.walk.proofs.declare.hoist_literals.Tie as tie
 
 abbrev Inv-loop : tie.InvT-loop
-Inv-loop s r v₀ t₀ n₀ k₀ a₀ v t n k a = ((q : List ℕ) → declareEach s (literalLet s) n k (stateOf a v t q) ≡ runState s (map declare (filter (literalLet s) (kids s r))) (stateOf a₀ v₀ t₀ q)) × (length v ≡ length v₀) × (length t ≡ length t₀)
+Inv-loop s r v₀ t₀ n₀ k₀ a₀ v t n k a = ((O : Outside) (q : List ℕ) → declareEach O s (literalLet s) n k (stateOf a v t q) ≡ runState O s (map declare (filter (literalLet s) (kids s r))) (stateOf a₀ v₀ t₀ q)) × (length v ≡ length v₀) × (length t ≡ length t₀)
 
 abbrev μ-loop : tie.MeasureT-loop
 μ-loop s r v₀ t₀ n₀ k₀ a₀ v t n k a = n
@@ -23,7 +24,7 @@ word-requires : tie.Need-word-requires Inv-loop μ-loop
 word-requires c κs = search needs
 
 loop-holds : tie.Need-loop-holds Inv-loop μ-loop
-loop-holds c = ((λ q. each-start (c .before .before .before .before .args .s .now) (literalLet (c .before .before .before .before .args .s .now)) (c .before .before .before .before .args .r) _ _ (stateOf (c .before .before .before .before .args .w) (c .before .before .before .before .args .v .now) (c .before .before .before .before .args .t .now) q) (c .word .ensures) refl), refl, refl)
+loop-holds c = ((λ O q. each-start O (c .before .before .before .before .args .s .now) (literalLet (c .before .before .before .before .args .s .now)) (c .before .before .before .before .args .r) _ _ (stateOf (c .before .before .before .before .args .w) (c .before .before .before .before .args .v .now) (c .before .before .before .before .args .t .now) q) (c .word .ensures) refl), refl, refl)
 
 same-length : tie.Need-same-length Inv-loop μ-loop
 same-length c = c .before .before .loop .inv .1
@@ -32,7 +33,7 @@ same-length-2 : tie.Need-same-length-2 Inv-loop μ-loop
 same-length-2 c = c .before .before .loop .inv .2
 
 returns : tie.Need-returns Inv-loop μ-loop
-returns c = λ q. each-end (c .before .before .before .before .before .before .before .args .s .now) (literalLet (c .before .before .before .before .before .before .before .args .s .now)) (c .before .before .loop .n) (c .before .before .loop .k) (stateOf (c .before .before .loop .a) (c .before .before .loop .v) (c .before .before .loop .t) q) (c .if1 .taken) ∙ c .before .before .loop .inv .0 q
+returns c = λ O q. each-end O (c .before .before .before .before .before .before .before .args .s .now) (literalLet (c .before .before .before .before .before .before .before .args .s .now)) (c .before .before .loop .n) (c .before .before .loop .k) (stateOf (c .before .before .loop .a) (c .before .before .loop .v) (c .before .before .loop .t) q) (c .if1 .taken) ∙ c .before .before .loop .inv .0 O q
 
 declare-literal-requires : tie.Need-declare-literal-requires Inv-loop μ-loop
 declare-literal-requires c κs = search needs
@@ -47,7 +48,7 @@ loop-less : tie.Need-loop-less Inv-loop μ-loop
 loop-less c = omega (arith, c .before .before .before .before .before .before .before .before .before .loop-test .taken)
 
 loop-again : tie.Need-loop-again Inv-loop μ-loop
-loop-again c = ((λ q. each-more (c .before .before .before .before .before .before .before .before .before .before .before .before .before .before .before .args .s .now) (literalLet (c .before .before .before .before .before .before .before .before .before .before .before .before .before .before .before .args .s .now)) (c .before .before .before .before .before .before .before .before .before .before .loop .n) (c .before .before .before .before .before .before .before .before .before .before .loop .k) _ (stateOf (c .before .before .before .before .before .before .before .before .before .before .loop .a) (c .before .before .before .before .before .before .before .before .before .before .loop .v) (c .before .before .before .before .before .before .before .before .before .before .loop .t) q) _ (c .before .before .before .before .before .before .before .before .before .loop-test .taken) (c .before .before .before .before .before .before .before .before .if1 .left) (c .before .before .before .before .before .declare-literal .ensures q) (c .word2 .ensures) ∙ c .before .before .before .before .before .before .before .before .before .before .loop .inv .0 q), omega (arith, c .before .before .before .before .before .declare-literal .kept, c .before .before .before .before .before .before .before .before .before .before .loop .inv .1), omega (arith, c .before .before .before .before .before .declare-literal .kept, c .before .before .before .before .before .before .before .before .before .before .loop .inv .2))
+loop-again c = ((λ O q. each-more O (c .before .before .before .before .before .before .before .before .before .before .before .before .before .before .before .args .s .now) (literalLet (c .before .before .before .before .before .before .before .before .before .before .before .before .before .before .before .args .s .now)) (c .before .before .before .before .before .before .before .before .before .before .loop .n) (c .before .before .before .before .before .before .before .before .before .before .loop .k) _ (stateOf (c .before .before .before .before .before .before .before .before .before .before .loop .a) (c .before .before .before .before .before .before .before .before .before .before .loop .v) (c .before .before .before .before .before .before .before .before .before .before .loop .t) q) _ (c .before .before .before .before .before .before .before .before .before .loop-test .taken) (c .before .before .before .before .before .before .before .before .if1 .left) (c .before .before .before .before .before .declare-literal .ensures O q) (c .word2 .ensures) ∙ c .before .before .before .before .before .before .before .before .before .before .loop .inv .0 O q), omega (arith, c .before .before .before .before .before .declare-literal .kept, c .before .before .before .before .before .before .before .before .before .before .loop .inv .1), omega (arith, c .before .before .before .before .before .declare-literal .kept, c .before .before .before .before .before .before .before .before .before .before .loop .inv .2))
 
 same-length-3 : tie.Need-same-length-3 Inv-loop μ-loop
 same-length-3 c = c .before .loop .inv .1
@@ -56,7 +57,7 @@ same-length-4 : tie.Need-same-length-4 Inv-loop μ-loop
 same-length-4 c = c .before .loop .inv .2
 
 returns-2 : tie.Need-returns-2 Inv-loop μ-loop
-returns-2 c = λ q. each-none (c .before .before .before .before .before .before .args .s .now) (literalLet (c .before .before .before .before .before .before .args .s .now)) (c .before .loop .n) (c .before .loop .k) (stateOf (c .before .loop .a) (c .before .loop .v) (c .before .loop .t) q) (c .loop-test .left) ∙ c .before .loop .inv .0 q
+returns-2 c = λ O q. each-none O (c .before .before .before .before .before .before .args .s .now) (literalLet (c .before .before .before .before .before .before .args .s .now)) (c .before .loop .n) (c .before .loop .k) (stateOf (c .before .loop .a) (c .before .loop .v) (c .before .loop .t) q) (c .loop-test .left) ∙ c .before .loop .inv .0 O q
 
 pub hoist-literals-spec : {M : Type 1} → statement M
 hoist-literals-spec =

@@ -5,6 +5,7 @@ use Rattle.walk.specs.WalkState.{stateOf}
 use Rattle.machine.specs.Machine.{runState}
 use Rattle.definition.specs.Sheet.{rows, chain}
 use Rattle.definition.specs.Basics.{concatMap}
+use Rattle.definition.specs.Outside.{Outside}
 use borrow.Author.Needs.{needs}
 use lib.ListN.{length}
 use native.Mathlib.Omega.{arith}
@@ -15,7 +16,7 @@ use Rattle.walk.proofs.imports.import_kind.Statement.{statement}
 use Rattle.walk.proofs.imports.import_kind.Tie as tie
 
 abbrev Inv-loop : tie.InvT-loop
-Inv-loop s u kind i v₀ n₀ k₀ x₀ v n k x = ((t q : List ℕ) → runState s (concatMap (ofKind s kind i) (chain n s k)) (stateOf x v t q) ≡ runState s (concatMap (ofKind s kind i) (chain (rows s) s k₀)) (stateOf x₀ v₀ t q)) × (length v ≡ length v₀)
+Inv-loop s u kind i v₀ n₀ k₀ x₀ v n k x = ((O : Outside) (t q : List ℕ) → runState O s (concatMap (ofKind s kind i) (chain n s k)) (stateOf x v t q) ≡ runState O s (concatMap (ofKind s kind i) (chain (rows s) s k₀)) (stateOf x₀ v₀ t q)) × (length v ≡ length v₀)
 
 abbrev μ-loop : tie.MeasureT-loop
 μ-loop s u kind i v₀ n₀ k₀ x₀ v n k x = n
@@ -24,13 +25,13 @@ word-requires : tie.Need-word-requires Inv-loop μ-loop
 word-requires c κs = search needs
 
 loop-holds : tie.Need-loop-holds Inv-loop μ-loop
-loop-holds c = (λ t q. refl, refl)
+loop-holds c = (λ O t q. refl, refl)
 
 same-length : tie.Need-same-length Inv-loop μ-loop
 same-length c = c .before .before .loop .inv .1
 
 returns : tie.Need-returns Inv-loop μ-loop
-returns c = λ t q. chain-end (c .before .before .before .before .before .before .args .s .now) (ofKind (c .before .before .before .before .before .before .args .s .now) (c .before .before .before .before .before .before .args .kind) (c .before .before .before .before .before .before .args .i)) (c .before .before .loop .n) (c .before .before .loop .k) (stateOf (c .before .before .loop .x) (c .before .before .loop .v) t q) (c .if1 .taken) ∙ c .before .before .loop .inv .0 t q ∙ kind-start (c .before .before .before .before .before .before .args .s .now) (c .before .before .before .word .result) (stateOf (c .before .before .before .before .before .before .args .w) (c .before .before .before .before .before .before .args .v .now) t q) (c .before .before .before .before .before .before .args .kind) (c .before .before .before .before .before .before .args .i) (c .before .before .before .before .before .before .args .u) (c .before .before .before .word .ensures)
+returns c = λ O t q. chain-end O (c .before .before .before .before .before .before .args .s .now) (ofKind (c .before .before .before .before .before .before .args .s .now) (c .before .before .before .before .before .before .args .kind) (c .before .before .before .before .before .before .args .i)) (c .before .before .loop .n) (c .before .before .loop .k) (stateOf (c .before .before .loop .x) (c .before .before .loop .v) t q) (c .if1 .taken) ∙ c .before .before .loop .inv .0 O t q ∙ kind-start O (c .before .before .before .before .before .before .args .s .now) (c .before .before .before .word .result) (stateOf (c .before .before .before .before .before .before .args .w) (c .before .before .before .before .before .before .args .v .now) t q) (c .before .before .before .before .before .before .args .kind) (c .before .before .before .before .before .before .args .i) (c .before .before .before .before .before .before .args .u) (c .before .before .before .word .ensures)
 
 bring-if-requires : tie.Need-bring-if-requires Inv-loop μ-loop
 bring-if-requires c κs = search needs
@@ -45,13 +46,13 @@ loop-less : tie.Need-loop-less Inv-loop μ-loop
 loop-less c = omega (arith, c .before .before .before .before .before .before .loop-test .taken)
 
 loop-again : tie.Need-loop-again Inv-loop μ-loop
-loop-again c = (λ t q. chain-next (c .before .before .before .before .before .before .before .before .before .before .before .args .s .now) (ofKind (c .before .before .before .before .before .before .before .before .before .before .before .args .s .now) (c .before .before .before .before .before .before .before .before .before .before .before .args .kind) (c .before .before .before .before .before .before .before .before .before .before .before .args .i)) (c .before .before .before .before .before .before .before .loop .n) (c .before .before .before .before .before .before .before .loop .k) (stateOf (c .before .before .before .before .before .before .before .loop .x) (c .before .before .before .before .before .before .before .loop .v) t q) (c .before .before .before .before .before .before .loop-test .taken) (c .before .before .before .before .before .if1 .left) (c .word2 .ensures) (c .before .before .before .bring-if .ensures t q) ∙ c .before .before .before .before .before .before .before .loop .inv .0 t q, omega (arith, c .before .before .before .bring-if .kept, c .before .before .before .before .before .before .before .loop .inv .1))
+loop-again c = (λ O t q. chain-next O (c .before .before .before .before .before .before .before .before .before .before .before .args .s .now) (ofKind (c .before .before .before .before .before .before .before .before .before .before .before .args .s .now) (c .before .before .before .before .before .before .before .before .before .before .before .args .kind) (c .before .before .before .before .before .before .before .before .before .before .before .args .i)) (c .before .before .before .before .before .before .before .loop .n) (c .before .before .before .before .before .before .before .loop .k) (stateOf (c .before .before .before .before .before .before .before .loop .x) (c .before .before .before .before .before .before .before .loop .v) t q) (c .before .before .before .before .before .before .loop-test .taken) (c .before .before .before .before .before .if1 .left) (c .word2 .ensures) (c .before .before .before .bring-if .ensures O t q) ∙ c .before .before .before .before .before .before .before .loop .inv .0 O t q, omega (arith, c .before .before .before .bring-if .kept, c .before .before .before .before .before .before .before .loop .inv .1))
 
 same-length-2 : tie.Need-same-length-2 Inv-loop μ-loop
 same-length-2 c = c .before .loop .inv .1
 
 returns-2 : tie.Need-returns-2 Inv-loop μ-loop
-returns-2 c = λ t q. chain-none (c .before .before .before .before .before .args .s .now) (ofKind (c .before .before .before .before .before .args .s .now) (c .before .before .before .before .before .args .kind) (c .before .before .before .before .before .args .i)) (c .before .loop .n) (c .before .loop .k) (stateOf (c .before .loop .x) (c .before .loop .v) t q) (c .loop-test .left) ∙ c .before .loop .inv .0 t q ∙ kind-start (c .before .before .before .before .before .args .s .now) (c .before .before .word .result) (stateOf (c .before .before .before .before .before .args .w) (c .before .before .before .before .before .args .v .now) t q) (c .before .before .before .before .before .args .kind) (c .before .before .before .before .before .args .i) (c .before .before .before .before .before .args .u) (c .before .before .word .ensures)
+returns-2 c = λ O t q. chain-none O (c .before .before .before .before .before .args .s .now) (ofKind (c .before .before .before .before .before .args .s .now) (c .before .before .before .before .before .args .kind) (c .before .before .before .before .before .args .i)) (c .before .loop .n) (c .before .loop .k) (stateOf (c .before .loop .x) (c .before .loop .v) t q) (c .loop-test .left) ∙ c .before .loop .inv .0 O t q ∙ kind-start O (c .before .before .before .before .before .args .s .now) (c .before .before .word .result) (stateOf (c .before .before .before .before .before .args .w) (c .before .before .before .before .before .args .v .now) t q) (c .before .before .before .before .before .args .kind) (c .before .before .before .before .before .args .i) (c .before .before .before .before .before .args .u) (c .before .before .word .ensures)
 
 pub import-kind-spec : {M : Type 1} → statement M
 import-kind-spec =

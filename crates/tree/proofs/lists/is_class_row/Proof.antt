@@ -1,7 +1,7 @@
 use borrow.Author.Needs.{needs}
-use Rattle.inherit.proofs.ClassLaws.{row-of, row-outside}
-use Rattle.inherit.proofs.is_class_row.Statement.{statement}
-use Rattle.inherit.proofs.is_class_row.Tie as tie
+use Rattle.tree.proofs.FindLaws.{row-of, row-outside}
+use Rattle.tree.proofs.lists.is_class_row.Statement.{statement}
+use Rattle.tree.proofs.lists.is_class_row.Tie as tie
 
 word-requires : tie.Need-word-requires
 word-requires c κs = search needs

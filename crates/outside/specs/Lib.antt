@@ -1,0 +1,3 @@
+pub mod InPlace
+pub mod Records
+pub mod Samples
