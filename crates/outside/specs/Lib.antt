@@ -1,3 +1,2 @@
-pub mod InPlace
-pub mod Records
-pub mod Samples
+pub mod Words
+pub mod Found
