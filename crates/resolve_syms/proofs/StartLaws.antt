@@ -1,45 +1,65 @@
 -- The start of the walk: the outermost scope, and the header, at which nothing happens.
 use mathlib.Core.Path.{_≡_, refl, sym, ap, subst, _∙_}
-use mathlib.Core.List.{List, [], _∷_}
+use mathlib.Core.List.{List, [], _∷_, map}
 use mathlib.Core.Bool.{_&&_}
-use Prim.Native.Nat.{ℕ, zero, suc, _-_, _*_, _<_, _≤_}
+use Prim.Native.Nat.{ℕ, zero, suc, _-_, _*_, _<_, _≤_, min}
 use native.Mathlib.Omega.{arith}
 use lib.Dec.{eqb, leb, eqb→eq}
-use lib.ListN.{length, drop}
-use borrow.Author.Tests.{ne-eqb}
-use Rattle.definition.specs.Sheet.{Sheet, kind, rows}
-use Rattle.definition.specs.Meaning.{Named, named, class}
+use lib.ListN.{length}
+use Rattle.definition.specs.Basics.{from}
+use Rattle.definition.specs.Sheet.{Sheet, word, kind, rows}
+use Rattle.definition.specs.Meaning.{Named}
 use Rattle.definition.specs.Outside.{Outside, core}
+use Rattle.outside.specs.Words.{nameAt, over}
 use Rattle.definition.specs.Walk.{walk, before, after}
 use Rattle.definition.specs.Format.{sheetFits}
 use Rattle.definition.specs.Question.{none}
 use Rattle.definition.proofs.Lists.Tests.{true-of, and-left}
 use Rattle.definition.proofs.Format.Accepted.{some-row}
 use Rattle.definition.proofs.Walk.Fitting.{fits}
+use Rattle.definition.proofs.Theorems.{core-fits}
 use Rattle.machine.specs.Machine.{State, Scopes, pushName, openNames, noScopes, startState, runState}
 use Rattle.machine.specs.Reads.{PastFour, Walked}
 use Rattle.machine.proofs.Theorems.{rows-few, walk-refines}
-use Rattle.resolve_syms.specs.Prepared.{Lent, coreClass}
+use Rattle.resolve_syms.specs.Prepared.{Lent}
 use Rattle.resolve_syms.specs.Walked.{walked, partsWalked}
 use Rattle.resolve_syms.proofs.WalkLaws.{walk-by}
 use Rattle.resolve_syms.proofs.RowLaws.{runs-none}
 
--- name m comes before the names above it
-core-list : (m : ℕ) → 0 < m → m ≤ 9 → drop (m - 1) (core .names) ≡ named m (class (coreClass m)) ∷ drop m (core .names)
-core-list zero l h = absurd (omega arith)
-core-list (suc zero) l h = refl
-core-list (suc (suc zero)) l h = refl
-core-list (suc (suc (suc zero))) l h = refl
-core-list (suc (suc (suc (suc zero)))) l h = refl
-core-list (suc (suc (suc (suc (suc zero))))) l h = refl
-core-list (suc (suc (suc (suc (suc (suc zero)))))) l h = refl
-core-list (suc (suc (suc (suc (suc (suc (suc zero))))))) l h = refl
-core-list (suc (suc (suc (suc (suc (suc (suc (suc zero)))))))) l h = refl
-core-list (suc (suc (suc (suc (suc (suc (suc (suc (suc zero))))))))) l h = refl
-core-list (suc (suc (suc (suc (suc (suc (suc (suc (suc (suc n)))))))))) l h = absurd (omega arith)
+-- the names of the rows from row i to row n
+abbrev pub namesFrom : List ℕ → ℕ → ℕ → List Named
+namesFrom w i n = map (nameAt w) (from i (n - i))
 
-pub core-step : (s : Sheet) (m : ℕ) (p : Scopes) (q : Scopes) → 0 < m → m ≤ 9 → q ≡ openNames s (drop m (core .names)) p → pushName s m (class (coreClass m)) q ≡ openNames s (drop (m - 1) (core .names)) p
-core-step s m p q l h e = ap (pushName s m (class (coreClass m))) e ∙ sym (ap (λ (xs : List Named). openNames s xs p) (core-list m l h))
+pub names-last : (s : Sheet) (w : List ℕ) (n : ℕ) (p : Scopes) → p ≡ openNames s (namesFrom w n n) p
+names-last s w n p = let z : n - n ≡ 0 = omega arith in sym (ap (λ (k : ℕ). openNames s (map (nameAt w) (from n k)) p) z)
+
+-- one name more, that of the row before row i
+pub names-more : (s : Sheet) (w : List ℕ) (i n : ℕ) (p q : Scopes) {m : ℕ} → 1 < i → i ≤ n → q ≡ openNames s (namesFrom w i n) p → m ≡ word w (i - 1) 0
+    → pushName s m (nameAt w (i - 1) .means) q ≡ openNames s (namesFrom w (i - 1) n) p
+unfolding nameAt
+names-more s w i n p q {m} l h e g =
+    ap (λ (k : ℕ). pushName s k (nameAt w (i - 1) .means) q) g ∙ ap (pushName s (word w (i - 1) 0) (nameAt w (i - 1) .means)) e
+    ∙ sym (ap (λ (xs : List Named). openNames s xs p) (ap (λ (k : ℕ). map (nameAt w) (from (i - 1) k)) more ∙ ap (λ (k : ℕ). nameAt w (i - 1) ∷ map (nameAt w) (from k (n - i))) next))
+  where
+    more : n - (i - 1) ≡ suc (n - i)
+    more = omega arith
+
+    next : suc (i - 1) ≡ i
+    next = omega arith
+
+-- all names: no row is left before row i
+pub names-all : (s : Sheet) (w : List ℕ) (i n : ℕ) (p : Scopes) {q : Scopes} → i ≤ 1 → i ≤ n → min n 1 ≤ i → n ≡ word w 0 0 → q ≡ openNames s (namesFrom w i n) p
+    → q ≡ openNames s (over w .names) p
+unfolding over
+names-all s w i n p l h f g e = e ∙ ap (λ (xs : List Named). openNames s xs p) (by n l h f ∙ ap (λ (k : ℕ). map (nameAt w) (from 1 (k - 1))) g)
+  where
+    by : (n : ℕ) → i ≤ 1 → i ≤ n → min n 1 ≤ i → namesFrom w i n ≡ map (nameAt w) (from 1 (n - 1))
+    by zero l h f = let z : 0 - i ≡ 0 = omega arith in ap (λ (k : ℕ). map (nameAt w) (from i k)) z
+    by (suc m) l h f = let z : i ≡ 1 = omega arith in ap (λ (k : ℕ). map (nameAt w) (from k (suc m - k))) z
+
+-- what a sheet is past does not hang on the outside
+pub plainly : {O : Outside} {s : Sheet} → PastFour O s → PastFour core s
+plainly ok = record { outside = core-fits; names = ok .names; few = ok .few; whole = ok .whole; fitting = ok .fitting; shallow = ok .shallow }
 
 -- nothing happens at the header but the walk of its parts, the units
 before-header : (s : Sheet) (r : ℕ) → kind s r ≡ 0 → before s r ≡ []
@@ -56,13 +76,13 @@ walk-header O s x {y} ok h =
     header = fits (ok .names) s (ok .outside) (some-row s (ok .whole)) (true-of (sheetFits (ok .names) s) (ok .fitting)) .header
 
 -- the whole walk, from the outermost scope and a clear table
-pub units-walked : (s : Sheet) (cs v t q : List ℕ) (p : Scopes) (y : State) → PastFour core s → Lent s cs v t q → p ≡ openNames s (core .names) (noScopes s v)
-    → y ≡ partsWalked core (rows s - 1) s 0 (record { scopes = p; store = record { used = 0; calls = 0; table = t; nodes = q }; refusal = none }) → Walked core s y
+pub units-walked : (O : Outside) (s : Sheet) (cs v t q : List ℕ) (p : Scopes) (y : State) → PastFour O s → Lent O s cs v t q → p ≡ openNames s (O .names) (noScopes s v)
+    → y ≡ partsWalked O (rows s - 1) s 0 (record { scopes = p; store = record { used = 0; calls = 0; table = t; nodes = q }; refusal = none }) → Walked O s y
 unfolding walked startState
-units-walked s cs v t q p y ok lent e h = subst (Walked core s) (sym run) (walk-refines s v t q ok (lent .clear-rows .zeros) (omega (arith, lent .for-entries)) (lent .for-rows) (lent .for-nodes))
+units-walked O s cs v t q p y ok lent e h = subst (Walked O s) (sym run) (walk-refines s v t q ok (lent .clear-rows .zeros) (omega (arith, lent .for-entries)) (lent .for-rows) (lent .for-nodes))
   where
-    run : y ≡ runState core s (walk s) (startState core s v t q)
-    run = walk-header core s _ ok h ∙ ap (λ (u : Scopes). runState core s (walk s) (record { scopes = u; store = record { used = 0; calls = 0; table = t; nodes = q }; refusal = none })) e
+    run : y ≡ runState O s (walk s) (startState O s v t q)
+    run = walk-header O s _ ok h ∙ ap (λ (u : Scopes). runState O s (walk s) (record { scopes = u; store = record { used = 0; calls = 0; table = t; nodes = q }; refusal = none })) e
 
 -- a sheet past question 1 is small
 pub sheet-small : (O : Outside) (s : Sheet) → PastFour O s → length s ≤ 16384
@@ -73,18 +93,3 @@ sheet-small O s ok = omega (arith, rows-few s (ok .whole), whole-words)
 
 pub some-rows : (O : Outside) (s : Sheet) → PastFour O s → 1 ≤ rows s
 some-rows O s ok = some-row s (ok .whole)
-
--- no other name is a class there
-pub core-none : (m : ℕ) → (m ≡ 1 → ⊥) → (m ≡ 2 → ⊥) → (m ≡ 3 → ⊥) → (m ≡ 4 → ⊥) → (m ≡ 5 → ⊥) → (m ≡ 6 → ⊥) → (m ≡ 7 → ⊥) → (m ≡ 8 → ⊥) → (m ≡ 9 → ⊥) → 0 ≡ coreClass m
-core-none m f₁ f₂ f₃ f₄ f₅ f₆ f₇ f₈ f₉ =
-    rw (
-      ne-eqb 1 m (λ e. f₁ (sym e)),
-      ne-eqb 2 m (λ e. f₂ (sym e)),
-      ne-eqb 3 m (λ e. f₃ (sym e)),
-      ne-eqb 4 m (λ e. f₄ (sym e)),
-      ne-eqb 5 m (λ e. f₅ (sym e)),
-      ne-eqb 6 m (λ e. f₆ (sym e)),
-      ne-eqb 7 m (λ e. f₇ (sym e)),
-      ne-eqb 8 m (λ e. f₈ (sym e)),
-      ne-eqb 9 m (λ e. f₉ (sym e)),
-    )

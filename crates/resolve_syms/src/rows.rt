@@ -7,7 +7,8 @@ ghost use lib.ListN.{length};
 ghost use Rattle.definition.specs.Basics.{if_then_else_};
 ghost use Rattle.definition.specs.Sheet.{kind, child, a, is};
 ghost use Rattle.definition.specs.Walk.{before, after, afterPart, isPart};
-ghost use Rattle.definition.specs.Outside.{core};
+ghost use Rattle.definition.specs.Outside.{Outside};
+ghost use Rattle.outside.specs.Words.{over};
 ghost use Rattle.machine.specs.Machine.{runState};
 ghost use Rattle.classes.specs.Table.{ClassTable};
 ghost use Rattle.walk.specs.WalkState.{stateOf};
@@ -33,7 +34,7 @@ use walk::visits::resolve_parent;
 // A unit opens a scope for its imports and classes.
 pub fn before_unit(s: &[u32], r: u32, w: Walk, v: &mut [u32], t: &mut [u32]) -> Walk
     requires { ⌜ (length (now s) ≤ 16384) × (kind (now s) r ≡ 2) ⌝ }
-    ensures { λ x. ⌜ ((q : List ℕ) → stateOf x (now (v .exit)) (now (t .exit)) q ≡ runState core (now (s .entry)) (before (now (s .entry)) r) (stateOf w (now (v .entry)) (now (t .entry)) q)) ⌝ }
+    ensures { λ x. ⌜ ((O : Outside) (q : List ℕ) → stateOf x (now (v .exit)) (now (t .exit)) q ≡ runState O (now (s .entry)) (before (now (s .entry)) r) (stateOf w (now (v .entry)) (now (t .entry)) q)) ⌝ }
 {
     let a = open_scope(s, r, w, v);
     let b = define_imports(s, r, a, v);
@@ -43,7 +44,7 @@ pub fn before_unit(s: &[u32], r: u32, w: Walk, v: &mut [u32], t: &mut [u32]) -> 
 // A function opens a scope for its parameters.
 pub fn before_fun(s: &[u32], r: u32, w: Walk, v: &mut [u32], t: &mut [u32]) -> Walk
     requires { ⌜ (length (now s) ≤ 16384) × (kind (now s) r ≡ 6) ⌝ }
-    ensures { λ x. ⌜ ((q : List ℕ) → stateOf x (now (v .exit)) (now (t .exit)) q ≡ runState core (now (s .entry)) (before (now (s .entry)) r) (stateOf w (now (v .entry)) (now (t .entry)) q)) ⌝ }
+    ensures { λ x. ⌜ ((O : Outside) (q : List ℕ) → stateOf x (now (v .exit)) (now (t .exit)) q ≡ runState O (now (s .entry)) (before (now (s .entry)) r) (stateOf w (now (v .entry)) (now (t .entry)) q)) ⌝ }
 {
     let a = open_scope(s, r, w, v);
     declare_kind(s, r, 11, a, v, t)
@@ -52,7 +53,7 @@ pub fn before_fun(s: &[u32], r: u32, w: Walk, v: &mut [u32], t: &mut [u32]) -> W
 // A block opens a scope and declares its literal lets first.
 fn before_block(s: &[u32], r: u32, w: Walk, v: &mut [u32], t: &mut [u32]) -> Walk
     requires { ⌜ (length (now s) ≤ 16384) × (kind (now s) r ≡ 25) ⌝ }
-    ensures { λ x. ⌜ ((q : List ℕ) → stateOf x (now (v .exit)) (now (t .exit)) q ≡ runState core (now (s .entry)) (before (now (s .entry)) r) (stateOf w (now (v .entry)) (now (t .entry)) q)) ⌝ }
+    ensures { λ x. ⌜ ((O : Outside) (q : List ℕ) → stateOf x (now (v .exit)) (now (t .exit)) q ≡ runState O (now (s .entry)) (before (now (s .entry)) r) (stateOf w (now (v .entry)) (now (t .entry)) q)) ⌝ }
 {
     let a = open_scope(s, r, w, v);
     hoist_literals(s, r, a, v, t)
@@ -61,7 +62,7 @@ fn before_block(s: &[u32], r: u32, w: Walk, v: &mut [u32], t: &mut [u32]) -> Wal
 // A block or `for` opens a scope; a class declaration asks for its parent.
 pub fn before_stmt(s: &[u32], r: u32, w: Walk, v: &mut [u32], t: &mut [u32]) -> Walk
     requires { ⌜ (length (now s) ≤ 16384) × (7 < kind (now s) r) ⌝ }
-    ensures { λ x. ⌜ ((q : List ℕ) → stateOf x (now (v .exit)) (now (t .exit)) q ≡ runState core (now (s .entry)) (before (now (s .entry)) r) (stateOf w (now (v .entry)) (now (t .entry)) q)) ⌝ }
+    ensures { λ x. ⌜ ((O : Outside) (q : List ℕ) → stateOf x (now (v .exit)) (now (t .exit)) q ≡ runState O (now (s .entry)) (before (now (s .entry)) r) (stateOf w (now (v .entry)) (now (t .entry)) q)) ⌝ }
 {
     let kind = word(s, r, 0);
     match kind {
@@ -75,7 +76,7 @@ pub fn before_stmt(s: &[u32], r: u32, w: Walk, v: &mut [u32], t: &mut [u32]) -> 
 // A let declares its name, unless its value is a literal: then the block has done so, or nothing does.
 fn after_let(s: &[u32], r: u32, w: Walk, v: &mut [u32], t: &mut [u32]) -> Walk
     requires { ⌜ (length (now s) ≤ 16384) × (kind (now s) r ≡ 29) ⌝ }
-    ensures { λ x. ⌜ ((q : List ℕ) → stateOf x (now (v .exit)) (now (t .exit)) q ≡ runState core (now (s .entry)) (after (now (s .entry)) r) (stateOf w (now (v .entry)) (now (t .entry)) q)) ⌝ }
+    ensures { λ x. ⌜ ((O : Outside) (q : List ℕ) → stateOf x (now (v .exit)) (now (t .exit)) q ≡ runState O (now (s .entry)) (after (now (s .entry)) r) (stateOf w (now (v .entry)) (now (t .entry)) q)) ⌝ }
 {
     if word(s, word(s, r, 2), 0) == 52 {
         return w;
@@ -94,7 +95,7 @@ pub fn after_stmt(
     q: &mut [u32],
 ) -> Walk
     requires { ⌜ (Prepared (now s) (now classes)) × (7 < kind (now s) r) × (kind (now s) r < 40) ⌝ }
-    ensures { λ x. ⌜ stateOf x (now (v .exit)) (now (t .exit)) (now (q .exit)) ≡ runState core (now (s .entry)) (after (now (s .entry)) r) (stateOf w (now (v .entry)) (now (t .entry)) (now (q .entry))) ⌝ }
+    ensures { λ x. ⌜ ((O : Outside) → stateOf x (now (v .exit)) (now (t .exit)) (now (q .exit)) ≡ runState O (now (s .entry)) (after (now (s .entry)) r) (stateOf w (now (v .entry)) (now (t .entry)) (now (q .entry)))) ⌝ }
 {
     let kind = word(s, r, 0);
     match kind {
@@ -111,7 +112,7 @@ pub fn after_stmt(
 // An identifier, host constant or instanceof is looked up; a literal notes where it stands.
 pub fn after_expr(s: &[u32], r: u32, w: Walk, v: &[u32], t: &mut [u32], q: &mut [u32]) -> Walk
     requires { ⌜ (length (now s) ≤ 16384) × (39 < kind (now s) r) ⌝ }
-    ensures { λ x. ⌜ stateOf x (now (v .entry)) (now (t .exit)) (now (q .exit)) ≡ runState core (now (s .entry)) (after (now (s .entry)) r) (stateOf w (now (v .entry)) (now (t .entry)) (now (q .entry))) ⌝ }
+    ensures { λ x. ⌜ ((O : Outside) → stateOf x (now (v .entry)) (now (t .exit)) (now (q .exit)) ≡ runState O (now (s .entry)) (after (now (s .entry)) r) (stateOf w (now (v .entry)) (now (t .entry)) (now (q .entry)))) ⌝ }
 {
     let kind = word(s, r, 0);
     match kind {
@@ -126,6 +127,7 @@ pub fn after_expr(s: &[u32], r: u32, w: Walk, v: &[u32], t: &mut [u32], q: &mut 
 // After part `i` of row `r`: the checks on a call's callee; a `for` comes to its loop after init and test.
 pub fn after_part(
     s: &[u32],
+    outside: &[u32],
     r: u32,
     i: usize,
     w: Walk,
@@ -133,11 +135,11 @@ pub fn after_part(
     t: &mut [u32],
     q: &mut [u32],
 ) -> Walk
-    ensures { λ x. ⌜ stateOf x (now (v .exit)) (now (t .exit)) (now (q .exit)) ≡ runState core (now (s .entry)) (afterPart (now (s .entry)) r i) (stateOf w (now (v .entry)) (now (t .entry)) (now (q .entry))) ⌝ }
+    ensures { λ x. ⌜ stateOf x (now (v .exit)) (now (t .exit)) (now (q .exit)) ≡ runState (over (now (outside .entry))) (now (s .entry)) (afterPart (now (s .entry)) r i) (stateOf w (now (v .entry)) (now (t .entry)) (now (q .entry))) ⌝ }
 {
     let kind = word(s, r, 0);
     match kind {
-        59 => after_callee(s, r, i, w, v, t, q),
+        59 => after_callee(s, outside, r, i, w, v, t, q),
         27 => after_test(s, r, i, w, v),
         _ => w,
     }
@@ -145,6 +147,7 @@ pub fn after_part(
 
 fn after_callee(
     s: &[u32],
+    outside: &[u32],
     r: u32,
     i: usize,
     w: Walk,
@@ -153,17 +156,17 @@ fn after_callee(
     q: &mut [u32],
 ) -> Walk
     requires { ⌜ kind (now s) r ≡ 59 ⌝ }
-    ensures { λ x. ⌜ stateOf x (now (v .entry)) (now (t .exit)) (now (q .exit)) ≡ runState core (now (s .entry)) (afterPart (now (s .entry)) r i) (stateOf w (now (v .entry)) (now (t .entry)) (now (q .entry))) ⌝ }
+    ensures { λ x. ⌜ stateOf x (now (v .entry)) (now (t .exit)) (now (q .exit)) ≡ runState (over (now (outside .entry))) (now (s .entry)) (afterPart (now (s .entry)) r i) (stateOf w (now (v .entry)) (now (t .entry)) (now (q .entry))) ⌝ }
 {
     if i == 0 {
-        return check_callee(s, r, w, v, t, q);
+        return check_callee(s, outside, r, w, v, t, q);
     }
     w
 }
 
 fn after_test(s: &[u32], r: u32, i: usize, w: Walk, v: &mut [u32]) -> Walk
     requires { ⌜ kind (now s) r ≡ 27 ⌝ }
-    ensures { λ x. ⌜ ((t q : List ℕ) → stateOf x (now (v .exit)) t q ≡ runState core (now (s .entry)) (afterPart (now (s .entry)) r i) (stateOf w (now (v .entry)) t q)) ⌝ }
+    ensures { λ x. ⌜ ((O : Outside) (t q : List ℕ) → stateOf x (now (v .exit)) t q ≡ runState O (now (s .entry)) (afterPart (now (s .entry)) r i) (stateOf w (now (v .entry)) t q)) ⌝ }
 {
     if i == 1 {
         return begin_loop(w, v);

@@ -4,17 +4,17 @@ ghost use mathlib.Core.List.{List};
 ghost use Prim.Native.Nat.{ℕ};
 ghost use Rattle.definition.specs.Sheet.{kind, a, child};
 ghost use Rattle.definition.specs.Walk.{visit};
-ghost use Rattle.definition.specs.Classes.{methodNamed, ownMethods};
-ghost use Rattle.definition.specs.Outside.{core};
 ghost use Rattle.machine.specs.Machine.{constructedClass, receiverClass, stepState};
 ghost use Rattle.symbols.specs.OpenScopes.{scopesOf};
-ghost use Rattle.definition.specs.Classes.{arity as arityOf};
+ghost use Rattle.outside.specs.Words.{over};
 ghost use Rattle.walk.specs.Callee.{methodQuestion};
 ghost use Rattle.walk.specs.WalkState.{stateOf};
 use crate::state::Walk;
 use crate::state::refuse;
 use ast::ClassId;
-use ast::FunId;
+use outside::records::Method;
+use outside::records::has_record;
+use outside::records::own_method;
 use store::nodes::Node;
 use store::nodes::append_call;
 use store::table::RowWords;
@@ -24,9 +24,6 @@ use symbols::decl::class_number;
 use symbols::decl::lookup;
 use symbols::env::Env;
 use tree::lists::arguments;
-use tree::lists::arity;
-use tree::lists::has_record;
-use tree::lists::method_named;
 use tree::words::word;
 
 // The class that call `r` constructs, or 0: its callee is an identifier that means it.
@@ -58,16 +55,23 @@ fn receiver_class(s: &[u32], r: u32, e: Env, v: &[u32]) -> ClassId
 }
 
 // Question 12: has a class called as a constructor a record? The call is kept: 20 and 21 are asked after the walk.
-fn construct(s: &[u32], r: u32, class: ClassId, w: Walk, q: &mut [u32]) -> Walk
+fn construct(
+    s: &[u32],
+    outside: &[u32],
+    r: u32,
+    class: ClassId,
+    w: Walk,
+    q: &mut [u32],
+) -> Walk
     requires { ⌜ (kind (now s) r ≡ 59) × (class .0 ≡ 0 → ⊥) ⌝ }
     ensures { λ x. ⌜ ((v t : List ℕ) → class .0 ≡ constructedClass (now (s .entry)) r (scopesOf (w .env) v)
-        → stateOf x v t (now (q .exit)) ≡ stepState core (now (s .entry)) (visit r) (stateOf w v t (now (q .entry)))) ⌝ }
+        → stateOf x v t (now (q .exit)) ≡ stepState (over (now (outside .entry))) (now (s .entry)) (visit r) (stateOf w v t (now (q .entry)))) ⌝ }
 {
     if w.number != 0 {
         return w;
     }
     let callee = word(s, r, 2);
-    if !has_record(s, class) {
+    if !has_record(s, outside, class) {
         return refuse(w, 12, callee, word(s, callee, 6));
     }
     let call = Node {
@@ -86,40 +90,49 @@ fn construct(s: &[u32], r: u32, class: ClassId, w: Walk, q: &mut [u32]) -> Walk
     }
 }
 
-// The question that the call `r` of method `f` on a class gets a no to: 17, has the class a record? 13, has it the method? 14, with as
+// The question that the call `r` of method `m` on a class gets a no to: 17, has the class a record? 13, has it the method? 14, with as
 // many parameters as arguments? Or 0.
-fn method_question(s: &[u32], r: u32, class: ClassId, f: FunId) -> u32
-    ensures { λ x. ⌜ x ≡ methodQuestion core (now (s .entry)) r (class .0) (f .0) (arityOf (now (s .entry)) (f .0)) ⌝ }
+fn method_question(s: &[u32], outside: &[u32], r: u32, class: ClassId, m: Method) -> u32
+    ensures { λ x. ⌜ x ≡ methodQuestion (over (now (outside .entry))) (now (s .entry)) r (class .0) (m .fun .0) (m .params) ⌝ }
 {
-    if !has_record(s, class) {
+    if !has_record(s, outside, class) {
         return 17;
     }
+    let f = m.fun;
     if f.0 == 0 {
         return 13;
     }
-    if arguments(s, r) != arity(s, f) {
+    if arguments(s, r) != m.params {
         return 14;
     }
     0
 }
 
 // A method called on a class: its questions; then the callee means the method, and its base gives no answer row.
-fn call_method(s: &[u32], r: u32, class: ClassId, w: Walk, t: &mut [u32]) -> Walk
+fn call_method(
+    s: &[u32],
+    outside: &[u32],
+    r: u32,
+    class: ClassId,
+    w: Walk,
+    t: &mut [u32],
+) -> Walk
     requires { ⌜ (kind (now s) r ≡ 59) × (class .0 ≡ 0 → ⊥) ⌝ }
     ensures { λ x. ⌜ ((v q : List ℕ) → class .0 ≡ receiverClass (now (s .entry)) r (scopesOf (w .env) v)
-        → stateOf x v (now (t .exit)) q ≡ stepState core (now (s .entry)) (visit r) (stateOf w v (now (t .entry)) q)) ⌝ }
+        → stateOf x v (now (t .exit)) q ≡ stepState (over (now (outside .entry))) (now (s .entry)) (visit r) (stateOf w v (now (t .entry)) q)) ⌝ }
 {
     if w.number != 0 {
         return w;
     }
     let callee = word(s, r, 2);
     let m = word(s, callee, 6);
-    let f = method_named(s, class, m);
-    let no = method_question(s, r, class, f);
+    let method = own_method(s, outside, class, m);
+    let no = method_question(s, outside, r, class, method);
     if no != 0 {
         return refuse(w, no, callee, m);
     }
     mark_hidden(t, word(s, callee, 2));
+    let f = method.fun;
     let x = RowWords {
         code: 1,
         one: f.0,
@@ -131,18 +144,26 @@ fn call_method(s: &[u32], r: u32, class: ClassId, w: Walk, t: &mut [u32]) -> Wal
 }
 
 // The checks on the callee of call `r`.
-pub fn check_callee(s: &[u32], r: u32, w: Walk, v: &[u32], t: &mut [u32], q: &mut [u32]) -> Walk
+pub fn check_callee(
+    s: &[u32],
+    outside: &[u32],
+    r: u32,
+    w: Walk,
+    v: &[u32],
+    t: &mut [u32],
+    q: &mut [u32],
+) -> Walk
     requires { ⌜ kind (now s) r ≡ 59 ⌝ }
-    ensures { λ x. ⌜ stateOf x (now (v .entry)) (now (t .exit)) (now (q .exit)) ≡ stepState core (now (s .entry)) (visit r) (stateOf w (now (v .entry)) (now (t .entry)) (now (q .entry))) ⌝ }
+    ensures { λ x. ⌜ stateOf x (now (v .entry)) (now (t .exit)) (now (q .exit)) ≡ stepState (over (now (outside .entry))) (now (s .entry)) (visit r) (stateOf w (now (v .entry)) (now (t .entry)) (now (q .entry))) ⌝ }
 {
     let e = w.env;
     let class = constructed_class(s, r, e, v);
     if class.0 != 0 {
-        return construct(s, r, class, w, q);
+        return construct(s, outside, r, class, w, q);
     }
     let receiver = receiver_class(s, r, e, v);
     if receiver.0 != 0 {
-        return call_method(s, r, receiver, w, t);
+        return call_method(s, outside, r, receiver, w, t);
     }
     w
 }

@@ -4,7 +4,7 @@ use Rattle.resolve_syms.proofs.WalkLaws.{walk-none, walk-by, part-skipp
 use Rattle.resolve_syms.proofs.RowLaws.{runs-none, runs-one, before-expr, after-unit, after-fun, part-high}
 use Rattle.resolve_syms.specs.Walked.{listed}
 use Rattle.definition.specs.Walk.{leave}
-use Rattle.definition.specs.Outside.{core}
+use Rattle.outside.specs.Words.{over}
 use Rattle.walk.specs.WalkState.{stateOf}
 use borrow.Author.Tests.{not-true, not-false}
 use mathlib.Core.Path.{_≡_, refl, sym, _∙_}
@@ -54,101 +54,101 @@ use Rattle.resolve_syms.proofs.cycle.+resolve_any+resolve_expr+resolve_
   close,
 }
 
-abbrev μ-resolve-any : Measures 5 resolve-any-kinds.ps ℕ
-μ-resolve-any κs a = a .1 .1 .1 .0 * 4 + 1
+abbrev μ-resolve-any : Measures 6 resolve-any-kinds.ps ℕ
+μ-resolve-any κs a = a .1 .1 .1 .1 .0 * 4 + 1
 
-abbrev μ-resolve-expr : Measures 5 resolve-expr-kinds.ps ℕ
-μ-resolve-expr κs a = a .1 .1 .1 .0 * 4
+abbrev μ-resolve-expr : Measures 6 resolve-expr-kinds.ps ℕ
+μ-resolve-expr κs a = a .1 .1 .1 .1 .0 * 4
 
-abbrev μ-resolve-fun : Measures 5 resolve-fun-kinds.ps ℕ
-μ-resolve-fun κs a = a .1 .1 .1 .0 * 4
+abbrev μ-resolve-fun : Measures 6 resolve-fun-kinds.ps ℕ
+μ-resolve-fun κs a = a .1 .1 .1 .1 .0 * 4
 
-abbrev μ-resolve-part : Measures 5 resolve-part-kinds.ps ℕ
-μ-resolve-part κs a = a .1 .1 .1 .1 .1 .0 * 4 + 2
+abbrev μ-resolve-part : Measures 6 resolve-part-kinds.ps ℕ
+μ-resolve-part κs a = a .1 .1 .1 .1 .1 .1 .0 * 4 + 2
 
-abbrev μ-resolve-parts : Measures 5 resolve-parts-kinds.ps ℕ
-μ-resolve-parts κs a = a .1 .1 .1 .0 * 4 + 3
+abbrev μ-resolve-parts : Measures 6 resolve-parts-kinds.ps ℕ
+μ-resolve-parts κs a = a .1 .1 .1 .1 .0 * 4 + 3
 
-abbrev μ-resolve-stmt : Measures 5 resolve-stmt-kinds.ps ℕ
-μ-resolve-stmt κs a = a .1 .1 .1 .0 * 4
+abbrev μ-resolve-stmt : Measures 6 resolve-stmt-kinds.ps ℕ
+μ-resolve-stmt κs a = a .1 .1 .1 .1 .0 * 4
 
-abbrev μ-resolve-unit : Measures 5 resolve-unit-kinds.ps ℕ
-μ-resolve-unit κs a = a .1 .1 .1 .0 * 4
+abbrev μ-resolve-unit : Measures 6 resolve-unit-kinds.ps ℕ
+μ-resolve-unit κs a = a .1 .1 .1 .1 .0 * 4
 
-abbrev resolve-any-at : ℕ → In 5 resolve-any-kinds.ps
+abbrev resolve-any-at : ℕ → In 6 resolve-any-kinds.ps
 resolve-any-at t =
-    and 5 resolve-any-kinds.ps (is 5 resolve-any-kinds.ps μ-resolve-any t) resolve-any.Pre
+    and 6 resolve-any-kinds.ps (is 6 resolve-any-kinds.ps μ-resolve-any t) resolve-any.Pre
 
-abbrev resolve-any-below : ℕ → In 5 resolve-any-kinds.ps
+abbrev resolve-any-below : ℕ → In 6 resolve-any-kinds.ps
 resolve-any-below t =
-    and 5 resolve-any-kinds.ps (falls 5 resolve-any-kinds.ps _<_ μ-resolve-any t) resolve-any.Pre
+    and 6 resolve-any-kinds.ps (falls 6 resolve-any-kinds.ps _<_ μ-resolve-any t) resolve-any.Pre
 
-abbrev resolve-expr-at : ℕ → In 5 resolve-expr-kinds.ps
+abbrev resolve-expr-at : ℕ → In 6 resolve-expr-kinds.ps
 resolve-expr-at t =
-    and 5 resolve-expr-kinds.ps (is 5 resolve-expr-kinds.ps μ-resolve-expr t) resolve-expr.Pre
+    and 6 resolve-expr-kinds.ps (is 6 resolve-expr-kinds.ps μ-resolve-expr t) resolve-expr.Pre
 
-abbrev resolve-expr-below : ℕ → In 5 resolve-expr-kinds.ps
+abbrev resolve-expr-below : ℕ → In 6 resolve-expr-kinds.ps
 resolve-expr-below t =
     and
-    5
+    6
     resolve-expr-kinds.ps
-    (falls 5 resolve-expr-kinds.ps _<_ μ-resolve-expr t)
+    (falls 6 resolve-expr-kinds.ps _<_ μ-resolve-expr t)
     resolve-expr.Pre
 
-abbrev resolve-fun-at : ℕ → In 5 resolve-fun-kinds.ps
+abbrev resolve-fun-at : ℕ → In 6 resolve-fun-kinds.ps
 resolve-fun-at t =
-    and 5 resolve-fun-kinds.ps (is 5 resolve-fun-kinds.ps μ-resolve-fun t) resolve-fun.Pre
+    and 6 resolve-fun-kinds.ps (is 6 resolve-fun-kinds.ps μ-resolve-fun t) resolve-fun.Pre
 
-abbrev resolve-fun-below : ℕ → In 5 resolve-fun-kinds.ps
+abbrev resolve-fun-below : ℕ → In 6 resolve-fun-kinds.ps
 resolve-fun-below t =
-    and 5 resolve-fun-kinds.ps (falls 5 resolve-fun-kinds.ps _<_ μ-resolve-fun t) resolve-fun.Pre
+    and 6 resolve-fun-kinds.ps (falls 6 resolve-fun-kinds.ps _<_ μ-resolve-fun t) resolve-fun.Pre
 
-abbrev resolve-part-at : ℕ → In 5 resolve-part-kinds.ps
+abbrev resolve-part-at : ℕ → In 6 resolve-part-kinds.ps
 resolve-part-at t =
-    and 5 resolve-part-kinds.ps (is 5 resolve-part-kinds.ps μ-resolve-part t) resolve-part.Pre
+    and 6 resolve-part-kinds.ps (is 6 resolve-part-kinds.ps μ-resolve-part t) resolve-part.Pre
 
-abbrev resolve-part-below : ℕ → In 5 resolve-part-kinds.ps
+abbrev resolve-part-below : ℕ → In 6 resolve-part-kinds.ps
 resolve-part-below t =
     and
-    5
+    6
     resolve-part-kinds.ps
-    (falls 5 resolve-part-kinds.ps _<_ μ-resolve-part t)
+    (falls 6 resolve-part-kinds.ps _<_ μ-resolve-part t)
     resolve-part.Pre
 
-abbrev resolve-parts-at : ℕ → In 5 resolve-parts-kinds.ps
+abbrev resolve-parts-at : ℕ → In 6 resolve-parts-kinds.ps
 resolve-parts-at t =
-    and 5 resolve-parts-kinds.ps (is 5 resolve-parts-kinds.ps μ-resolve-parts t) resolve-parts.Pre
+    and 6 resolve-parts-kinds.ps (is 6 resolve-parts-kinds.ps μ-resolve-parts t) resolve-parts.Pre
 
-abbrev resolve-parts-below : ℕ → In 5 resolve-parts-kinds.ps
+abbrev resolve-parts-below : ℕ → In 6 resolve-parts-kinds.ps
 resolve-parts-below t =
     and
-    5
+    6
     resolve-parts-kinds.ps
-    (falls 5 resolve-parts-kinds.ps _<_ μ-resolve-parts t)
+    (falls 6 resolve-parts-kinds.ps _<_ μ-resolve-parts t)
     resolve-parts.Pre
 
-abbrev resolve-stmt-at : ℕ → In 5 resolve-stmt-kinds.ps
+abbrev resolve-stmt-at : ℕ → In 6 resolve-stmt-kinds.ps
 resolve-stmt-at t =
-    and 5 resolve-stmt-kinds.ps (is 5 resolve-stmt-kinds.ps μ-resolve-stmt t) resolve-stmt.Pre
+    and 6 resolve-stmt-kinds.ps (is 6 resolve-stmt-kinds.ps μ-resolve-stmt t) resolve-stmt.Pre
 
-abbrev resolve-stmt-below : ℕ → In 5 resolve-stmt-kinds.ps
+abbrev resolve-stmt-below : ℕ → In 6 resolve-stmt-kinds.ps
 resolve-stmt-below t =
     and
-    5
+    6
     resolve-stmt-kinds.ps
-    (falls 5 resolve-stmt-kinds.ps _<_ μ-resolve-stmt t)
+    (falls 6 resolve-stmt-kinds.ps _<_ μ-resolve-stmt t)
     resolve-stmt.Pre
 
-abbrev resolve-unit-at : ℕ → In 5 resolve-unit-kinds.ps
+abbrev resolve-unit-at : ℕ → In 6 resolve-unit-kinds.ps
 resolve-unit-at t =
-    and 5 resolve-unit-kinds.ps (is 5 resolve-unit-kinds.ps μ-resolve-unit t) resolve-unit.Pre
+    and 6 resolve-unit-kinds.ps (is 6 resolve-unit-kinds.ps μ-resolve-unit t) resolve-unit.Pre
 
-abbrev resolve-unit-below : ℕ → In 5 resolve-unit-kinds.ps
+abbrev resolve-unit-below : ℕ → In 6 resolve-unit-kinds.ps
 resolve-unit-below t =
     and
-    5
+    6
     resolve-unit-kinds.ps
-    (falls 5 resolve-unit-kinds.ps _<_ μ-resolve-unit t)
+    (falls 6 resolve-unit-kinds.ps _<_ μ-resolve-unit t)
     resolve-unit.Pre
 
 abbrev resolve-any-claims : ℕ → resolve-any-lts.Claims
@@ -183,7 +183,7 @@ resolve-any-word-requires : (t : ℕ) → resolve-any-lts.Need-word-requires (re
 resolve-any-word-requires t c κs = tt
 
 resolve-any-resolve-unit-requires : (t : ℕ) → resolve-any-lts.Need-resolve-unit-requires (resolve-any-claims t) (resolve-any-at t) resolve-any.Post
-resolve-any-resolve-unit-requires t c κs = (search needs, (c .before .before .before .before .before .before .before .before .before .before .pre .1 .0, sym (c .before .before .before .before .word .ensures) ∙ c .before .before .before .if1 .taken))
+resolve-any-resolve-unit-requires t c κs = (search needs, (c .before .before .before .before .before .before .before .before .before .before .before .pre .1 .0, sym (c .before .before .before .before .word .ensures) ∙ c .before .before .before .if1 .taken))
 
 resolve-any-same-length : (t : ℕ) → resolve-any-lts.Need-same-length (resolve-any-claims t) (resolve-any-at t) resolve-any.Post
 resolve-any-same-length t c = search needs
@@ -198,7 +198,7 @@ resolve-any-returns : (t : ℕ) → resolve-any-lts.Need-returns (resolve-any-cl
 resolve-any-returns t c = c .before .before .before .before .before .before .resolve-unit .ensures
 
 resolve-any-resolve-fun-requires : (t : ℕ) → resolve-any-lts.Need-resolve-fun-requires (resolve-any-claims t) (resolve-any-at t) resolve-any.Post
-resolve-any-resolve-fun-requires t c κs = (search needs, (c .before .before .before .before .before .before .before .before .before .before .before .pre .1 .0, sym (c .before .before .before .before .before .word .ensures) ∙ c .before .before .before .if2 .taken))
+resolve-any-resolve-fun-requires t c κs = (search needs, (c .before .before .before .before .before .before .before .before .before .before .before .before .pre .1 .0, sym (c .before .before .before .before .before .word .ensures) ∙ c .before .before .before .if2 .taken))
 
 resolve-any-same-length-4 : (t : ℕ) → resolve-any-lts.Need-same-length-4 (resolve-any-claims t) (resolve-any-at t) resolve-any.Post
 resolve-any-same-length-4 t c = search needs
@@ -213,7 +213,7 @@ resolve-any-returns-2 : (t : ℕ) → resolve-any-lts.Need-returns-2 (resolve-an
 resolve-any-returns-2 t c = c .before .before .before .before .before .before .resolve-fun .ensures
 
 resolve-any-resolve-stmt-requires : (t : ℕ) → resolve-any-lts.Need-resolve-stmt-requires (resolve-any-claims t) (resolve-any-at t) resolve-any.Post
-resolve-any-resolve-stmt-requires t c κs = (search needs, (c .before .before .before .before .before .before .before .before .before .before .before .before .pre .1 .0, omega (arith, c .before .before .before .before .before .before .word .ensures, part-high (c .before .before .before .before .before .before .before .before .before .before .before .before .args .s .now) (c .before .before .before .before .before .before .before .before .before .before .before .before .args .row) (λ e. c .before .before .before .before .before .if1 .left (c .before .before .before .before .before .before .word .ensures ∙ e)) (λ e. c .before .before .before .before .if2 .left (c .before .before .before .before .before .before .word .ensures ∙ e)) (c .before .before .before .before .before .before .before .before .before .before .before .before .pre .1 .1)), omega (arith, c .before .before .before .before .before .before .word .ensures, c .before .before .before .if3 .taken)))
+resolve-any-resolve-stmt-requires t c κs = (search needs, (c .before .before .before .before .before .before .before .before .before .before .before .before .before .pre .1 .0, omega (arith, c .before .before .before .before .before .before .word .ensures, part-high (c .before .before .before .before .before .before .before .before .before .before .before .before .before .args .s .now) (c .before .before .before .before .before .before .before .before .before .before .before .before .before .args .row) (λ e. c .before .before .before .before .before .if1 .left (c .before .before .before .before .before .before .word .ensures ∙ e)) (λ e. c .before .before .before .before .if2 .left (c .before .before .before .before .before .before .word .ensures ∙ e)) (c .before .before .before .before .before .before .before .before .before .before .before .before .before .pre .1 .1)), omega (arith, c .before .before .before .before .before .before .word .ensures, c .before .before .before .if3 .taken)))
 
 resolve-any-same-length-7 : (t : ℕ) → resolve-any-lts.Need-same-length-7 (resolve-any-claims t) (resolve-any-at t) resolve-any.Post
 resolve-any-same-length-7 t c = search needs
@@ -228,7 +228,7 @@ resolve-any-returns-3 : (t : ℕ) → resolve-any-lts.Need-returns-3 (resolve-an
 resolve-any-returns-3 t c = c .before .before .before .before .before .before .resolve-stmt .ensures
 
 resolve-any-resolve-expr-requires : (t : ℕ) → resolve-any-lts.Need-resolve-expr-requires (resolve-any-claims t) (resolve-any-at t) resolve-any.Post
-resolve-any-resolve-expr-requires t c κs = (search needs, (c .before .before .before .before .before .before .before .before .before .before .before .before .pre .1 .0, omega (arith, c .before .before .before .before .before .before .word .ensures, c .before .before .before .if3 .left)))
+resolve-any-resolve-expr-requires t c κs = (search needs, (c .before .before .before .before .before .before .before .before .before .before .before .before .before .pre .1 .0, omega (arith, c .before .before .before .before .before .before .word .ensures, c .before .before .before .if3 .left)))
 
 resolve-any-same-length-10 : (t : ℕ) → resolve-any-lts.Need-same-length-10 (resolve-any-claims t) (resolve-any-at t) resolve-any.Post
 resolve-any-same-length-10 t c = search needs
@@ -243,16 +243,16 @@ resolve-any-returns-4 : (t : ℕ) → resolve-any-lts.Need-returns-4 (resolve-an
 resolve-any-returns-4 t c = c .before .before .before .before .before .before .resolve-expr .ensures
 
 resolve-expr-returns : (t : ℕ) → resolve-expr-lts.Need-returns (resolve-expr-claims t) (resolve-expr-at t) resolve-expr.Post
-resolve-expr-returns t c = walk-none core _ _ _ _ (c .if1 .taken)
+resolve-expr-returns t c = walk-none _ _ _ _ _ (c .if1 .taken)
 
 resolve-expr-sub-resolve-parts : (t : ℕ) → resolve-expr-lts.Need-sub-resolve-parts (resolve-expr-claims t) (resolve-expr-at t) resolve-expr.Post
 resolve-expr-sub-resolve-parts t c = search needs
 
 resolve-expr-resolve-parts-requires : (t : ℕ) → resolve-expr-lts.Need-resolve-parts-requires (resolve-expr-claims t) (resolve-expr-at t) resolve-expr.Post
-resolve-expr-resolve-parts-requires t c κs = (search needs, c .before .before .before .before .before .before .before .before .before .pre .1 .0)
+resolve-expr-resolve-parts-requires t c κs = (search needs, c .before .before .before .before .before .before .before .before .before .before .pre .1 .0)
 
 resolve-expr-after-expr-requires : (t : ℕ) → resolve-expr-lts.Need-after-expr-requires (resolve-expr-claims t) (resolve-expr-at t) resolve-expr.Post
-resolve-expr-after-expr-requires t c κs = (c .before .before .before .before .before .before .before .before .before .before .before .before .before .before .before .before .before .before .before .pre .1 .0 .small, c .before .before .before .before .before .before .before .before .before .before .before .before .before .before .before .before .before .before .before .pre .1 .1)
+resolve-expr-after-expr-requires t c κs = (c .before .before .before .before .before .before .before .before .before .before .before .before .before .before .before .before .before .before .before .before .pre .1 .0 .small, c .before .before .before .before .before .before .before .before .before .before .before .before .before .before .before .before .before .before .before .before .pre .1 .1)
 
 resolve-expr-same-length : (t : ℕ) → resolve-expr-lts.Need-same-length (resolve-expr-claims t) (resolve-expr-at t) resolve-expr.Post
 resolve-expr-same-length t c = search needs
@@ -264,19 +264,19 @@ resolve-expr-same-length-3 : (t : ℕ) → resolve-expr-lts.Need-same-length-3 (
 resolve-expr-same-length-3 t c = search needs
 
 resolve-expr-returns-2 : (t : ℕ) → resolve-expr-lts.Need-returns-2 (resolve-expr-claims t) (resolve-expr-at t) resolve-expr.Post
-resolve-expr-returns-2 t c = walk-by core _ (c .before .before .before .before .before .before .before .before .before .before .before .before .before .before .before .before .before .before .before .before .before .before .before .before .args .s .now) (c .before .before .before .before .before .before .before .before .before .before .before .before .before .before .before .before .before .before .before .before .before .before .before .before .args .row) (stateOf (c .before .before .before .before .before .before .before .before .before .before .before .before .before .before .before .before .before .before .before .before .before .before .before .before .args .w) (c .before .before .before .before .before .before .before .before .before .before .before .before .before .before .before .before .before .before .before .before .before .before .before .before .args .v .now) (c .before .before .before .before .before .before .before .before .before .before .before .before .before .before .before .before .before .before .before .before .before .before .before .before .args .t .now) (c .before .before .before .before .before .before .before .before .before .before .before .before .before .before .before .before .before .before .before .before .before .before .before .before .args .q .now)) (c .before .before .before .before .before .before .before .before .before .before .before .before .before .before .before .before .before .before .if1 .left) (runs-none core _ _ _ (before-expr (c .before .before .before .before .before .before .before .before .before .before .before .before .before .before .before .before .before .before .before .before .before .before .before .before .args .s .now) (c .before .before .before .before .before .before .before .before .before .before .before .before .before .before .before .before .before .before .before .before .before .before .before .before .args .row) (c .before .before .before .before .before .before .before .before .before .before .before .before .before .before .before .before .before .before .before .before .before .before .before .before .pre .1 .1))) (c .before .before .before .before .before .before .before .before .before .before .before .before .before .before .resolve-parts .ensures) (c .before .before .before .before .after-expr .ensures)
+resolve-expr-returns-2 t c = walk-by _ _ (c .before .before .before .before .before .before .before .before .before .before .before .before .before .before .before .before .before .before .before .before .before .before .before .before .before .args .s .now) (c .before .before .before .before .before .before .before .before .before .before .before .before .before .before .before .before .before .before .before .before .before .before .before .before .before .args .row) (stateOf (c .before .before .before .before .before .before .before .before .before .before .before .before .before .before .before .before .before .before .before .before .before .before .before .before .before .args .w) (c .before .before .before .before .before .before .before .before .before .before .before .before .before .before .before .before .before .before .before .before .before .before .before .before .before .args .v .now) (c .before .before .before .before .before .before .before .before .before .before .before .before .before .before .before .before .before .before .before .before .before .before .before .before .before .args .t .now) (c .before .before .before .before .before .before .before .before .before .before .before .before .before .before .before .before .before .before .before .before .before .before .before .before .before .args .q .now)) (c .before .before .before .before .before .before .before .before .before .before .before .before .before .before .before .before .before .before .if1 .left) (runs-none _ _ _ _ (before-expr (c .before .before .before .before .before .before .before .before .before .before .before .before .before .before .before .before .before .before .before .before .before .before .before .before .before .args .s .now) (c .before .before .before .before .before .before .before .before .before .before .before .before .before .before .before .before .before .before .before .before .before .before .before .before .before .args .row) (c .before .before .before .before .before .before .before .before .before .before .before .before .before .before .before .before .before .before .before .before .before .before .before .before .before .pre .1 .1))) (c .before .before .before .before .before .before .before .before .before .before .before .before .before .before .resolve-parts .ensures) (c .before .before .before .before .after-expr .ensures _)
 
 resolve-fun-returns : (t : ℕ) → resolve-fun-lts.Need-returns (resolve-fun-claims t) (resolve-fun-at t) resolve-fun.Post
-resolve-fun-returns t c = walk-none core _ _ _ _ (c .if1 .taken)
+resolve-fun-returns t c = walk-none _ _ _ _ _ (c .if1 .taken)
 
 resolve-fun-before-fun-requires : (t : ℕ) → resolve-fun-lts.Need-before-fun-requires (resolve-fun-claims t) (resolve-fun-at t) resolve-fun.Post
-resolve-fun-before-fun-requires t c κs = (c .before .before .before .before .before .before .before .before .pre .1 .0 .small, c .before .before .before .before .before .before .before .before .pre .1 .1)
+resolve-fun-before-fun-requires t c κs = (c .before .before .before .before .before .before .before .before .before .pre .1 .0 .small, c .before .before .before .before .before .before .before .before .before .pre .1 .1)
 
 resolve-fun-sub-resolve-parts : (t : ℕ) → resolve-fun-lts.Need-sub-resolve-parts (resolve-fun-claims t) (resolve-fun-at t) resolve-fun.Post
 resolve-fun-sub-resolve-parts t c = search needs
 
 resolve-fun-resolve-parts-requires : (t : ℕ) → resolve-fun-lts.Need-resolve-parts-requires (resolve-fun-claims t) (resolve-fun-at t) resolve-fun.Post
-resolve-fun-resolve-parts-requires t c κs = (search needs, c .before .before .before .before .before .before .before .before .before .before .before .before .before .before .before .before .pre .1 .0)
+resolve-fun-resolve-parts-requires t c κs = (search needs, c .before .before .before .before .before .before .before .before .before .before .before .before .before .before .before .before .before .pre .1 .0)
 
 resolve-fun-close-scope-requires : (t : ℕ) → resolve-fun-lts.Need-close-scope-requires (resolve-fun-claims t) (resolve-fun-at t) resolve-fun.Post
 resolve-fun-close-scope-requires t c κs = tt
@@ -291,16 +291,16 @@ resolve-fun-same-length-3 : (t : ℕ) → resolve-fun-lts.Need-same-length-3 (re
 resolve-fun-same-length-3 t c = search needs
 
 resolve-fun-returns-2 : (t : ℕ) → resolve-fun-lts.Need-returns-2 (resolve-fun-claims t) (resolve-fun-at t) resolve-fun.Post
-resolve-fun-returns-2 t c = walk-by core _ (c .before .before .before .before .before .before .before .before .before .before .before .before .before .before .before .before .before .before .before .before .before .before .before .before .before .args .s .now) (c .before .before .before .before .before .before .before .before .before .before .before .before .before .before .before .before .before .before .before .before .before .before .before .before .before .args .row) (stateOf (c .before .before .before .before .before .before .before .before .before .before .before .before .before .before .before .before .before .before .before .before .before .before .before .before .before .args .w) (c .before .before .before .before .before .before .before .before .before .before .before .before .before .before .before .before .before .before .before .before .before .before .before .before .before .args .v .now) (c .before .before .before .before .before .before .before .before .before .before .before .before .before .before .before .before .before .before .before .before .before .before .before .before .before .args .t .now) (c .before .before .before .before .before .before .before .before .before .before .before .before .before .before .before .before .before .before .before .before .before .before .before .before .before .args .q .now)) (c .before .before .before .before .before .before .before .before .before .before .before .before .before .before .before .before .before .before .before .if1 .left) (c .before .before .before .before .before .before .before .before .before .before .before .before .before .before .before .before .before-fun .ensures _) (c .before .before .before .before .before .before .before .before .resolve-parts .ensures) (runs-one core _ _ leave _ (after-fun (c .before .before .before .before .before .before .before .before .before .before .before .before .before .before .before .before .before .before .before .before .before .before .before .before .before .args .s .now) (c .before .before .before .before .before .before .before .before .before .before .before .before .before .before .before .before .before .before .before .before .before .before .before .before .before .args .row) (c .before .before .before .before .before .before .before .before .before .before .before .before .before .before .before .before .before .before .before .before .before .before .before .before .before .pre .1 .1)) (c .close-scope .ensures core _ _ _))
+resolve-fun-returns-2 t c = walk-by _ _ (c .before .before .before .before .before .before .before .before .before .before .before .before .before .before .before .before .before .before .before .before .before .before .before .before .before .before .args .s .now) (c .before .before .before .before .before .before .before .before .before .before .before .before .before .before .before .before .before .before .before .before .before .before .before .before .before .before .args .row) (stateOf (c .before .before .before .before .before .before .before .before .before .before .before .before .before .before .before .before .before .before .before .before .before .before .before .before .before .before .args .w) (c .before .before .before .before .before .before .before .before .before .before .before .before .before .before .before .before .before .before .before .before .before .before .before .before .before .before .args .v .now) (c .before .before .before .before .before .before .before .before .before .before .before .before .before .before .before .before .before .before .before .before .before .before .before .before .before .before .args .t .now) (c .before .before .before .before .before .before .before .before .before .before .before .before .before .before .before .before .before .before .before .before .before .before .before .before .before .before .args .q .now)) (c .before .before .before .before .before .before .before .before .before .before .before .before .before .before .before .before .before .before .before .if1 .left) (c .before .before .before .before .before .before .before .before .before .before .before .before .before .before .before .before .before-fun .ensures _ _) (c .before .before .before .before .before .before .before .before .resolve-parts .ensures) (runs-one _ _ _ leave _ (after-fun (c .before .before .before .before .before .before .before .before .before .before .before .before .before .before .before .before .before .before .before .before .before .before .before .before .before .before .args .s .now) (c .before .before .before .before .before .before .before .before .before .before .before .before .before .before .before .before .before .before .before .before .before .before .before .before .before .before .args .row) (c .before .before .before .before .before .before .before .before .before .before .before .before .before .before .before .before .before .before .before .before .before .before .before .before .before .before .pre .1 .1)) (c .close-scope .ensures _ _ _ _))
 
 resolve-part-is-part-requires : (t : ℕ) → resolve-part-lts.Need-is-part-requires (resolve-part-claims t) (resolve-part-at t) resolve-part.Post
 resolve-part-is-part-requires t c κs = tt
 
 resolve-part-returns : (t : ℕ) → resolve-part-lts.Need-returns (resolve-part-claims t) (resolve-part-at t) resolve-part.Post
-resolve-part-returns t c = part-skipped core _ (c .before .before .before .before .before .before .before .args .s .now) (c .before .before .before .before .before .before .before .args .row) (c .before .before .before .before .before .before .before .args .i) (c .before .before .before .before .before .before .before .args .k) (stateOf (c .before .before .before .before .before .before .before .args .w) (c .before .before .before .before .before .before .before .args .v .now) (c .before .before .before .before .before .before .before .args .t .now) (c .before .before .before .before .before .before .before .args .q .now)) (sym (c .before .is-part .ensures) ∙ not-true (c .before .is-part .result) (c .if1 .taken))
+resolve-part-returns t c = part-skipped _ _ (c .before .before .before .before .before .before .before .before .args .s .now) (c .before .before .before .before .before .before .before .before .args .row) (c .before .before .before .before .before .before .before .before .args .i) (c .before .before .before .before .before .before .before .before .args .k) (stateOf (c .before .before .before .before .before .before .before .before .args .w) (c .before .before .before .before .before .before .before .before .args .v .now) (c .before .before .before .before .before .before .before .before .args .t .now) (c .before .before .before .before .before .before .before .before .args .q .now)) (sym (c .before .is-part .ensures) ∙ not-true (c .before .is-part .result) (c .if1 .taken))
 
 resolve-part-resolve-any-requires : (t : ℕ) → resolve-part-lts.Need-resolve-any-requires (resolve-part-claims t) (resolve-part-at t) resolve-part.Post
-resolve-part-resolve-any-requires t c κs = (search needs, (c .before .before .before .before .before .before .before .before .before .before .pre .1, sym (c .before .before .before .before .is-part .ensures) ∙ not-false (c .before .before .before .before .is-part .result) (c .before .before .before .if1 .left)))
+resolve-part-resolve-any-requires t c κs = (search needs, (c .before .before .before .before .before .before .before .before .before .before .before .pre .1, sym (c .before .before .before .before .is-part .ensures) ∙ not-false (c .before .before .before .before .is-part .result) (c .before .before .before .if1 .left)))
 
 resolve-part-after-part-requires : (t : ℕ) → resolve-part-lts.Need-after-part-requires (resolve-part-claims t) (resolve-part-at t) resolve-part.Post
 resolve-part-after-part-requires t c κs = tt
@@ -315,13 +315,13 @@ resolve-part-same-length-3 : (t : ℕ) → resolve-part-lts.Need-same-length-3 (
 resolve-part-same-length-3 t c = search needs
 
 resolve-part-returns-2 : (t : ℕ) → resolve-part-lts.Need-returns-2 (resolve-part-claims t) (resolve-part-at t) resolve-part.Post
-resolve-part-returns-2 t c = part-by core _ (c .before .before .before .before .before .before .before .before .before .before .before .before .before .before .before .before .before .before .before .before .before .before .before .before .before .before .before .args .s .now) (c .before .before .before .before .before .before .before .before .before .before .before .before .before .before .before .before .before .before .before .before .before .before .before .before .before .before .before .args .row) (c .before .before .before .before .before .before .before .before .before .before .before .before .before .before .before .before .before .before .before .before .before .before .before .before .before .before .before .args .i) (c .before .before .before .before .before .before .before .before .before .before .before .before .before .before .before .before .before .before .before .before .before .before .before .before .before .before .before .args .k) (stateOf (c .before .before .before .before .before .before .before .before .before .before .before .before .before .before .before .before .before .before .before .before .before .before .before .before .before .before .before .args .w) (c .before .before .before .before .before .before .before .before .before .before .before .before .before .before .before .before .before .before .before .before .before .before .before .before .before .before .before .args .v .now) (c .before .before .before .before .before .before .before .before .before .before .before .before .before .before .before .before .before .before .before .before .before .before .before .before .before .before .before .args .t .now) (c .before .before .before .before .before .before .before .before .before .before .before .before .before .before .before .before .before .before .before .before .before .before .before .before .before .before .before .args .q .now)) (sym (c .before .before .before .before .before .before .before .before .before .before .before .before .before .before .before .before .before .before .before .before .before .is-part .ensures) ∙ not-false (c .before .before .before .before .before .before .before .before .before .before .before .before .before .before .before .before .before .before .before .before .before .is-part .result) (c .before .before .before .before .before .before .before .before .before .before .before .before .before .before .before .before .before .before .before .before .if1 .left)) (c .before .before .before .before .before .before .before .before .before .before .before .before .before .before .before .before .resolve-any .ensures) (c .before .before .before .before .before .before .after-part .ensures)
+resolve-part-returns-2 t c = part-by _ _ (c .before .before .before .before .before .before .before .before .before .before .before .before .before .before .before .before .before .before .before .before .before .before .before .before .before .before .before .before .args .s .now) (c .before .before .before .before .before .before .before .before .before .before .before .before .before .before .before .before .before .before .before .before .before .before .before .before .before .before .before .before .args .row) (c .before .before .before .before .before .before .before .before .before .before .before .before .before .before .before .before .before .before .before .before .before .before .before .before .before .before .before .before .args .i) (c .before .before .before .before .before .before .before .before .before .before .before .before .before .before .before .before .before .before .before .before .before .before .before .before .before .before .before .before .args .k) (stateOf (c .before .before .before .before .before .before .before .before .before .before .before .before .before .before .before .before .before .before .before .before .before .before .before .before .before .before .before .before .args .w) (c .before .before .before .before .before .before .before .before .before .before .before .before .before .before .before .before .before .before .before .before .before .before .before .before .before .before .before .before .args .v .now) (c .before .before .before .before .before .before .before .before .before .before .before .before .before .before .before .before .before .before .before .before .before .before .before .before .before .before .before .before .args .t .now) (c .before .before .before .before .before .before .before .before .before .before .before .before .before .before .before .before .before .before .before .before .before .before .before .before .before .before .before .before .args .q .now)) (sym (c .before .before .before .before .before .before .before .before .before .before .before .before .before .before .before .before .before .before .before .before .before .is-part .ensures) ∙ not-false (c .before .before .before .before .before .before .before .before .before .before .before .before .before .before .before .before .before .before .before .before .before .is-part .result) (c .before .before .before .before .before .before .before .before .before .before .before .before .before .before .before .before .before .before .before .before .if1 .left)) (c .before .before .before .before .before .before .before .before .before .before .before .before .before .before .before .before .resolve-any .ensures) (c .before .before .before .before .before .before .after-part .ensures)
 
 abbrev resolve-parts-Inv-loop : resolve-parts-lts.InvT-loop
-resolve-parts-Inv-loop s classes row left v₀ t₀ q₀ n₀ k₀ i₀ a₀ v t q n k i a = (listed core left s row i n k (stateOf a v t q) ≡ listed core left s row i₀ n₀ k₀ (stateOf a₀ v₀ t₀ q₀)) × (i + n ≤ length s / 8) × (length v ≡ length v₀) × (length t ≡ length t₀) × (length q ≡ length q₀)
+resolve-parts-Inv-loop s outside classes row left v₀ t₀ q₀ n₀ k₀ i₀ a₀ v t q n k i a = (listed (over outside) left s row i n k (stateOf a v t q) ≡ listed (over outside) left s row i₀ n₀ k₀ (stateOf a₀ v₀ t₀ q₀)) × (i + n ≤ length s / 8) × (length v ≡ length v₀) × (length t ≡ length t₀) × (length q ≡ length q₀)
 
 abbrev resolve-parts-μ-loop : resolve-parts-lts.MeasureT-loop
-resolve-parts-μ-loop s classes row left v₀ t₀ q₀ n₀ k₀ i₀ a₀ v t q n k i a = n
+resolve-parts-μ-loop s outside classes row left v₀ t₀ q₀ n₀ k₀ i₀ a₀ v t q n k i a = n
 
 resolve-parts-part-list-requires : (t : ℕ) → resolve-parts-lts.Need-part-list-requires (resolve-parts-claims t) (resolve-parts-at t) resolve-parts.Post resolve-parts-Inv-loop resolve-parts-μ-loop
 resolve-parts-part-list-requires t c κs = tt
@@ -339,7 +339,7 @@ resolve-parts-same-length-3 : (t : ℕ) → resolve-parts-lts.Need-same-length-3
 resolve-parts-same-length-3 t c = c .before .before .loop .inv .4
 
 resolve-parts-returns : (t : ℕ) → resolve-parts-lts.Need-returns (resolve-parts-claims t) (resolve-parts-at t) resolve-parts.Post resolve-parts-Inv-loop resolve-parts-μ-loop
-resolve-parts-returns t c = list-end core _ (c .before .before .before .before .before .before .before .before .before .args .s .now) (c .before .before .before .before .before .before .before .before .before .args .row) _ _ _ _ (c .if1 .taken) ∙ c .before .before .loop .inv .0 ∙ list-starts core _ (c .before .before .before .before .before .before .before .before .before .args .s .now) (c .before .before .before .before .before .before .before .before .before .args .row) _ _ (c .before .before .before .part-list .ensures)
+resolve-parts-returns t c = list-end _ _ (c .before .before .before .before .before .before .before .before .before .before .args .s .now) (c .before .before .before .before .before .before .before .before .before .before .args .row) _ _ _ _ (c .if1 .taken) ∙ c .before .before .loop .inv .0 ∙ list-starts _ _ (c .before .before .before .before .before .before .before .before .before .before .args .s .now) (c .before .before .before .before .before .before .before .before .before .before .args .row) _ _ (c .before .before .before .part-list .ensures)
 
 resolve-parts-same-length-4 : (t : ℕ) → resolve-parts-lts.Need-same-length-4 (resolve-parts-claims t) (resolve-parts-at t) resolve-parts.Post resolve-parts-Inv-loop resolve-parts-μ-loop
 resolve-parts-same-length-4 t c = c .before .before .before .before .loop .inv .2
@@ -351,13 +351,13 @@ resolve-parts-same-length-6 : (t : ℕ) → resolve-parts-lts.Need-same-length-6
 resolve-parts-same-length-6 t c = c .before .before .before .before .loop .inv .4
 
 resolve-parts-returns-2 : (t : ℕ) → resolve-parts-lts.Need-returns-2 (resolve-parts-claims t) (resolve-parts-at t) resolve-parts.Post resolve-parts-Inv-loop resolve-parts-μ-loop
-resolve-parts-returns-2 t c = list-refused core _ (c .before .before .before .before .before .before .before .before .before .before .before .args .s .now) (c .before .before .before .before .before .before .before .before .before .before .before .args .row) (c .before .before .before .before .loop .i) (c .before .before .before .before .loop .n) (c .before .before .before .before .loop .k) (stateOf (c .before .before .before .before .loop .a) (c .before .before .before .before .loop .v) (c .before .before .before .before .loop .t) (c .before .before .before .before .loop .q)) (c .if2 .taken) ∙ c .before .before .before .before .loop .inv .0 ∙ list-starts core _ (c .before .before .before .before .before .before .before .before .before .before .before .args .s .now) (c .before .before .before .before .before .before .before .before .before .before .before .args .row) _ _ (c .before .before .before .before .before .part-list .ensures)
+resolve-parts-returns-2 t c = list-refused _ _ (c .before .before .before .before .before .before .before .before .before .before .before .before .args .s .now) (c .before .before .before .before .before .before .before .before .before .before .before .before .args .row) (c .before .before .before .before .loop .i) (c .before .before .before .before .loop .n) (c .before .before .before .before .loop .k) (stateOf (c .before .before .before .before .loop .a) (c .before .before .before .before .loop .v) (c .before .before .before .before .loop .t) (c .before .before .before .before .loop .q)) (c .if2 .taken) ∙ c .before .before .before .before .loop .inv .0 ∙ list-starts _ _ (c .before .before .before .before .before .before .before .before .before .before .before .before .args .s .now) (c .before .before .before .before .before .before .before .before .before .before .before .before .args .row) _ _ (c .before .before .before .before .before .part-list .ensures)
 
 resolve-parts-resolve-part-requires : (t : ℕ) → resolve-parts-lts.Need-resolve-part-requires (resolve-parts-claims t) (resolve-parts-at t) resolve-parts.Post resolve-parts-Inv-loop resolve-parts-μ-loop
-resolve-parts-resolve-part-requires t c κs = (search needs, c .before .before .before .before .before .before .before .before .before .before .before .before .before .before .pre .1)
+resolve-parts-resolve-part-requires t c κs = (search needs, c .before .before .before .before .before .before .before .before .before .before .before .before .before .before .before .pre .1)
 
 resolve-parts-place-after-requires : (t : ℕ) → resolve-parts-lts.Need-place-after-requires (resolve-parts-claims t) (resolve-parts-at t) resolve-parts.Post resolve-parts-Inv-loop resolve-parts-μ-loop
-resolve-parts-place-after-requires t c κs = omega (arith, c .before .before .before .before .before .before .before .before .before .before .before .before .before .before .loop .inv .1, c .before .before .before .before .before .before .before .before .before .before .before .before .before .before .before .before .before .before .before .before .before .pre .1 .small)
+resolve-parts-place-after-requires t c κs = omega (arith, c .before .before .before .before .before .before .before .before .before .before .before .before .before .before .loop .inv .1, c .before .before .before .before .before .before .before .before .before .before .before .before .before .before .before .before .before .before .before .before .before .before .pre .1 .small)
 
 resolve-parts-word-requires : (t : ℕ) → resolve-parts-lts.Need-word-requires (resolve-parts-claims t) (resolve-parts-at t) resolve-parts.Post resolve-parts-Inv-loop resolve-parts-μ-loop
 resolve-parts-word-requires t c κs = tt
@@ -370,8 +370,8 @@ resolve-parts-loop-less t c = omega (arith, c .before .before .before .before .b
 
 resolve-parts-loop-again : (t : ℕ) → resolve-parts-lts.Need-loop-again (resolve-parts-claims t) (resolve-parts-at t) resolve-parts.Post resolve-parts-Inv-loop resolve-parts-μ-loop
 resolve-parts-loop-again t c = (
-  list-more core _ (c .before .before .before .before .before .before .before .before .before .before .before .before .before .before .before .before .before .before .before .before .before .before .before .args .s .now) (c .before .before .before .before .before .before .before .before .before .before .before .before .before .before .before .before .before .before .before .before .before .before .before .args .row) _ _ _ _ _ (stateOf (c .before .before .before .before .before .before .before .before .before .before .before .before .before .before .before .before .loop .a) (c .before .before .before .before .before .before .before .before .before .before .before .before .before .before .before .before .loop .v) (c .before .before .before .before .before .before .before .before .before .before .before .before .before .before .before .before .loop .t) (c .before .before .before .before .before .before .before .before .before .before .before .before .before .before .before .before .loop .q)) (c .before .before .before .before .before .before .before .before .before .before .before .before .before .before .before .loop-test .taken) (c .before .before .before .before .before .before .before .before .before .before .before .before .before .before .if1 .left) (c .before .before .before .before .before .before .before .before .resolve-part .ensures) (c .before .place-after .ensures) (c .word .ensures) ∙ c .before .before .before .before .before .before .before .before .before .before .before .before .before .before .before .before .loop .inv .0,
-  place-bound (isPart (c .before .before .before .before .before .before .before .before .before .before .before .before .before .before .before .before .before .before .before .before .before .before .before .args .s .now) (c .before .before .before .before .before .before .before .before .before .before .before .before .before .before .before .before .loop .k)) (c .before .before .before .before .before .before .before .before .before .before .before .before .before .before .before .before .loop .i) _ (c .before .before .before .before .before .before .before .before .before .before .before .before .before .before .before .before .loop .n) _ (c .before .place-after .ensures) (c .before .before .before .before .before .before .before .before .before .before .before .before .before .before .before .loop-test .taken) (c .before .before .before .before .before .before .before .before .before .before .before .before .before .before .before .before .loop .inv .1),
+  list-more _ _ (c .before .before .before .before .before .before .before .before .before .before .before .before .before .before .before .before .before .before .before .before .before .before .before .before .args .s .now) (c .before .before .before .before .before .before .before .before .before .before .before .before .before .before .before .before .before .before .before .before .before .before .before .before .args .row) _ _ _ _ _ (stateOf (c .before .before .before .before .before .before .before .before .before .before .before .before .before .before .before .before .loop .a) (c .before .before .before .before .before .before .before .before .before .before .before .before .before .before .before .before .loop .v) (c .before .before .before .before .before .before .before .before .before .before .before .before .before .before .before .before .loop .t) (c .before .before .before .before .before .before .before .before .before .before .before .before .before .before .before .before .loop .q)) (c .before .before .before .before .before .before .before .before .before .before .before .before .before .before .before .loop-test .taken) (c .before .before .before .before .before .before .before .before .before .before .before .before .before .before .if1 .left) (c .before .before .before .before .before .before .before .before .resolve-part .ensures) (c .before .place-after .ensures) (c .word .ensures) ∙ c .before .before .before .before .before .before .before .before .before .before .before .before .before .before .before .before .loop .inv .0,
+  place-bound (isPart (c .before .before .before .before .before .before .before .before .before .before .before .before .before .before .before .before .before .before .before .before .before .before .before .before .args .s .now) (c .before .before .before .before .before .before .before .before .before .before .before .before .before .before .before .before .loop .k)) (c .before .before .before .before .before .before .before .before .before .before .before .before .before .before .before .before .loop .i) _ (c .before .before .before .before .before .before .before .before .before .before .before .before .before .before .before .before .loop .n) _ (c .before .place-after .ensures) (c .before .before .before .before .before .before .before .before .before .before .before .before .before .before .before .loop-test .taken) (c .before .before .before .before .before .before .before .before .before .before .before .before .before .before .before .before .loop .inv .1),
   search needs,
   search needs,
   search needs,
@@ -387,46 +387,46 @@ resolve-parts-same-length-9 : (t : ℕ) → resolve-parts-lts.Need-same-length-9
 resolve-parts-same-length-9 t c = c .before .loop .inv .4
 
 resolve-parts-returns-3 : (t : ℕ) → resolve-parts-lts.Need-returns-3 (resolve-parts-claims t) (resolve-parts-at t) resolve-parts.Post resolve-parts-Inv-loop resolve-parts-μ-loop
-resolve-parts-returns-3 t c = list-none core _ (c .before .before .before .before .before .before .before .before .args .s .now) (c .before .before .before .before .before .before .before .before .args .row) _ _ _ _ (c .loop-test .left) ∙ c .before .loop .inv .0 ∙ list-starts core _ (c .before .before .before .before .before .before .before .before .args .s .now) (c .before .before .before .before .before .before .before .before .args .row) _ _ (c .before .before .part-list .ensures)
+resolve-parts-returns-3 t c = list-none _ _ (c .before .before .before .before .before .before .before .before .before .args .s .now) (c .before .before .before .before .before .before .before .before .before .args .row) _ _ _ _ (c .loop-test .left) ∙ c .before .loop .inv .0 ∙ list-starts _ _ (c .before .before .before .before .before .before .before .before .before .args .s .now) (c .before .before .before .before .before .before .before .before .before .args .row) _ _ (c .before .before .part-list .ensures)
 
 resolve-stmt-returns : (t : ℕ) → resolve-stmt-lts.Need-returns (resolve-stmt-claims t) (resolve-stmt-at t) resolve-stmt.Post
-resolve-stmt-returns t c = walk-none core _ _ _ _ (c .if1 .taken)
+resolve-stmt-returns t c = walk-none _ _ _ _ _ (c .if1 .taken)
 
 resolve-stmt-before-stmt-requires : (t : ℕ) → resolve-stmt-lts.Need-before-stmt-requires (resolve-stmt-claims t) (resolve-stmt-at t) resolve-stmt.Post
-resolve-stmt-before-stmt-requires t c κs = (c .before .before .before .before .before .before .before .before .pre .1 .0 .small, c .before .before .before .before .before .before .before .before .pre .1 .1)
+resolve-stmt-before-stmt-requires t c κs = (c .before .before .before .before .before .before .before .before .before .pre .1 .0 .small, c .before .before .before .before .before .before .before .before .before .pre .1 .1)
 
 resolve-stmt-sub-resolve-parts : (t : ℕ) → resolve-stmt-lts.Need-sub-resolve-parts (resolve-stmt-claims t) (resolve-stmt-at t) resolve-stmt.Post
 resolve-stmt-sub-resolve-parts t c = search needs
 
 resolve-stmt-resolve-parts-requires : (t : ℕ) → resolve-stmt-lts.Need-resolve-parts-requires (resolve-stmt-claims t) (resolve-stmt-at t) resolve-stmt.Post
-resolve-stmt-resolve-parts-requires t c κs = (search needs, c .before .before .before .before .before .before .before .before .before .before .before .before .before .before .before .before .pre .1 .0)
+resolve-stmt-resolve-parts-requires t c κs = (search needs, c .before .before .before .before .before .before .before .before .before .before .before .before .before .before .before .before .before .pre .1 .0)
 
 resolve-stmt-after-stmt-requires : (t : ℕ) → resolve-stmt-lts.Need-after-stmt-requires (resolve-stmt-claims t) (resolve-stmt-at t) resolve-stmt.Post
-resolve-stmt-after-stmt-requires t c κs = c .before .before .before .before .before .before .before .before .before .before .before .before .before .before .before .before .before .before .before .before .before .before .before .before .before .before .pre .1
+resolve-stmt-after-stmt-requires t c κs = c .before .before .before .before .before .before .before .before .before .before .before .before .before .before .before .before .before .before .before .before .before .before .before .before .before .before .before .pre .1
 
 resolve-stmt-same-length : (t : ℕ) → resolve-stmt-lts.Need-same-length (resolve-stmt-claims t) (resolve-stmt-at t) resolve-stmt.Post
-resolve-stmt-same-length t c = omega (arith, c .before .before .before .before .before .before .before .before .before .before .before .before .before .before .before .before .before .before .before .before .before .before .before .before .before-stmt .kept .1 .1 .1 .0, c .before .before .before .before .before .before .before .before .before .before .before .before .before .before .before .before .resolve-parts .kept .1 .1 .1 .1 .1 .0, c .before .before .before .before .before .before .after-stmt .kept .1 .1 .1 .1 .0)
+resolve-stmt-same-length t c = omega (arith, c .before .before .before .before .before .before .before .before .before .before .before .before .before .before .before .before .before .before .before .before .before .before .before .before .before-stmt .kept .1 .1 .1 .0, c .before .before .before .before .before .before .before .before .before .before .before .before .before .before .before .before .resolve-parts .kept .1 .1 .1 .1 .1 .1 .0, c .before .before .before .before .before .before .after-stmt .kept .1 .1 .1 .1 .0)
 
 resolve-stmt-same-length-2 : (t : ℕ) → resolve-stmt-lts.Need-same-length-2 (resolve-stmt-claims t) (resolve-stmt-at t) resolve-stmt.Post
-resolve-stmt-same-length-2 t c = omega (arith, c .before .before .before .before .before .before .before .before .before .before .before .before .before .before .before .before .before .before .before .before .before .before .before .before .before-stmt .kept .1 .1 .1 .1 .0, c .before .before .before .before .before .before .before .before .before .before .before .before .before .before .before .before .resolve-parts .kept .1 .1 .1 .1 .1 .1 .0, c .before .before .before .before .before .before .after-stmt .kept .1 .1 .1 .1 .1 .0)
+resolve-stmt-same-length-2 t c = omega (arith, c .before .before .before .before .before .before .before .before .before .before .before .before .before .before .before .before .before .before .before .before .before .before .before .before .before-stmt .kept .1 .1 .1 .1 .0, c .before .before .before .before .before .before .before .before .before .before .before .before .before .before .before .before .resolve-parts .kept .1 .1 .1 .1 .1 .1 .1 .0, c .before .before .before .before .before .before .after-stmt .kept .1 .1 .1 .1 .1 .0)
 
 resolve-stmt-same-length-3 : (t : ℕ) → resolve-stmt-lts.Need-same-length-3 (resolve-stmt-claims t) (resolve-stmt-at t) resolve-stmt.Post
 resolve-stmt-same-length-3 t c = search needs
 
 resolve-stmt-returns-2 : (t : ℕ) → resolve-stmt-lts.Need-returns-2 (resolve-stmt-claims t) (resolve-stmt-at t) resolve-stmt.Post
-resolve-stmt-returns-2 t c = walk-by core _ (c .before .before .before .before .before .before .before .before .before .before .before .before .before .before .before .before .before .before .before .before .before .before .before .before .before .before .before .before .before .before .before .before .before .args .s .now) (c .before .before .before .before .before .before .before .before .before .before .before .before .before .before .before .before .before .before .before .before .before .before .before .before .before .before .before .before .before .before .before .before .before .args .row) (stateOf (c .before .before .before .before .before .before .before .before .before .before .before .before .before .before .before .before .before .before .before .before .before .before .before .before .before .before .before .before .before .before .before .before .before .args .w) (c .before .before .before .before .before .before .before .before .before .before .before .before .before .before .before .before .before .before .before .before .before .before .before .before .before .before .before .before .before .before .before .before .before .args .v .now) (c .before .before .before .before .before .before .before .before .before .before .before .before .before .before .before .before .before .before .before .before .before .before .before .before .before .before .before .before .before .before .before .before .before .args .t .now) (c .before .before .before .before .before .before .before .before .before .before .before .before .before .before .before .before .before .before .before .before .before .before .before .before .before .before .before .before .before .before .before .before .before .args .q .now)) (c .before .before .before .before .before .before .before .before .before .before .before .before .before .before .before .before .before .before .before .before .before .before .before .before .before .before .before .if1 .left) (c .before .before .before .before .before .before .before .before .before .before .before .before .before .before .before .before .before .before .before .before .before .before .before .before .before-stmt .ensures _) (c .before .before .before .before .before .before .before .before .before .before .before .before .before .before .before .before .resolve-parts .ensures) (c .before .before .before .before .before .before .after-stmt .ensures)
+resolve-stmt-returns-2 t c = walk-by _ _ (c .before .before .before .before .before .before .before .before .before .before .before .before .before .before .before .before .before .before .before .before .before .before .before .before .before .before .before .before .before .before .before .before .before .before .args .s .now) (c .before .before .before .before .before .before .before .before .before .before .before .before .before .before .before .before .before .before .before .before .before .before .before .before .before .before .before .before .before .before .before .before .before .before .args .row) (stateOf (c .before .before .before .before .before .before .before .before .before .before .before .before .before .before .before .before .before .before .before .before .before .before .before .before .before .before .before .before .before .before .before .before .before .before .args .w) (c .before .before .before .before .before .before .before .before .before .before .before .before .before .before .before .before .before .before .before .before .before .before .before .before .before .before .before .before .before .before .before .before .before .before .args .v .now) (c .before .before .before .before .before .before .before .before .before .before .before .before .before .before .before .before .before .before .before .before .before .before .before .before .before .before .before .before .before .before .before .before .before .before .args .t .now) (c .before .before .before .before .before .before .before .before .before .before .before .before .before .before .before .before .before .before .before .before .before .before .before .before .before .before .before .before .before .before .before .before .before .before .args .q .now)) (c .before .before .before .before .before .before .before .before .before .before .before .before .before .before .before .before .before .before .before .before .before .before .before .before .before .before .before .if1 .left) (c .before .before .before .before .before .before .before .before .before .before .before .before .before .before .before .before .before .before .before .before .before .before .before .before .before-stmt .ensures _ _) (c .before .before .before .before .before .before .before .before .before .before .before .before .before .before .before .before .resolve-parts .ensures) (c .before .before .before .before .before .before .after-stmt .ensures _)
 
 resolve-unit-returns : (t : ℕ) → resolve-unit-lts.Need-returns (resolve-unit-claims t) (resolve-unit-at t) resolve-unit.Post
-resolve-unit-returns t c = walk-none core _ _ _ _ (c .if1 .taken)
+resolve-unit-returns t c = walk-none _ _ _ _ _ (c .if1 .taken)
 
 resolve-unit-before-unit-requires : (t : ℕ) → resolve-unit-lts.Need-before-unit-requires (resolve-unit-claims t) (resolve-unit-at t) resolve-unit.Post
-resolve-unit-before-unit-requires t c κs = (c .before .before .before .before .before .before .before .before .pre .1 .0 .small, c .before .before .before .before .before .before .before .before .pre .1 .1)
+resolve-unit-before-unit-requires t c κs = (c .before .before .before .before .before .before .before .before .before .pre .1 .0 .small, c .before .before .before .before .before .before .before .before .before .pre .1 .1)
 
 resolve-unit-sub-resolve-parts : (t : ℕ) → resolve-unit-lts.Need-sub-resolve-parts (resolve-unit-claims t) (resolve-unit-at t) resolve-unit.Post
 resolve-unit-sub-resolve-parts t c = search needs
 
 resolve-unit-resolve-parts-requires : (t : ℕ) → resolve-unit-lts.Need-resolve-parts-requires (resolve-unit-claims t) (resolve-unit-at t) resolve-unit.Post
-resolve-unit-resolve-parts-requires t c κs = (search needs, c .before .before .before .before .before .before .before .before .before .before .before .before .before .before .before .before .pre .1 .0)
+resolve-unit-resolve-parts-requires t c κs = (search needs, c .before .before .before .before .before .before .before .before .before .before .before .before .before .before .before .before .before .pre .1 .0)
 
 resolve-unit-close-scope-requires : (t : ℕ) → resolve-unit-lts.Need-close-scope-requires (resolve-unit-claims t) (resolve-unit-at t) resolve-unit.Post
 resolve-unit-close-scope-requires t c κs = tt
@@ -441,7 +441,7 @@ resolve-unit-same-length-3 : (t : ℕ) → resolve-unit-lts.Need-same-length-3 (
 resolve-unit-same-length-3 t c = search needs
 
 resolve-unit-returns-2 : (t : ℕ) → resolve-unit-lts.Need-returns-2 (resolve-unit-claims t) (resolve-unit-at t) resolve-unit.Post
-resolve-unit-returns-2 t c = walk-by core _ (c .before .before .before .before .before .before .before .before .before .before .before .before .before .before .before .before .before .before .before .before .before .before .before .before .before .args .s .now) (c .before .before .before .before .before .before .before .before .before .before .before .before .before .before .before .before .before .before .before .before .before .before .before .before .before .args .row) (stateOf (c .before .before .before .before .before .before .before .before .before .before .before .before .before .before .before .before .before .before .before .before .before .before .before .before .before .args .w) (c .before .before .before .before .before .before .before .before .before .before .before .before .before .before .before .before .before .before .before .before .before .before .before .before .before .args .v .now) (c .before .before .before .before .before .before .before .before .before .before .before .before .before .before .before .before .before .before .before .before .before .before .before .before .before .args .t .now) (c .before .before .before .before .before .before .before .before .before .before .before .before .before .before .before .before .before .before .before .before .before .before .before .before .before .args .q .now)) (c .before .before .before .before .before .before .before .before .before .before .before .before .before .before .before .before .before .before .before .if1 .left) (c .before .before .before .before .before .before .before .before .before .before .before .before .before .before .before .before .before-unit .ensures _) (c .before .before .before .before .before .before .before .before .resolve-parts .ensures) (runs-one core _ _ leave _ (after-unit (c .before .before .before .before .before .before .before .before .before .before .before .before .before .before .before .before .before .before .before .before .before .before .before .before .before .args .s .now) (c .before .before .before .before .before .before .before .before .before .before .before .before .before .before .before .before .before .before .before .before .before .before .before .before .before .args .row) (c .before .before .before .before .before .before .before .before .before .before .before .before .before .before .before .before .before .before .before .before .before .before .before .before .before .pre .1 .1)) (c .close-scope .ensures core _ _ _))
+resolve-unit-returns-2 t c = walk-by _ _ (c .before .before .before .before .before .before .before .before .before .before .before .before .before .before .before .before .before .before .before .before .before .before .before .before .before .before .args .s .now) (c .before .before .before .before .before .before .before .before .before .before .before .before .before .before .before .before .before .before .before .before .before .before .before .before .before .before .args .row) (stateOf (c .before .before .before .before .before .before .before .before .before .before .before .before .before .before .before .before .before .before .before .before .before .before .before .before .before .before .args .w) (c .before .before .before .before .before .before .before .before .before .before .before .before .before .before .before .before .before .before .before .before .before .before .before .before .before .before .args .v .now) (c .before .before .before .before .before .before .before .before .before .before .before .before .before .before .before .before .before .before .before .before .before .before .before .before .before .before .args .t .now) (c .before .before .before .before .before .before .before .before .before .before .before .before .before .before .before .before .before .before .before .before .before .before .before .before .before .before .args .q .now)) (c .before .before .before .before .before .before .before .before .before .before .before .before .before .before .before .before .before .before .before .if1 .left) (c .before .before .before .before .before .before .before .before .before .before .before .before .before .before .before .before .before-unit .ensures _ _) (c .before .before .before .before .before .before .before .before .resolve-parts .ensures) (runs-one _ _ _ leave _ (after-unit (c .before .before .before .before .before .before .before .before .before .before .before .before .before .before .before .before .before .before .before .before .before .before .before .before .before .before .args .s .now) (c .before .before .before .before .before .before .before .before .before .before .before .before .before .before .before .before .before .before .before .before .before .before .before .before .before .before .args .row) (c .before .before .before .before .before .before .before .before .before .before .before .before .before .before .before .before .before .before .before .before .before .before .before .before .before .before .pre .1 .1)) (c .close-scope .ensures _ _ _ _))
 
 pub +resolve-any+resolve-expr+resolve-fun+resolve-part+resolve-parts+resolve-stmt+resolve-unit-spec :
     {M : Type 1} → statement M

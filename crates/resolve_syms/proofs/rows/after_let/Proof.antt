@@ -1,6 +1,5 @@
 use mathlib.Core.Path.{sym, _∙_}
 use Rattle.definition.specs.Walk.{after, declare}
-use Rattle.definition.specs.Outside.{core}
 use Rattle.walk.specs.WalkState.{stateOf}
 use Rattle.resolve_syms.proofs.RowLaws.{runs-none, runs-one, after-literal, after-let}
 use borrow.Author.Needs.{needs}
@@ -14,7 +13,7 @@ word-requires-2 : tie.Need-word-requires-2
 word-requires-2 c κs = search needs
 
 returns : tie.Need-returns
-returns c = λ q. runs-none core (c .before .before .before .before .before .before .args .s .now) (after (c .before .before .before .before .before .before .args .s .now) (c .before .before .before .before .before .before .args .r)) (stateOf (c .before .before .before .before .before .before .args .w) (c .before .before .before .before .before .before .args .v .now) (c .before .before .before .before .before .before .args .t .now) q) (after-literal (c .before .before .before .before .before .before .args .s .now) (c .before .before .before .before .before .before .args .r) (c .before .before .before .before .before .before .pre .1) (rw (← c .before .before .word .ensures) (sym (c .before .word2 .ensures) ∙ c .if1 .taken)))
+returns c = λ O q. runs-none O (c .before .before .before .before .before .before .args .s .now) (after (c .before .before .before .before .before .before .args .s .now) (c .before .before .before .before .before .before .args .r)) (stateOf (c .before .before .before .before .before .before .args .w) (c .before .before .before .before .before .before .args .v .now) (c .before .before .before .before .before .before .args .t .now) q) (after-literal (c .before .before .before .before .before .before .args .s .now) (c .before .before .before .before .before .before .args .r) (c .before .before .before .before .before .before .pre .1) (rw (← c .before .before .word .ensures) (sym (c .before .word2 .ensures) ∙ c .if1 .taken)))
 
 declare-requires : tie.Need-declare-requires
 declare-requires c κs = search needs
@@ -26,7 +25,7 @@ same-length-2 : tie.Need-same-length-2
 same-length-2 c = search needs
 
 returns-2 : tie.Need-returns-2
-returns-2 c = λ q. runs-one core (c .before .before .before .before .before .before .before .before .before .before .before .before .before .args .s .now) (after (c .before .before .before .before .before .before .before .before .before .before .before .before .before .args .s .now) (c .before .before .before .before .before .before .before .before .before .before .before .before .before .args .r)) (declare (c .before .before .before .before .before .before .before .before .before .before .before .before .before .args .r)) (stateOf (c .before .before .before .before .before .before .before .before .before .before .before .before .before .args .w) (c .before .before .before .before .before .before .before .before .before .before .before .before .before .args .v .now) (c .before .before .before .before .before .before .before .before .before .before .before .before .before .args .t .now) q) (after-let (c .before .before .before .before .before .before .before .before .before .before .before .before .before .args .s .now) (c .before .before .before .before .before .before .before .before .before .before .before .before .before .args .r) (c .before .before .before .before .before .before .before .before .before .before .before .before .before .pre .1) (rw (← c .before .before .before .before .before .before .before .before .before .word .ensures) (λ e. c .before .before .before .before .before .before .before .if1 .left (c .before .before .before .before .before .before .before .before .word2 .ensures ∙ e)))) (c .before .before .before .before .declare .ensures core q)
+returns-2 c = λ O q. runs-one O (c .before .before .before .before .before .before .before .before .before .before .before .before .before .args .s .now) (after (c .before .before .before .before .before .before .before .before .before .before .before .before .before .args .s .now) (c .before .before .before .before .before .before .before .before .before .before .before .before .before .args .r)) (declare (c .before .before .before .before .before .before .before .before .before .before .before .before .before .args .r)) (stateOf (c .before .before .before .before .before .before .before .before .before .before .before .before .before .args .w) (c .before .before .before .before .before .before .before .before .before .before .before .before .before .args .v .now) (c .before .before .before .before .before .before .before .before .before .before .before .before .before .args .t .now) q) (after-let (c .before .before .before .before .before .before .before .before .before .before .before .before .before .args .s .now) (c .before .before .before .before .before .before .before .before .before .before .before .before .before .args .r) (c .before .before .before .before .before .before .before .before .before .before .before .before .before .pre .1) (rw (← c .before .before .before .before .before .before .before .before .before .word .ensures) (λ e. c .before .before .before .before .before .before .before .if1 .left (c .before .before .before .before .before .before .before .before .word2 .ensures ∙ e)))) (c .before .before .before .before .declare .ensures O q)
 
 pub after-let-spec : {M : Type 1} → statement M
 after-let-spec =

@@ -1,5 +1,4 @@
 use Rattle.definition.specs.Walk.{enter}
-use Rattle.definition.specs.Outside.{core}
 use Rattle.walk.specs.WalkState.{stateOf}
 use Rattle.walk.proofs.RunLaws.{run-first, run-both}
 use Rattle.resolve_syms.proofs.RowLaws.{before-unit}
@@ -23,7 +22,7 @@ same-length-2 : tie.Need-same-length-2
 same-length-2 c = search needs
 
 returns : tie.Need-returns
-returns c = λ q. rw (before-unit (c .before .before .before .before .before .before .before .before .before .before .before .before .before .before .before .before .before .before .args .s .now) (c .before .before .before .before .before .before .before .before .before .before .before .before .before .before .before .before .before .before .args .r) (c .before .before .before .before .before .before .before .before .before .before .before .before .before .before .before .before .before .before .pre .1)) (run-both core (c .before .before .before .before .before .before .before .before .before .before .before .before .before .before .before .before .before .before .args .s .now) _ _ (stateOf (c .before .before .before .before .before .before .before .before .before .before .before .before .before .before .before .before .before .before .args .w) (c .before .before .before .before .before .before .before .before .before .before .before .before .before .before .before .before .before .before .args .v .now) (c .before .before .before .before .before .before .before .before .before .before .before .before .before .before .before .before .before .before .args .t .now) q) (run-first core (c .before .before .before .before .before .before .before .before .before .before .before .before .before .before .before .before .before .before .args .s .now) (enter (c .before .before .before .before .before .before .before .before .before .before .before .before .before .before .before .before .before .before .args .r)) _ (stateOf (c .before .before .before .before .before .before .before .before .before .before .before .before .before .before .before .before .before .before .args .w) (c .before .before .before .before .before .before .before .before .before .before .before .before .before .before .before .before .before .before .args .v .now) (c .before .before .before .before .before .before .before .before .before .before .before .before .before .before .before .before .before .before .args .t .now) q) (c .before .before .before .before .before .before .before .before .before .before .before .before .before .open-scope .ensures core _ q) (c .before .before .before .before .before .before .before .before .before .define-imports .ensures core _ q)) (c .before .before .before .before .declare-kind .ensures core q))
+returns c = λ O q. rw (before-unit (c .before .before .before .before .before .before .before .before .before .before .before .before .before .before .before .before .before .before .args .s .now) (c .before .before .before .before .before .before .before .before .before .before .before .before .before .before .before .before .before .before .args .r) (c .before .before .before .before .before .before .before .before .before .before .before .before .before .before .before .before .before .before .pre .1)) (run-both O (c .before .before .before .before .before .before .before .before .before .before .before .before .before .before .before .before .before .before .args .s .now) _ _ (stateOf (c .before .before .before .before .before .before .before .before .before .before .before .before .before .before .before .before .before .before .args .w) (c .before .before .before .before .before .before .before .before .before .before .before .before .before .before .before .before .before .before .args .v .now) (c .before .before .before .before .before .before .before .before .before .before .before .before .before .before .before .before .before .before .args .t .now) q) (run-first O (c .before .before .before .before .before .before .before .before .before .before .before .before .before .before .before .before .before .before .args .s .now) (enter (c .before .before .before .before .before .before .before .before .before .before .before .before .before .before .before .before .before .before .args .r)) _ (stateOf (c .before .before .before .before .before .before .before .before .before .before .before .before .before .before .before .before .before .before .args .w) (c .before .before .before .before .before .before .before .before .before .before .before .before .before .before .before .before .before .before .args .v .now) (c .before .before .before .before .before .before .before .before .before .before .before .before .before .before .before .before .before .before .args .t .now) q) (c .before .before .before .before .before .before .before .before .before .before .before .before .before .open-scope .ensures O _ q) (c .before .before .before .before .before .before .before .before .before .define-imports .ensures O _ q)) (c .before .before .before .before .declare-kind .ensures O q))
 
 pub before-unit-spec : {M : Type 1} → statement M
 before-unit-spec =

@@ -4,13 +4,13 @@ use Rattle.walk.proofs.CallLaws.{call-other}
 use borrow.Author.Needs.{needs}
 use Rattle.walk.proofs.calls.check_callee.Statement.{statement}
 use Rattle.walk.proofs.calls.check_callee.Tie as tie
-use Rattle.definition.specs.Outside.{core}
+use Rattle.outside.specs.Words.{over}
 
 constructed-class-requires : tie.Need-constructed-class-requires
 constructed-class-requires c κs = search needs
 
 construct-requires : tie.Need-construct-requires
-construct-requires c κs = (c .before .before .before .before .before .before .before .before .before .pre, c .before .if1 .taken)
+construct-requires c κs = (c .before .before .before .before .before .before .before .before .before .before .pre, c .before .if1 .taken)
 
 same-length : tie.Need-same-length
 same-length c = search needs
@@ -22,7 +22,7 @@ receiver-class-requires : tie.Need-receiver-class-requires
 receiver-class-requires c κs = search needs
 
 call-method-requires : tie.Need-call-method-requires
-call-method-requires c κs = (c .before .before .before .before .before .before .before .before .before .before .before .before .pre, c .before .if2 .taken)
+call-method-requires c κs = (c .before .before .before .before .before .before .before .before .before .before .before .before .before .pre, c .before .if2 .taken)
 
 same-length-2 : tie.Need-same-length-2
 same-length-2 c = search needs
@@ -31,7 +31,7 @@ returns-2 : tie.Need-returns-2
 returns-2 c = c .before .before .call-method .ensures _ _ (c .before .before .before .before .before .before .receiver-class .ensures)
 
 returns-3 : tie.Need-returns-3
-returns-3 c = call-other core (c .before .before .before .before .before .before .before .before .before .before .before .args .s .now) (c .before .before .before .before .before .before .before .before .before .before .before .args .r) (stateOf (c .before .before .before .before .before .before .before .before .before .before .before .args .w) (c .before .before .before .before .before .before .before .before .before .before .before .args .v .now) (c .before .before .before .before .before .before .before .before .before .before .before .args .t .now) (c .before .before .before .before .before .before .before .before .before .before .before .args .q .now)) (c .before .before .before .before .before .before .before .before .before .before .before .pre) (sym (c .before .before .before .before .before .constructed-class .ensures) ∙ c .before .before .before .if1 .left) (sym (c .before .before .receiver-class .ensures) ∙ c .if2 .left)
+returns-3 c = call-other (over (c .before .before .before .before .before .before .before .before .before .before .before .before .args .outside .now)) (c .before .before .before .before .before .before .before .before .before .before .before .before .args .s .now) (c .before .before .before .before .before .before .before .before .before .before .before .before .args .r) (stateOf (c .before .before .before .before .before .before .before .before .before .before .before .before .args .w) (c .before .before .before .before .before .before .before .before .before .before .before .before .args .v .now) (c .before .before .before .before .before .before .before .before .before .before .before .before .args .t .now) (c .before .before .before .before .before .before .before .before .before .before .before .before .args .q .now)) (c .before .before .before .before .before .before .before .before .before .before .before .before .pre) (sym (c .before .before .before .before .before .constructed-class .ensures) ∙ c .before .before .before .if1 .left) (sym (c .before .before .receiver-class .ensures) ∙ c .if2 .left)
 
 pub check-callee-spec : {M : Type 1} → statement M
 check-callee-spec =
