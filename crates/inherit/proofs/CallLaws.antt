@@ -9,14 +9,13 @@ use lib.ListN.{length}
 use borrow.Author.Tests.{eq-eqb, ne-eqb}
 use Rattle.definition.specs.Basics.{if_then_else_, first}
 use Rattle.definition.specs.Sheet.{Sheet, child, next, rows, chain}
-use Rattle.definition.specs.Classes.{className, methodNamed, arity, methodOf}
+use Rattle.definition.specs.Classes.{className, methodOf}
 use Rattle.definition.specs.Question.{Refusal, none, ask, firstNo, arguments}
 use Rattle.definition.proofs.Lists.Members.{map-append}
-use Rattle.definition.specs.Outside.{core}
+use Rattle.definition.specs.Outside.{Outside}
 use Rattle.machine.specs.Machine.{Store, Node, nodeWord, nodeAt, previous, chainTo}
 use Rattle.machine.proofs.ByKind.{list-none, list-more}
 use Rattle.after.specs.Inherited.{methodsIn, checkCallIn}
-use Rattle.inherit.proofs.MethodLaws.{method-counted}
 
 -- a call has fewer arguments than the sheet has rows, or none
 chain-few : (s : Sheet) (n k : ℕ) → length (chain n s k) ≤ n
@@ -31,27 +30,28 @@ arguments-few s r = omega (arith, chain-few s (rows s) (child s r))
 abbrev no : ℕ → ℕ → ℕ → Refusal
 no q r n = record { number = q; at = r; name = n }
 
--- one call: y is its node, f the constructor, i the position, m the class's name
-module _ (s : Sheet) (o : Store) (y : Node) {f i m : ℕ} (e : f ≡ methodNamed 23 (methodsIn core s o (rows s) (y .one))) (p : i ≡ child s (y .key)) (q : m ≡ className core s (y .one)) where
-  same-no : (k : ℕ) → no k i m ≡ no k (child s (y .key)) (className core s (y .one))
+-- one call: y is its node, f the constructor, w its parameters, i the position, m the class's name
+module _ (O : Outside) (s : Sheet) (o : Store) (y : Node) {f w i m : ℕ} (e : f ≡ methodOf 23 (methodsIn O s o (rows s) (y .one)) .fun) (h : w ≡ methodOf 23 (methodsIn O s o (rows s) (y .one)) .params)
+    (p : i ≡ child s (y .key)) (q : m ≡ className O s (y .one)) where
+  same-no : (k : ℕ) → no k i m ≡ no k (child s (y .key)) (className O s (y .one))
   same-no k = ap (λ (j : ℕ). no k j m) p ∙ ap (no k (child s (y .key))) q
 
   abbrev asked : Bool → Bool → Refusal
-  asked t u = if t then no 20 (child s (y .key)) (className core s (y .one)) else ask 21 (child s (y .key)) (className core s (y .one)) u
+  asked t u = if t then no 20 (child s (y .key)) (className O s (y .one)) else ask 21 (child s (y .key)) (className O s (y .one)) u
 
-  pub call-without : f ≡ 0 → no 20 i m ≡ checkCallIn core s o y
-  call-without z = same-no 20 ∙ sym (ap (λ (t : Bool). asked t (eqb (arguments s (y .key) + 1) (methodOf 23 (methodsIn core s o (rows s) (y .one)) .params))) (eq-eqb _ 0 (sym e ∙ z)))
+  pub call-without : f ≡ 0 → no 20 i m ≡ checkCallIn O s o y
+  call-without z = same-no 20 ∙ sym (ap (λ (t : Bool). asked t (eqb (arguments s (y .key) + 1) (methodOf 23 (methodsIn O s o (rows s) (y .one)) .params))) (eq-eqb _ 0 (sym e ∙ z)))
 
-  module _ (g : f ≡ 0 → ⊥) {x w : ℕ} (d : x ≡ arguments s (y .key)) (h : w ≡ arity s f) where
-    at-init : checkCallIn core s o y ≡ asked false (eqb (x + 1) w)
+  module _ (g : f ≡ 0 → ⊥) {x : ℕ} (d : x ≡ arguments s (y .key)) where
+    at-init : checkCallIn O s o y ≡ asked false (eqb (x + 1) w)
     at-init =
-        ap (λ (t : Bool). asked t (eqb (arguments s (y .key) + 1) (methodOf 23 (methodsIn core s o (rows s) (y .one)) .params))) (ne-eqb _ 0 (λ z. g (e ∙ z)))
-        ∙ sym (ap (λ (j : ℕ). asked false (eqb (j + 1) w)) d ∙ ap (λ (j : ℕ). asked false (eqb (arguments s (y .key) + 1) j)) (h ∙ ap (arity s) e ∙ method-counted s o 23 (rows s) (y .one) (λ z. g (e ∙ z))))
+        ap (λ (t : Bool). asked t (eqb (arguments s (y .key) + 1) (methodOf 23 (methodsIn O s o (rows s) (y .one)) .params))) (ne-eqb _ 0 (λ z. g (e ∙ z)))
+        ∙ sym (ap (λ (j : ℕ). asked false (eqb (j + 1) w)) d ∙ ap (λ (j : ℕ). asked false (eqb (arguments s (y .key) + 1) j)) h)
 
-    pub call-fits : x + 1 ≡ w → none ≡ checkCallIn core s o y
+    pub call-fits : x + 1 ≡ w → none ≡ checkCallIn O s o y
     call-fits z = sym (at-init ∙ ap (asked false) (eq-eqb (x + 1) w z))
 
-    pub call-unfit : (x + 1 ≡ w → ⊥) → no 21 i m ≡ checkCallIn core s o y
+    pub call-unfit : (x + 1 ≡ w → ⊥) → no 21 i m ≡ checkCallIn O s o y
     call-unfit z = same-no 21 ∙ sym (at-init ∙ ap (asked false) (ne-eqb (x + 1) w z))
 
 -- a refusal that is one

@@ -1,13 +1,13 @@
--- Class rows, parents and names of classes.
+-- Class rows, and parents of classes.
 use mathlib.Core.Path.{_≡_, sym, ap, _∙_}
 use mathlib.Core.Bool.{Bool, true, false, not, _&&_}
 use Prim.Native.Nat.{ℕ, _-_, _≤_}
 use lib.Dec.{eqb, leb}
 use borrow.Author.Tests.{eq-eqb, ne-eqb, leb-true, eqb-true}
 use Rattle.definition.specs.Basics.{if_then_else_}
-use Rattle.definition.specs.Sheet.{Sheet, kind, a, is}
-use Rattle.definition.specs.Outside.{Outside, recordOf, core}
-use Rattle.definition.specs.Classes.{hasRecord, className}
+use Rattle.definition.specs.Sheet.{Sheet, kind, is}
+use Rattle.definition.specs.Outside.{Outside}
+use Rattle.definition.specs.Classes.{hasRecord}
 use Rattle.definition.proofs.Lists.Tests.{and-left, and-right, T-true, true-of}
 use Rattle.machine.specs.Machine.{Store, cell}
 use Rattle.after.specs.Inherited.{isClassRow, parentIn}
@@ -35,14 +35,3 @@ lacks-some O s c e f = ap not e ∙ sym (ap (λ (t : Bool). not t && not (hasRec
 
 pub lacks-none : (O : Outside) (s : Sheet) (c : ℕ) → c ≡ 0 → false ≡ lacksRecord O s c
 lacks-none O s c e = sym (ap (λ (t : Bool). not t && not (hasRecord O s c)) (eq-eqb c 0 e))
-
--- names
-module _ (s : Sheet) (c : ℕ) where
-  pub name-sheet : {w : ℕ} → w ≡ a s (c - 256) → isClassRow s c ≡ true → w ≡ className core s c
-  name-sheet e l = e ∙ sym (ap (λ (t : Bool). if t then a s (c - 256) else recordOf core c .name) l)
-
-  pub name-outside : (n m : ℕ) → className core s n ≡ m → c ≡ n → m ≡ className core s c
-  name-outside n m h e = sym (ap (className core s) e ∙ h)
-
-  pub name-other : isClassRow s c ≡ false → (c ≡ 100 → ⊥) → (c ≡ 101 → ⊥) → (c ≡ 102 → ⊥) → 0 ≡ className core s c
-  name-other l f g h = rw (l, ne-eqb 100 c (λ e. f (sym e)), ne-eqb 101 c (λ e. g (sym e)), ne-eqb 102 c (λ e. h (sym e)))

@@ -5,23 +5,24 @@ ghost use mathlib.Core.List.{List, [], _∷_};
 ghost use Prim.Native.Nat.{ℕ, suc, _+_, _*_, _≤_};
 ghost use lib.ListN.{length};
 ghost use Rattle.definition.specs.Sheet.{a, rows};
-ghost use Rattle.definition.specs.Classes.{className, methodNamed};
 ghost use Rattle.definition.specs.Question.{ask, firstNo};
-ghost use Rattle.definition.specs.Outside.{core};
+ghost use Rattle.outside.specs.Words.{over};
+ghost use Rattle.outside.specs.Found.{Tells};
 ghost use Rattle.store.specs.Stored.{storeOf};
 ghost use Rattle.after.specs.Inherited.{parentIn, climbIn, classesRefusal, methodsIn, checkCallIn, callsRefusal};
 ghost use Rattle.inherit.specs.Answered.{refusalOf, lacksRecord, Marked, Climbed};
 use ast::ClassId;
 use ast::FIRST_CLASS;
-use ast::FunId;
+use outside::records::Method;
+use outside::records::NO_METHOD;
+use outside::records::class_name;
+use outside::records::has_record;
+use outside::records::own_method;
 use store::nodes::Store;
 use store::nodes::node_before;
 use store::nodes::node_word;
 use tree::lists::arguments;
-use tree::lists::arity;
-use tree::lists::has_record;
 use tree::lists::is_class_row;
-use tree::lists::method_named;
 use tree::words::word;
 
 // The name of a constructor.
@@ -51,11 +52,11 @@ pub fn parent_of(s: &[u32], t: &[u32], c: ClassId) -> ClassId
 }
 
 // Is a parent a class without a record? Class 0 is no parent.
-fn lacks_record(s: &[u32], c: ClassId) -> bool
-    ensures { λ x. ⌜ x ≡ lacksRecord core (now (s .entry)) (c .0) ⌝ }
+fn lacks_record(s: &[u32], outside: &[u32], c: ClassId) -> bool
+    ensures { λ x. ⌜ x ≡ lacksRecord (over (now (outside .entry))) (now (s .entry)) (c .0) ⌝ }
 {
     if c.0 != 0 {
-        return !has_record(s, c);
+        return !has_record(s, outside, c);
     }
     false
 }
@@ -73,9 +74,9 @@ fn refuse_class(s: &[u32], number: u32, r: u32) -> Refusal
 
 // The questions 18 and 19 on the class of row `r` and then on its ancestors. A class climbed through is marked with `r + 1`. One with a
 // mark of an earlier climb was climbed through to the top without a no, so the climb stops there.
-fn climb(s: &[u32], t: &[u32], marks: &mut [u32], r: u32) -> Refusal
-    requires { ⌜ (length (now s) ≤ 8 * length (now marks)) × (r ≤ 2048) × (Marked r (now marks)) × (8 * rows (now s) ≡ length (now s)) × ((o : Store) (q : List ℕ) → Climbed core (now s) (storeOf o (now t) q) (now marks)) ⌝ }
-    ensures { λ x. ⌜ ((o : Store) (q : List ℕ) → refusalOf x ≡ climbIn core (now (s .entry)) (storeOf o (now (t .entry)) q) (suc (rows (now (s .entry)))) [] (256 + r)) × (Marked (r + 1) (now (marks .exit))) × (x .number ≡ 0 → (o : Store) (q : List ℕ) → Climbed core (now (s .entry)) (storeOf o (now (t .entry)) q) (now (marks .exit))) ⌝ }
+fn climb(s: &[u32], outside: &[u32], t: &[u32], marks: &mut [u32], r: u32) -> Refusal
+    requires { ⌜ (length (now s) ≤ 8 * length (now marks)) × (r ≤ 2048) × (Marked r (now marks)) × (8 * rows (now s) ≡ length (now s)) × ((o : Store) (q : List ℕ) → Climbed (over (now outside)) (now s) (storeOf o (now t) q) (now marks)) ⌝ }
+    ensures { λ x. ⌜ ((o : Store) (q : List ℕ) → refusalOf x ≡ climbIn (over (now (outside .entry))) (now (s .entry)) (storeOf o (now (t .entry)) q) (suc (rows (now (s .entry)))) [] (256 + r)) × (Marked (r + 1) (now (marks .exit))) × (x .number ≡ 0 → (o : Store) (q : List ℕ) → Climbed (over (now (outside .entry))) (now (s .entry)) (storeOf o (now (t .entry)) q) (now (marks .exit))) ⌝ }
 {
     let mut c = FIRST_CLASS + r;
     while is_class_row(s, c) {
@@ -88,7 +89,7 @@ fn climb(s: &[u32], t: &[u32], marks: &mut [u32], r: u32) -> Refusal
             return NO_REFUSAL;
         }
         let up = parent_of(s, t, ClassId(c));
-        if lacks_record(s, up) {
+        if lacks_record(s, outside, up) {
             return refuse_class(s, 19, row);
         }
         marks[row as usize] = r + 1;
@@ -98,14 +99,14 @@ fn climb(s: &[u32], t: &[u32], marks: &mut [u32], r: u32) -> Refusal
 }
 
 // The first no of the questions 18 and 19, classes in row order.
-pub fn check_classes(s: &[u32], t: &[u32], marks: &mut [u32]) -> Refusal
+fn check_classes(s: &[u32], outside: &[u32], t: &[u32], marks: &mut [u32]) -> Refusal
     requires { ⌜ (length (now s) ≤ 16384) × (length (now s) ≤ 8 * length (now marks)) × (Marked 0 (now marks)) × (8 * rows (now s) ≡ length (now s)) ⌝ }
-    ensures { λ x. ⌜ ((o : Store) (q : List ℕ) → refusalOf x ≡ classesRefusal core (now (s .entry)) (storeOf o (now (t .entry)) q)) ⌝ }
+    ensures { λ x. ⌜ ((o : Store) (q : List ℕ) → refusalOf x ≡ classesRefusal (over (now (outside .entry))) (now (s .entry)) (storeOf o (now (t .entry)) q)) ⌝ }
 {
     let mut r: u32 = 0;
     while (r as usize) < s.len() / 8 {
         if word(s, r, 0) == 4 {
-            let x = climb(s, t, marks, r);
+            let x = climb(s, outside, t, marks, r);
             if x.number != 0 {
                 return x;
             }
@@ -115,58 +116,44 @@ pub fn check_classes(s: &[u32], t: &[u32], marks: &mut [u32]) -> Refusal
     NO_REFUSAL
 }
 
-// The method of name `n` that a class has, its own or inherited, or function 0.
-pub fn find_method(s: &[u32], t: &[u32], c: ClassId, n: u32) -> FunId
-    ensures { λ x. ⌜ ((o : Store) (q : List ℕ) → x .0 ≡ methodNamed n (methodsIn core (now (s .entry)) (storeOf o (now (t .entry)) q) (rows (now (s .entry))) (c .0))) ⌝ }
+// The method of name `n` that a class has, its own or inherited.
+pub fn find_method(s: &[u32], outside: &[u32], t: &[u32], c: ClassId, n: u32) -> Method
+    ensures { λ x. ⌜ ((o : Store) (q : List ℕ) → Tells n (methodsIn (over (now (outside .entry))) (now (s .entry)) (storeOf o (now (t .entry)) q) (rows (now (s .entry))) (c .0)) x) ⌝ }
 {
     let mut left = s.len() / 8;
     let mut at = c.0;
     while 0 < left {
-        let own = method_named(s, ClassId(at), n);
-        if own.0 != 0 {
+        let own = own_method(s, outside, ClassId(at), n);
+        let fun = own.fun;
+        if fun.0 != 0 {
             return own;
         }
         let up = parent_of(s, t, ClassId(at));
         if up.0 == 0 {
-            return FunId(0);
+            return own;
         }
         at = up.0;
         left -= 1;
     }
-    FunId(0)
-}
-
-// The name of a class that has a record.
-fn class_name(s: &[u32], c: ClassId) -> u32
-    ensures { λ x. ⌜ x ≡ className core (now (s .entry)) (c .0) ⌝ }
-{
-    let n = c.0;
-    if is_class_row(s, n) {
-        return word(s, n - FIRST_CLASS, 6);
-    }
-    match n {
-        100 => 7,
-        101 => 8,
-        102 => 9,
-        _ => 0,
-    }
+    NO_METHOD
 }
 
 // The questions 20 and 21 on constructor call `r` of a class. The constructor also takes the new object.
-fn check_call(s: &[u32], t: &[u32], r: u32, c: ClassId) -> Refusal
-    ensures { λ x. ⌜ ((o : Store) (q : List ℕ) (two : ℕ) → refusalOf x ≡ checkCallIn core (now (s .entry)) (storeOf o (now (t .entry)) q) (record { key = r; one = c .0; two = two })) ⌝ }
+fn check_call(s: &[u32], outside: &[u32], t: &[u32], r: u32, c: ClassId) -> Refusal
+    ensures { λ x. ⌜ ((o : Store) (q : List ℕ) (two : ℕ) → refusalOf x ≡ checkCallIn (over (now (outside .entry))) (now (s .entry)) (storeOf o (now (t .entry)) q) (record { key = r; one = c .0; two = two })) ⌝ }
 {
-    let init = find_method(s, t, c, INIT);
+    let init = find_method(s, outside, t, c, INIT);
     let at = word(s, r, 2);
-    let name = class_name(s, c);
-    if init.0 == 0 {
+    let name = class_name(s, outside, c);
+    let fun = init.fun;
+    if fun.0 == 0 {
         return Refusal {
             number: 20,
             at: at,
             name: name,
         };
     }
-    if arguments(s, r) + 1 == arity(s, init) {
+    if arguments(s, r) + 1 == init.params {
         return NO_REFUSAL;
     }
     Refusal {
@@ -177,14 +164,14 @@ fn check_call(s: &[u32], t: &[u32], r: u32, c: ClassId) -> Refusal
 }
 
 // The first no of the questions 20 and 21. The list is walked from the last call back, so that an earlier no replaces a later one.
-pub fn check_ctor_calls(s: &[u32], t: &[u32], q: &[u32], calls: u32) -> Refusal
-    ensures { λ x. ⌜ ((o : Store) → o .calls ≡ calls → refusalOf x ≡ callsRefusal core (now (s .entry)) (storeOf o (now (t .entry)) (now (q .entry)))) ⌝ }
+fn check_ctor_calls(s: &[u32], outside: &[u32], t: &[u32], q: &[u32], calls: u32) -> Refusal
+    ensures { λ x. ⌜ ((o : Store) → o .calls ≡ calls → refusalOf x ≡ callsRefusal (over (now (outside .entry))) (now (s .entry)) (storeOf o (now (t .entry)) (now (q .entry)))) ⌝ }
 {
     let mut x = NO_REFUSAL;
     let mut i = calls;
     while 0 < i {
         i -= 1;
-        let y = check_call(s, t, node_word(q, i, 1), ClassId(node_word(q, i, 2)));
+        let y = check_call(s, outside, t, node_word(q, i, 1), ClassId(node_word(q, i, 2)));
         i = node_before(q, i);
         if y.number != 0 {
             x = y;
@@ -194,13 +181,20 @@ pub fn check_ctor_calls(s: &[u32], t: &[u32], q: &[u32], calls: u32) -> Refusal
 }
 
 // The first no of the questions that follow the walk.
-pub fn later_refusal(s: &[u32], t: &[u32], q: &[u32], marks: &mut [u32], calls: u32) -> Refusal
+pub fn later_refusal(
+    s: &[u32],
+    outside: &[u32],
+    t: &[u32],
+    q: &[u32],
+    marks: &mut [u32],
+    calls: u32,
+) -> Refusal
     requires { ⌜ (length (now s) ≤ 16384) × (length (now s) ≤ 8 * length (now marks)) × (Marked 0 (now marks)) × (8 * rows (now s) ≡ length (now s)) ⌝ }
-    ensures { λ x. ⌜ ((o : Store) → o .calls ≡ calls → refusalOf x ≡ firstNo (classesRefusal core (now (s .entry)) (storeOf o (now (t .entry)) (now (q .entry))) ∷ callsRefusal core (now (s .entry)) (storeOf o (now (t .entry)) (now (q .entry))) ∷ [])) ⌝ }
+    ensures { λ x. ⌜ ((o : Store) → o .calls ≡ calls → refusalOf x ≡ firstNo (classesRefusal (over (now (outside .entry))) (now (s .entry)) (storeOf o (now (t .entry)) (now (q .entry))) ∷ callsRefusal (over (now (outside .entry))) (now (s .entry)) (storeOf o (now (t .entry)) (now (q .entry))) ∷ [])) ⌝ }
 {
-    let x = check_classes(s, t, marks);
+    let x = check_classes(s, outside, t, marks);
     if x.number != 0 {
         return x;
     }
-    check_ctor_calls(s, t, q, calls)
+    check_ctor_calls(s, outside, t, q, calls)
 }

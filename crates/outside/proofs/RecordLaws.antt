@@ -168,3 +168,10 @@ module _ (s : Sheet) (w : List ℕ) (c : ℕ) {x : Bool} (e : x ≡ ofSheet s c)
         let whole : methodOf n (methodsAt w (r .method) (r .methods)) ≡ methodOf n (ownMethods (over w) s c) =
             ap (methodOf n) (k .methodsAre) ∙ sym (ap (λ (t : Bool). methodOf n (if t then map (methodAt s) (kidsOf s 6 (c - 256)) else recordOf (over w) c .methods)) (sym e ∙ h)) in
         record { funIs = t .funIs ∙ ap (λ (y : Held). y .fun) whole; paramsAre = t .paramsAre ∙ ap (λ (y : Held). y .params) whole }
+
+-- what is told of one list of methods is told of another that has the same one
+pub tells-as : (n : ℕ) {ms ks : List Held} {m : Method} → Tells n ms m → methodOf n ms ≡ methodOf n ks → Tells n ks m
+tells-as n t e = record { funIs = t .funIs ∙ ap (λ (y : Held). y .fun) e; paramsAre = t .paramsAre ∙ ap (λ (y : Held). y .params) e }
+
+pub tells-none : (n : ℕ) {ms : List Held} → noMethod ≡ methodOf n ms → Tells n ms (record { fun = record { 0 = 0 }; params = 0 })
+tells-none n e = record { funIs = ap (λ (y : Held). y .fun) e; paramsAre = ap (λ (y : Held). y .params) e }

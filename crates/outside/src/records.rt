@@ -46,6 +46,11 @@ const NO_RECORD: Recorded = Recorded {
     methods: 0,
 };
 
+pub const NO_METHOD: Method = Method {
+    fun: FunId(0),
+    params: 0,
+};
+
 // The word at place `p`. A word past the end reads as 0.
 pub fn word_at(outside: &[u32], p: usize) -> u32
     ensures { λ x. ⌜ x ≡ getD (now (outside .entry)) p 0 ⌝ }
@@ -118,10 +123,7 @@ fn recorded_method(outside: &[u32], at: u32, count: u32, n: u32) -> Method
         p += 3;
         left -= 1;
     }
-    Method {
-        fun: FunId(0),
-        params: 0,
-    }
+    NO_METHOD
 }
 
 // The method of the sheet that is function `f`; none for function 0.
@@ -129,10 +131,7 @@ fn listed_method(s: &[u32], f: FunId) -> Method
     ensures { λ x. ⌜ (x .fun .0 ≡ f .0) × (x .params ≡ (if eqb (f .0) 0 then 0 else arityOf (now (s .entry)) (f .0))) ⌝ }
 {
     if f.0 == 0 {
-        return Method {
-            fun: f,
-            params: 0,
-        };
+        return NO_METHOD;
     }
     Method {
         fun: f,

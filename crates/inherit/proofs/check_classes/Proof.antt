@@ -7,7 +7,7 @@ use lib.ListN.{length}
 use borrow.Author.Needs.{needs}
 use Rattle.definition.specs.Question.{Refusal}
 use Rattle.definition.specs.Sheet.{Sheet, rows}
-use Rattle.definition.specs.Outside.{core}
+use Rattle.outside.specs.Words.{over}
 use Rattle.store.specs.Stored.{storeOf}
 use Rattle.store.specs.declared.nodes.Store.{Store}
 use Rattle.after.specs.Inherited.{climbIn, classesRefusal}
@@ -18,47 +18,47 @@ use Rattle.inherit.proofs.check_classes.Statement.{statement}
 use Rattle.inherit.proofs.check_classes.Tie as tie
 
 -- the answer of the climb from a row
-abbrev answer : Sheet → Store → List ℕ → List ℕ → ℕ → Refusal
-answer s o t q r = climbIn core s (storeOf o t q) (suc (rows s)) [] (256 + r)
+abbrev answer : List ℕ → Sheet → Store → List ℕ → List ℕ → ℕ → Refusal
+answer w s o t q r = climbIn (over w) s (storeOf o t q) (suc (rows s)) [] (256 + r)
 
 abbrev Inv-loop : tie.InvT-loop
-Inv-loop s t marks₀ r₀ marks r = ((o : Store) (q : List ℕ) → fromRow s (answer s o t q) r ≡ classesRefusal core s (storeOf o t q)) × (Marked r marks) × (length marks ≡ length marks₀) × (r ≤ rows s) × ((o : Store) (q : List ℕ) → Climbed core s (storeOf o t q) marks)
+Inv-loop s outside t marks₀ r₀ marks r = ((o : Store) (q : List ℕ) → fromRow s (answer outside s o t q) r ≡ classesRefusal (over outside) s (storeOf o t q)) × (Marked r marks) × (length marks ≡ length marks₀) × (r ≤ rows s) × ((o : Store) (q : List ℕ) → Climbed (over outside) s (storeOf o t q) marks)
 
 abbrev μ-loop : tie.MeasureT-loop
-μ-loop s t marks₀ r₀ marks r = rows s - r
+μ-loop s outside t marks₀ r₀ marks r = rows s - r
 
 loop-holds : tie.Need-loop-holds Inv-loop μ-loop
-loop-holds c = (λ o q. rows-all (c .before .before .before .args .s .now) (answer (c .before .before .before .args .s .now) o (c .before .before .before .args .t .now) q), c .before .before .before .pre .2, refl, omega arith, λ o q. climbed-none core (c .before .before .before .args .s .now) (storeOf o (c .before .before .before .args .t .now) q) (c .before .before .before .args .marks .now) (c .before .before .before .pre .2))
+loop-holds c = (λ o q. rows-all (c .before .before .before .before .args .s .now) (answer (c .before .before .before .before .args .outside .now) (c .before .before .before .before .args .s .now) o (c .before .before .before .before .args .t .now) q), c .before .before .before .before .pre .2, refl, omega arith, λ o q. climbed-none (over (c .before .before .before .before .args .outside .now)) (c .before .before .before .before .args .s .now) (storeOf o (c .before .before .before .before .args .t .now) q) (c .before .before .before .before .args .marks .now) (c .before .before .before .before .pre .2))
 
 cast-loop : tie.Need-cast-loop Inv-loop μ-loop
-cast-loop c = omega (arith, c .before .before .before .before .pre, c .loop .inv .3)
+cast-loop c = omega (arith, c .before .before .before .before .before .pre, c .loop .inv .3)
 
 word-requires : tie.Need-word-requires Inv-loop μ-loop
 word-requires c κs = search needs
 
 climb-requires : tie.Need-climb-requires Inv-loop μ-loop
-climb-requires c κs = (omega (arith, c .before .before .before .before .before .before .before .before .pre .1, c .before .before .before .before .loop .inv .2), omega (arith, c .before .before .before .before .before .before .before .before .pre .0, c .before .before .before .before .loop .inv .3), c .before .before .before .before .loop .inv .1, c .before .before .before .before .before .before .before .before .pre .3, c .before .before .before .before .loop .inv .4)
+climb-requires c κs = (omega (arith, c .before .before .before .before .before .before .before .before .before .pre .1, c .before .before .before .before .loop .inv .2), omega (arith, c .before .before .before .before .before .before .before .before .before .pre .0, c .before .before .before .before .loop .inv .3), c .before .before .before .before .loop .inv .1, c .before .before .before .before .before .before .before .before .before .pre .3, c .before .before .before .before .loop .inv .4)
 
 same-length : tie.Need-same-length Inv-loop μ-loop
 same-length c = omega (arith, c .before .before .before .before .climb .kept, c .before .before .before .before .before .before .before .before .before .loop .inv .2)
 
 returns : tie.Need-returns Inv-loop μ-loop
-returns c = λ o q. rows-no (c .before .before .before .before .before .before .before .before .before .before .before .before .before .args .s .now) (answer (c .before .before .before .before .before .before .before .before .before .before .before .before .before .args .s .now) o (c .before .before .before .before .before .before .before .before .before .before .before .before .before .args .t .now) q) (c .before .before .before .before .before .before .before .before .before .loop .r) (c .before .before .before .before .before .before .before .before .loop-test .taken) (sym (c .before .before .before .before .before .before .before .word .ensures) ∙ c .before .before .before .before .before .before .if1 .taken) (c .before .before .before .before .climb .ensures .0 o q) (c .if2 .taken) ∙ c .before .before .before .before .before .before .before .before .before .loop .inv .0 o q
+returns c = λ o q. rows-no (c .before .before .before .before .before .before .before .before .before .before .before .before .before .before .args .s .now) (answer (c .before .before .before .before .before .before .before .before .before .before .before .before .before .before .args .outside .now) (c .before .before .before .before .before .before .before .before .before .before .before .before .before .before .args .s .now) o (c .before .before .before .before .before .before .before .before .before .before .before .before .before .before .args .t .now) q) (c .before .before .before .before .before .before .before .before .before .loop .r) (c .before .before .before .before .before .before .before .before .loop-test .taken) (sym (c .before .before .before .before .before .before .before .word .ensures) ∙ c .before .before .before .before .before .before .if1 .taken) (c .before .before .before .before .climb .ensures .0 o q) (c .if2 .taken) ∙ c .before .before .before .before .before .before .before .before .before .loop .inv .0 o q
 
 add-r : tie.Need-add-r Inv-loop μ-loop
-add-r c = omega (arith, c .before .before .before .before .before .before .before .pre .0, c .before .before .before .loop .inv .3)
+add-r c = omega (arith, c .before .before .before .before .before .before .before .before .pre .0, c .before .before .before .loop .inv .3)
 
 loop-less : tie.Need-loop-less Inv-loop μ-loop
 loop-less c = omega (arith, c .before .before .loop-test .taken)
 
 loop-again : tie.Need-loop-again Inv-loop μ-loop
-loop-again c = let a = c .before .before .before .before .before .before .before .args in ⊎-elim (λ w. (λ o q. rows-yes (a .s .now) (answer (a .s .now) o (a .t .now) q) (c .before .before .before .loop .r) (c .before .before .loop-test .taken) (sym (c .before .word .ensures) ∙ w .0 .taken) (w .2 .ensures .0 o q) (w .6 .left) ∙ c .before .before .before .loop .inv .0 o q, subst (Marked (c .before .before .before .loop .r + 1)) (sym (w .7)) (w .2 .ensures .1), ap length (w .7) ∙ omega (arith, w .2 .kept, c .before .before .before .loop .inv .2), omega (arith, c .before .before .loop-test .taken), λ o q. subst (Climbed core (a .s .now) (storeOf o (a .t .now) q)) (sym (w .7)) (w .2 .ensures .2 (w .6 .left) o q))) (λ w. (λ o q. rows-other (a .s .now) (answer (a .s .now) o (a .t .now) q) (c .before .before .before .loop .r) (c .before .before .loop-test .taken) (λ e. w .0 .left (c .before .word .ensures ∙ e)) ∙ c .before .before .before .loop .inv .0 o q, subst (Marked (c .before .before .before .loop .r + 1)) (sym (w .1)) (mark-later (c .before .before .before .loop .r) (c .before .before .before .loop .marks) (c .before .before .before .loop .inv .1)), ap length (w .1) ∙ c .before .before .before .loop .inv .2, omega (arith, c .before .before .loop-test .taken), λ o q. subst (Climbed core (a .s .now) (storeOf o (a .t .now) q)) (sym (w .1)) (c .before .before .before .loop .inv .4 o q))) (c .if1 .came)
+loop-again c = let a = c .before .before .before .before .before .before .before .before .args in ⊎-elim (λ w. (λ o q. rows-yes (a .s .now) (answer (a .outside .now) (a .s .now) o (a .t .now) q) (c .before .before .before .loop .r) (c .before .before .loop-test .taken) (sym (c .before .word .ensures) ∙ w .0 .taken) (w .2 .ensures .0 o q) (w .6 .left) ∙ c .before .before .before .loop .inv .0 o q, subst (Marked (c .before .before .before .loop .r + 1)) (sym (w .7)) (w .2 .ensures .1), ap length (w .7) ∙ omega (arith, w .2 .kept, c .before .before .before .loop .inv .2), omega (arith, c .before .before .loop-test .taken), λ o q. subst (Climbed (over (a .outside .now)) (a .s .now) (storeOf o (a .t .now) q)) (sym (w .7)) (w .2 .ensures .2 (w .6 .left) o q))) (λ w. (λ o q. rows-other (a .s .now) (answer (a .outside .now) (a .s .now) o (a .t .now) q) (c .before .before .before .loop .r) (c .before .before .loop-test .taken) (λ e. w .0 .left (c .before .word .ensures ∙ e)) ∙ c .before .before .before .loop .inv .0 o q, subst (Marked (c .before .before .before .loop .r + 1)) (sym (w .1)) (mark-later (c .before .before .before .loop .r) (c .before .before .before .loop .marks) (c .before .before .before .loop .inv .1)), ap length (w .1) ∙ c .before .before .before .loop .inv .2, omega (arith, c .before .before .loop-test .taken), λ o q. subst (Climbed (over (a .outside .now)) (a .s .now) (storeOf o (a .t .now) q)) (sym (w .1)) (c .before .before .before .loop .inv .4 o q))) (c .if1 .came)
 
 same-length-2 : tie.Need-same-length-2 Inv-loop μ-loop
 same-length-2 c = c .before .loop .inv .2
 
 returns-2 : tie.Need-returns-2 Inv-loop μ-loop
-returns-2 c = λ o q. rows-end (c .before .before .before .before .before .args .s .now) (answer (c .before .before .before .before .before .args .s .now) o (c .before .before .before .before .before .args .t .now) q) (c .before .loop .r) (c .loop-test .left) ∙ c .before .loop .inv .0 o q
+returns-2 c = λ o q. rows-end (c .before .before .before .before .before .before .args .s .now) (answer (c .before .before .before .before .before .before .args .outside .now) (c .before .before .before .before .before .before .args .s .now) o (c .before .before .before .before .before .before .args .t .now) q) (c .before .loop .r) (c .loop-test .left) ∙ c .before .loop .inv .0 o q
 
 pub check-classes-spec : {M : Type 1} → statement M
 check-classes-spec =

@@ -9,7 +9,7 @@ use Rattle.tree.proofs.lists.arity.Reads as arity-reads
 
 -- src/records.rt:132:9
 returns : tie.Need-returns
-returns c = (refl, rw (eq-eqb _ 0 (c .if1 .taken)))
+returns c = (sym (c .if1 .taken), rw (eq-eqb _ 0 (c .if1 .taken)))
 
 -- src/records.rt:139:17
 arity-requires : tie.Need-arity-requires
