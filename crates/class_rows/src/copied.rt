@@ -5,28 +5,28 @@ ghost use lib.Dec.{eqb};
 ghost use lib.ListN.{length};
 ghost use Rattle.definition.specs.Basics.{if_then_else_, from};
 ghost use Rattle.definition.specs.Classes.{methodNamed, ownMethods};
-ghost use Rattle.definition.specs.Outside.{core};
+ghost use Rattle.outside.specs.Words.{over};
 ghost use Rattle.class_rows.specs.Put.{filled, wordsOf, copiedRow, put, putAll};
 use crate::put::Wanted;
 use crate::put::Written;
 use ast::ClassId;
+use outside::records::own_method;
 use sink::AnswerRow;
 use sink::emit;
 use symbols::decl::one_more;
-use tree::lists::method_named;
 
 // The own method of name `m` of a class, else function `f`.
-fn own_or(s: &[u32], c: ClassId, m: u32, f: u32) -> u32
-    ensures { λ x. ⌜ x ≡ (if eqb (methodNamed m (ownMethods core (now (s .entry)) (c .0))) 0 then f else methodNamed m (ownMethods core (now (s .entry)) (c .0))) ⌝ }
+fn own_or(s: &[u32], outside: &[u32], c: ClassId, m: u32, f: u32) -> u32
+    ensures { λ x. ⌜ x ≡ (if eqb (methodNamed m (ownMethods (over (now (outside .entry))) (now (s .entry)) (c .0))) 0 then f else methodNamed m (ownMethods (over (now (outside .entry))) (now (s .entry)) (c .0))) ⌝ }
 {
-    let own = method_named(s, c, m).0;
-    if own == 0 { f } else { own }
+    let own = own_method(s, outside, c, m).fun;
+    if own.0 == 0 { f } else { own.0 }
 }
 
 // The name that row `at` tells, told of the wanted class at slot `i`.
-fn copied_row(s: &[u32], out: &[u32], w: Wanted, at: usize, i: u32) -> AnswerRow
+fn copied_row(s: &[u32], outside: &[u32], out: &[u32], w: Wanted, at: usize, i: u32) -> AnswerRow
     requires { ⌜ at < length (now out) / 8 ⌝ }
-    ensures { λ x. ⌜ wordsOf x ≡ copiedRow core (now (s .entry)) w (now (out .entry)) at i ⌝ }
+    ensures { λ x. ⌜ wordsOf x ≡ copiedRow (over (now (outside .entry))) (now (s .entry)) w (now (out .entry)) at i ⌝ }
 {
     let last = out[8 * at + 3];
     if w.kind == 10 {
@@ -40,7 +40,7 @@ fn copied_row(s: &[u32], out: &[u32], w: Wanted, at: usize, i: u32) -> AnswerRow
         };
     }
     let m = out[8 * at + 2];
-    let fun = own_or(s, ClassId(w.whole), m, last);
+    let fun = own_or(s, outside, ClassId(w.whole), m, last);
     AnswerRow {
         row: w.row,
         code: 24,
@@ -52,11 +52,18 @@ fn copied_row(s: &[u32], out: &[u32], w: Wanted, at: usize, i: u32) -> AnswerRow
 }
 
 // One name more, that of row `at`.
-fn put_copy(s: &[u32], w: Wanted, at: usize, k: Written, out: &mut [u32]) -> Written
+fn put_copy(
+    s: &[u32],
+    outside: &[u32],
+    w: Wanted,
+    at: usize,
+    k: Written,
+    out: &mut [u32],
+) -> Written
     requires { ⌜ at < length (now out) / 8 ⌝ }
-    ensures { λ x. ⌜ filled x (now (out .exit)) ≡ put (copiedRow core (now (s .entry)) w (now (out .entry))) at (filled k (now (out .entry))) ⌝ }
+    ensures { λ x. ⌜ filled x (now (out .exit)) ≡ put (copiedRow (over (now (outside .entry))) (now (s .entry)) w (now (out .entry))) at (filled k (now (out .entry))) ⌝ }
 {
-    let x = copied_row(s, out, w, at, k.slot);
+    let x = copied_row(s, outside, out, w, at, k.slot);
     let count = emit(out, k.count, x);
     let slot = one_more(k.slot);
     Written {
@@ -66,15 +73,23 @@ fn put_copy(s: &[u32], w: Wanted, at: usize, k: Written, out: &mut [u32]) -> Wri
 }
 
 // The names of `n` rows from row `i` on.
-pub fn put_copied(s: &[u32], w: Wanted, i: usize, n: u32, k: Written, out: &mut [u32]) -> Written
+pub fn put_copied(
+    s: &[u32],
+    outside: &[u32],
+    w: Wanted,
+    i: usize,
+    n: u32,
+    k: Written,
+    out: &mut [u32],
+) -> Written
     requires { ⌜ (i + n ≤ k .count) × (i + n ≤ length (now out) / 8) ⌝ }
-    ensures { λ x. ⌜ filled x (now (out .exit)) ≡ putAll (copiedRow core (now (s .entry)) w (now (out .entry))) (from i n) (filled k (now (out .entry))) ⌝ }
+    ensures { λ x. ⌜ filled x (now (out .exit)) ≡ putAll (copiedRow (over (now (outside .entry))) (now (s .entry)) w (now (out .entry))) (from i n) (filled k (now (out .entry))) ⌝ }
 {
     let mut done = k;
     let mut at = i;
     let mut left = n;
     while 0 < left {
-        done = put_copy(s, w, at, done, out);
+        done = put_copy(s, outside, w, at, done, out);
         at += 1;
         left -= 1;
     }

@@ -1,75 +1,78 @@
 // Which names a class has: its own, and after inheritance. The kind of the rows tells the names: 10 fields, 6 methods.
 ghost use mathlib.Core.Path.{_≡_};
-ghost use Rattle.definition.specs.Basics.{from, _∈?_};
-ghost use Rattle.definition.specs.Outside.{core, recordOf};
-ghost use Rattle.after.specs.Inherited.{ownFieldsIn};
+ghost use Rattle.definition.specs.Basics.{_∈?_};
+ghost use Rattle.outside.specs.Words.{over};
+ghost use Rattle.outside.specs.Found.{recordedNames};
 ghost use Rattle.store.specs.Stored.{storeOf};
 ghost use Rattle.store.specs.declared.nodes.Store.{Store};
-ghost use Rattle.class_rows.specs.Names.{ownIn, namesIn, inherited};
+ghost use Rattle.class_rows.specs.Names.{rowNames, ownIn, namesIn, inherited};
 use ast::ClassId;
 use ast::FIRST_CLASS;
 use inherit::parent_of;
+use outside::records::is_listed;
+use outside::records::recorded_names;
 use store::nodes::has_key;
 use tree::lists::has_named;
 use tree::lists::is_class_row;
 use tree::words::word;
 
-// Is `m` among the `n` numbers from `i` on?
-fn in_range(m: u32, i: u32, n: u32) -> bool
-    ensures { λ x. ⌜ x ≡ (m ∈? from i n) ⌝ }
+// Is `m` a name of a class from outside?
+fn is_recorded(outside: &[u32], kind: u32, c: ClassId, m: u32) -> bool
+    ensures { λ x. ⌜ x ≡ (m ∈? recordedNames (over (now (outside .entry))) kind (c .0)) ⌝ }
 {
-    if m < i { false } else { m - i < n }
+    let names = recorded_names(outside, kind, c);
+    is_listed(outside, names, m)
 }
 
-// Has a class from outside the sheet a field of name `m`?
-fn is_outside_field(c: ClassId, m: u32) -> bool
-    ensures { λ x. ⌜ x ≡ (m ∈? recordOf core (c .0) .fields) ⌝ }
+// Is `m` an own name of the class of row `r`? Fields are listed or stored.
+fn is_row_name(s: &[u32], t: &[u32], q: &[u32], kind: u32, r: u32, m: u32) -> bool
+    ensures { λ x. ⌜ ((o : Store) → x ≡ (m ∈? rowNames (now (s .entry)) (storeOf o (now (t .entry)) (now (q .entry))) kind r)) ⌝ }
 {
-    let n = c.0;
-    match n {
-        100 => in_range(m, 10, 9),
-        101 => in_range(m, 19, 3),
-        102 => m == 21 || m == 19,
-        _ => false,
+    if has_named(s, r, kind, m) {
+        return true;
     }
-}
-
-// Has a class an own field of name `m`?
-fn is_own_field(s: &[u32], t: &[u32], q: &[u32], c: ClassId, m: u32) -> bool
-    ensures { λ x. ⌜ ((o : Store) → x ≡ (m ∈? ownFieldsIn core (now (s .entry)) (storeOf o (now (t .entry)) (now (q .entry))) (c .0))) ⌝ }
-{
-    if is_class_row(s, c.0) {
-        let r = c.0 - FIRST_CLASS;
-        if has_named(s, r, 10, m) {
-            return true;
-        }
-        return has_key(q, word(t, r, 7), m);
-    }
-    is_outside_field(c, m)
-}
-
-// Is `m` an own name of a class?
-fn is_own(s: &[u32], t: &[u32], q: &[u32], kind: u32, c: ClassId, m: u32) -> bool
-    ensures { λ x. ⌜ ((o : Store) → x ≡ (m ∈? ownIn core (now (s .entry)) (storeOf o (now (t .entry)) (now (q .entry))) kind (c .0))) ⌝ }
-{
     if kind == 10 {
-        return is_own_field(s, t, q, c, m);
-    }
-    if is_class_row(s, c.0) {
-        return has_named(s, c.0 - FIRST_CLASS, kind, m);
+        return has_key(q, word(t, r, 7), m);
     }
     false
 }
 
+// Is `m` an own name of a class?
+fn is_own(
+    s: &[u32],
+    outside: &[u32],
+    t: &[u32],
+    q: &[u32],
+    kind: u32,
+    c: ClassId,
+    m: u32,
+) -> bool
+    ensures { λ x. ⌜ ((o : Store) → x ≡ (m ∈? ownIn (over (now (outside .entry))) (now (s .entry)) (storeOf o (now (t .entry)) (now (q .entry))) kind (c .0))) ⌝ }
+{
+    if is_class_row(s, c.0) {
+        return is_row_name(s, t, q, kind, c.0 - FIRST_CLASS, m);
+    }
+    is_recorded(outside, kind, c, m)
+}
+
 // Is `m` a name of class `c` after inheritance? It climbs at most `n` classes.
-pub fn has_name(s: &[u32], t: &[u32], q: &[u32], kind: u32, n: usize, c: ClassId, m: u32) -> bool
-    ensures { λ x. ⌜ ((o : Store) → x ≡ (m ∈? namesIn core (now (s .entry)) (storeOf o (now (t .entry)) (now (q .entry))) kind n (c .0))) ⌝ }
+pub fn has_name(
+    s: &[u32],
+    outside: &[u32],
+    t: &[u32],
+    q: &[u32],
+    kind: u32,
+    n: usize,
+    c: ClassId,
+    m: u32,
+) -> bool
+    ensures { λ x. ⌜ ((o : Store) → x ≡ (m ∈? namesIn (over (now (outside .entry))) (now (s .entry)) (storeOf o (now (t .entry)) (now (q .entry))) kind n (c .0))) ⌝ }
 {
     let mut at = c.0;
     let mut left = n;
     while 0 < left {
         let class = ClassId(at);
-        if is_own(s, t, q, kind, class, m) {
+        if is_own(s, outside, t, q, kind, class, m) {
             return true;
         }
         at = parent_of(s, t, class).0;
@@ -84,6 +87,7 @@ pub fn has_name(s: &[u32], t: &[u32], q: &[u32], kind: u32, n: usize, c: ClassId
 // Is `m` inherited from the parent `p`? No class has number 0.
 pub fn is_inherited(
     s: &[u32],
+    outside: &[u32],
     t: &[u32],
     q: &[u32],
     kind: u32,
@@ -91,10 +95,10 @@ pub fn is_inherited(
     p: ClassId,
     m: u32,
 ) -> bool
-    ensures { λ x. ⌜ ((o : Store) → x ≡ (m ∈? inherited core (now (s .entry)) (storeOf o (now (t .entry)) (now (q .entry))) kind n (p .0))) ⌝ }
+    ensures { λ x. ⌜ ((o : Store) → x ≡ (m ∈? inherited (over (now (outside .entry))) (now (s .entry)) (storeOf o (now (t .entry)) (now (q .entry))) kind n (p .0))) ⌝ }
 {
     if p.0 == 0 {
         return false;
     }
-    has_name(s, t, q, kind, n, p, m)
+    has_name(s, outside, t, q, kind, n, p, m)
 }

@@ -7,7 +7,7 @@ ghost use lib.Dec.{eqb};
 ghost use lib.ListN.{length, getD};
 ghost use Rattle.definition.specs.Basics.{bit};
 ghost use Rattle.definition.specs.Answer.{eight};
-ghost use Rattle.definition.specs.Outside.{core};
+ghost use Rattle.outside.specs.Words.{over};
 ghost use Rattle.after.specs.Rows.{classRowsNamed};
 ghost use Rattle.sink.specs.Sink.{sink, emitAll};
 ghost use Rattle.store.specs.Stored.{storeOf};
@@ -64,6 +64,7 @@ fn wanted(r: u32, kind: u32) -> Wanted
 // The first row of a class: its parent, whether it has children, and the numbers of its fields and methods.
 fn class_head(
     s: &[u32],
+    outside: &[u32],
     t: &[u32],
     q: &[u32],
     marks: &[u32],
@@ -71,13 +72,13 @@ fn class_head(
     methods: Above,
     r: u32,
 ) -> AnswerRow
-    requires { ⌜ (ClassReady core (now s) (now t) (now q) (now marks) r) × (Counted core (now s) (now t) (now q) 10 (256 + r) fields) × (Counted core (now s) (now t) (now q) 6 (256 + r) methods) ⌝ }
-    ensures { λ x. ⌜ ((o : Store) → wordsOf x ≡ eight (r ∷ headWords core (now (s .entry)) (storeOf o (now (t .entry)) (now (q .entry))) r)) ⌝ }
+    requires { ⌜ (ClassReady (over (now outside)) (now s) (now t) (now q) (now marks) r) × (Counted (over (now outside)) (now s) (now t) (now q) 10 (256 + r) fields) × (Counted (over (now outside)) (now s) (now t) (now q) 6 (256 + r) methods) ⌝ }
+    ensures { λ x. ⌜ ((o : Store) → wordsOf x ≡ eight (r ∷ headWords (over (now (outside .entry))) (now (s .entry)) (storeOf o (now (t .entry)) (now (q .entry))) r)) ⌝ }
 {
     let parent = parent_of(s, t, ClassId(FIRST_CLASS + r)).0;
     let children = mark_bit(marks, r);
-    let field_count = count_line(s, t, q, wanted(r, 10), fields);
-    let method_count = count_line(s, t, q, wanted(r, 6), methods);
+    let field_count = count_line(s, outside, t, q, wanted(r, 10), fields);
+    let method_count = count_line(s, outside, t, q, wanted(r, 6), methods);
     AnswerRow {
         row: r,
         code: 22,
@@ -91,6 +92,7 @@ fn class_head(
 // The rows of the class of row `r`, after `k` rows: its counts, its fields by slot, its methods.
 fn write_class(
     s: &[u32],
+    outside: &[u32],
     t: &[u32],
     q: &[u32],
     marks: &[u32],
@@ -100,26 +102,27 @@ fn write_class(
     k: usize,
     out: &mut [u32],
 ) -> usize
-    requires { ⌜ (ClassReady core (now s) (now t) (now q) (now marks) r) × (Shown core (now s) (now t) (now q) 10 (256 + r) (now out) k fields) × (Shown core (now s) (now t) (now q) 6 (256 + r) (now out) k methods) ⌝ }
-    ensures { λ x. ⌜ ((o : Store) → sink x (now (out .exit)) ≡ emitAll (map (λ vs. eight (r ∷ vs)) (classRowsNamed core (now (s .entry)) (storeOf o (now (t .entry)) (now (q .entry))) r)) (sink k (now (out .entry)))) ⌝ }
+    requires { ⌜ (ClassReady (over (now outside)) (now s) (now t) (now q) (now marks) r) × (Shown (over (now outside)) (now s) (now t) (now q) 10 (256 + r) (now out) k fields) × (Shown (over (now outside)) (now s) (now t) (now q) 6 (256 + r) (now out) k methods) ⌝ }
+    ensures { λ x. ⌜ ((o : Store) → sink x (now (out .exit)) ≡ emitAll (map (λ vs. eight (r ∷ vs)) (classRowsNamed (over (now (outside .entry))) (now (s .entry)) (storeOf o (now (t .entry)) (now (q .entry))) r)) (sink k (now (out .entry)))) ⌝ }
 {
-    let head = class_head(s, t, q, marks, fields, methods, r);
+    let head = class_head(s, outside, t, q, marks, fields, methods, r);
     let first = Written {
         count: emit(out, k, head),
         slot: FIRST_SLOT,
     };
-    let done = put_line(s, t, q, wanted(r, 10), fields, first, out);
+    let done = put_line(s, outside, t, q, wanted(r, 10), fields, first, out);
     let second = Written {
         count: done.count,
         slot: FIRST_SLOT,
     };
-    put_line(s, t, q, wanted(r, 6), methods, second, out).count
+    put_line(s, outside, t, q, wanted(r, 6), methods, second, out).count
 }
 
 // The same, with what the class inherits copied from the rows of its parent, if they have a place. Then the class has a place too. Where
 // no row fits, nothing is looked for.
 pub fn emit_class(
     s: &[u32],
+    outside: &[u32],
     t: &[u32],
     q: &[u32],
     marks: &[u32],
@@ -128,8 +131,8 @@ pub fn emit_class(
     k: usize,
     out: &mut [u32],
 ) -> usize
-    requires { ⌜ (ClassReady core (now s) (now t) (now q) (now marks) r) × (Placed core (now s) (now t) (now q) (now places) (now out) r k) ⌝ }
-    ensures { λ x. ⌜ ((o : Store) → sink x (now (out .exit)) ≡ emitAll (map (λ vs. eight (r ∷ vs)) (classRowsNamed core (now (s .entry)) (storeOf o (now (t .entry)) (now (q .entry))) r)) (sink k (now (out .entry)))) × (Placed core (now (s .entry)) (now (t .entry)) (now (q .entry)) (now (places .exit)) (now (out .exit)) (r + 1) x) ⌝ }
+    requires { ⌜ (ClassReady (over (now outside)) (now s) (now t) (now q) (now marks) r) × (Placed (over (now outside)) (now s) (now t) (now q) (now places) (now out) r k) ⌝ }
+    ensures { λ x. ⌜ ((o : Store) → sink x (now (out .exit)) ≡ emitAll (map (λ vs. eight (r ∷ vs)) (classRowsNamed (over (now (outside .entry))) (now (s .entry)) (storeOf o (now (t .entry)) (now (q .entry))) r)) (sink k (now (out .entry)))) × (Placed (over (now (outside .entry))) (now (s .entry)) (now (t .entry)) (now (q .entry)) (now (places .exit)) (now (out .exit)) (r + 1) x) ⌝ }
 {
     let room = out.len() / 8;
     if room <= k {
@@ -139,11 +142,11 @@ pub fn emit_class(
     let at = place_of(places, parent);
     let fields = above_of(out, at, 10);
     let methods = above_of(out, at, 6);
-    let count = write_class(s, t, q, marks, fields, methods, r, k, out);
+    let count = write_class(s, outside, t, q, marks, fields, methods, r, k, out);
     if room < count {
         return count;
     }
-    if !line_ends(at, parent, r) {
+    if !line_ends(s, at, parent, r) {
         return count;
     }
     places[r as usize] = k + 1;

@@ -3,7 +3,7 @@ ghost use mathlib.Core.Path.{_≡_};
 ghost use Prim.Native.Nat.{_<_, min};
 ghost use lib.ListN.{length};
 ghost use Rattle.definition.specs.Sheet.{rows};
-ghost use Rattle.definition.specs.Outside.{core};
+ghost use Rattle.outside.specs.Words.{over};
 ghost use Rattle.store.specs.Stored.{storeOf};
 ghost use Rattle.store.specs.declared.nodes.Store.{Store};
 ghost use Rattle.class_rows.specs.Names.{namesIn};
@@ -23,6 +23,7 @@ use inherit::parent_of;
 // The names of the wanted class.
 pub fn put_line(
     s: &[u32],
+    outside: &[u32],
     t: &[u32],
     q: &[u32],
     w: Wanted,
@@ -30,31 +31,38 @@ pub fn put_line(
     k: Written,
     out: &mut [u32],
 ) -> Written
-    requires { ⌜ (0 < rows (now s)) × (Shown core (now s) (now t) (now q) (w .kind) (w .whole) (now out) (k .count) a) ⌝ }
-    ensures { λ x. ⌜ ((o : Store) → filled x (now (out .exit)) ≡ putAll (nameRow core (now (s .entry)) (storeOf o (now (t .entry)) (now (q .entry))) w) (namesIn core (now (s .entry)) (storeOf o (now (t .entry)) (now (q .entry))) (w .kind) (rows (now (s .entry))) (w .whole)) (filled k (now (out .entry)))) ⌝ }
+    requires { ⌜ (0 < rows (now s)) × (Shown (over (now outside)) (now s) (now t) (now q) (w .kind) (w .whole) (now out) (k .count) a) ⌝ }
+    ensures { λ x. ⌜ ((o : Store) → filled x (now (out .exit)) ≡ putAll (nameRow (over (now (outside .entry))) (now (s .entry)) (storeOf o (now (t .entry)) (now (q .entry))) w) (namesIn (over (now (outside .entry))) (now (s .entry)) (storeOf o (now (t .entry)) (now (q .entry))) (w .kind) (rows (now (s .entry))) (w .whole)) (filled k (now (out .entry)))) ⌝ }
 {
     let n = s.len() / 8;
     let c = ClassId(w.whole);
     if a.row == 0 {
-        return put_names(s, t, q, w, n, c, k, out);
+        return put_names(s, outside, t, q, w, n, c, k, out);
     }
     let p = Passed {
         class: parent_of(s, t, c).0,
         left: n - 1,
     };
-    let done = put_copied(s, w, a.row, a.count, k, out);
-    put_own(s, t, q, w, p, c, done, out)
+    let done = put_copied(s, outside, w, a.row, a.count, k, out);
+    put_own(s, outside, t, q, w, p, c, done, out)
 }
 
 // How many names the wanted class has, or the largest number of a word.
-pub fn count_line(s: &[u32], t: &[u32], q: &[u32], w: Wanted, a: Above) -> u32
-    requires { ⌜ (0 < rows (now s)) × (Counted core (now s) (now t) (now q) (w .kind) (w .whole) a) ⌝ }
-    ensures { λ x. ⌜ ((o : Store) → x ≡ min (length (namesIn core (now (s .entry)) (storeOf o (now (t .entry)) (now (q .entry))) (w .kind) (rows (now (s .entry))) (w .whole))) 4294967295) ⌝ }
+pub fn count_line(
+    s: &[u32],
+    outside: &[u32],
+    t: &[u32],
+    q: &[u32],
+    w: Wanted,
+    a: Above,
+) -> u32
+    requires { ⌜ (0 < rows (now s)) × (Counted (over (now outside)) (now s) (now t) (now q) (w .kind) (w .whole) a) ⌝ }
+    ensures { λ x. ⌜ ((o : Store) → x ≡ min (length (namesIn (over (now (outside .entry))) (now (s .entry)) (storeOf o (now (t .entry)) (now (q .entry))) (w .kind) (rows (now (s .entry))) (w .whole))) 4294967295) ⌝ }
 {
     let n = s.len() / 8;
     let c = ClassId(w.whole);
     if a.row == 0 {
-        return count_names(s, t, q, w, n, c);
+        return count_names(s, outside, t, q, w, n, c);
     }
     let mut none = [0u32; 1];
     let start = Written {
@@ -65,5 +73,5 @@ pub fn count_line(s: &[u32], t: &[u32], q: &[u32], w: Wanted, a: Above) -> u32
         class: parent_of(s, t, c).0,
         left: n - 1,
     };
-    put_own(s, t, q, w, p, c, start, &mut none).slot
+    put_own(s, outside, t, q, w, p, c, start, &mut none).slot
 }

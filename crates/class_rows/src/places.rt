@@ -4,8 +4,10 @@ ghost use mathlib.Core.Bool.{not, _&&_, _||_};
 ghost use Prim.Native.Nat.{_/_, _≤_};
 ghost use lib.Dec.{eqb, ltb};
 ghost use lib.ListN.{length};
+ghost use Rattle.definition.specs.Classes.{ofSheet};
 ghost use Rattle.class_rows.specs.Places.{placeOf, aboveOf};
 use ast::FIRST_CLASS;
+use tree::lists::is_class_row;
 
 // Where the names of a class stand: their first row and their number. Row 0: nowhere.
 pub struct Above {
@@ -49,14 +51,14 @@ pub fn above_of(out: &[u32], at: usize, kind: u32) -> Above
 }
 
 // Is it known that the line of parents of the class of row `r` ends within `r + 1` classes? Its parent `c` has the entry `at`, or is
-// from outside and has no parent.
-pub fn line_ends(at: usize, c: u32, r: u32) -> bool
-    ensures { λ x. ⌜ x ≡ (not (eqb at 0) || (ltb c 256 && ltb 0 r)) ⌝ }
+// none of the sheet and has no parent.
+pub fn line_ends(s: &[u32], at: usize, c: u32, r: u32) -> bool
+    ensures { λ x. ⌜ x ≡ (not (eqb at 0) || (not (ofSheet (now (s .entry)) c) && ltb 0 r)) ⌝ }
 {
     if at != 0 {
         return true;
     }
-    if c < FIRST_CLASS {
+    if !is_class_row(s, c) {
         return 0 < r;
     }
     false

@@ -1,11 +1,11 @@
 // Rows that tell the names of a class: code 23 a field by its slot, code 24 a method by its function.
 ghost use mathlib.Core.Path.{_≡_};
 ghost use mathlib.Core.List.{List, [], _∷_, map};
-ghost use Prim.Native.Nat.{ℕ, _+_, _≤_, min};
+ghost use Prim.Native.Nat.{ℕ, min};
 ghost use lib.ListN.{length};
-ghost use Rattle.definition.specs.Basics.{from};
 ghost use Rattle.definition.specs.Sheet.{a, kidsOf};
-ghost use Rattle.definition.specs.Outside.{core, recordOf};
+ghost use Rattle.outside.specs.Words.{over};
+ghost use Rattle.outside.specs.Found.{listed};
 ghost use Rattle.machine.specs.Machine.{chainTo};
 ghost use Rattle.store.specs.Stored.{storeOf};
 ghost use Rattle.store.specs.declared.nodes.Store.{Store};
@@ -16,6 +16,10 @@ use ast::ClassId;
 use ast::FIRST_CLASS;
 use inherit::find_method;
 use inherit::parent_of;
+use outside::records::Listed;
+use outside::records::recorded_names;
+use outside::records::step_of;
+use outside::records::word_at;
 use sink::AnswerRow;
 use sink::emit;
 use store::nodes::node_before;
@@ -44,8 +48,8 @@ pub struct Passed {
 }
 
 // The row that tells name `m` at slot `i`.
-fn name_row(s: &[u32], t: &[u32], w: Wanted, m: u32, i: u32) -> AnswerRow
-    ensures { λ x. ⌜ ((o : Store) (q : List ℕ) → wordsOf x ≡ nameRow core (now (s .entry)) (storeOf o (now (t .entry)) q) w m i) ⌝ }
+fn name_row(s: &[u32], outside: &[u32], t: &[u32], w: Wanted, m: u32, i: u32) -> AnswerRow
+    ensures { λ x. ⌜ ((o : Store) (q : List ℕ) → wordsOf x ≡ nameRow (over (now (outside .entry))) (now (s .entry)) (storeOf o (now (t .entry)) q) w m i) ⌝ }
 {
     if w.kind == 10 {
         return AnswerRow {
@@ -57,22 +61,30 @@ fn name_row(s: &[u32], t: &[u32], w: Wanted, m: u32, i: u32) -> AnswerRow
             four: 0,
         };
     }
-    let fun = find_method(s, t, ClassId(w.whole), m).0;
+    let fun = find_method(s, outside, t, ClassId(w.whole), m).fun;
     AnswerRow {
         row: w.row,
         code: 24,
         one: m,
-        two: fun,
+        two: fun.0,
         three: 0,
         four: 0,
     }
 }
 
 // One name more.
-fn put_name(s: &[u32], t: &[u32], w: Wanted, m: u32, k: Written, out: &mut [u32]) -> Written
-    ensures { λ x. ⌜ ((o : Store) (q : List ℕ) → filled x (now (out .exit)) ≡ put (nameRow core (now (s .entry)) (storeOf o (now (t .entry)) q) w) m (filled k (now (out .entry)))) ⌝ }
+fn put_name(
+    s: &[u32],
+    outside: &[u32],
+    t: &[u32],
+    w: Wanted,
+    m: u32,
+    k: Written,
+    out: &mut [u32],
+) -> Written
+    ensures { λ x. ⌜ ((o : Store) (q : List ℕ) → filled x (now (out .exit)) ≡ put (nameRow (over (now (outside .entry))) (now (s .entry)) (storeOf o (now (t .entry)) q) w) m (filled k (now (out .entry)))) ⌝ }
 {
-    let x = name_row(s, t, w, m, k.slot);
+    let x = name_row(s, outside, t, w, m, k.slot);
     let count = emit(out, k.count, x);
     let slot = one_more(k.slot);
     Written {
@@ -84,6 +96,7 @@ fn put_name(s: &[u32], t: &[u32], w: Wanted, m: u32, k: Written, out: &mut [u32]
 // One name more, unless it is inherited.
 fn put_new(
     s: &[u32],
+    outside: &[u32],
     t: &[u32],
     q: &[u32],
     w: Wanted,
@@ -92,68 +105,44 @@ fn put_new(
     k: Written,
     out: &mut [u32],
 ) -> Written
-    ensures { λ x. ⌜ ((o : Store) → filled x (now (out .exit)) ≡ putNew core (now (s .entry)) (storeOf o (now (t .entry)) (now (q .entry))) w p (m ∷ []) (filled k (now (out .entry)))) ⌝ }
+    ensures { λ x. ⌜ ((o : Store) → filled x (now (out .exit)) ≡ putNew (over (now (outside .entry))) (now (s .entry)) (storeOf o (now (t .entry)) (now (q .entry))) w p (m ∷ []) (filled k (now (out .entry)))) ⌝ }
 {
-    if is_inherited(s, t, q, w.kind, p.left, ClassId(p.class), m) {
+    if is_inherited(s, outside, t, q, w.kind, p.left, ClassId(p.class), m) {
         return k;
     }
-    put_name(s, t, w, m, k, out)
+    put_name(s, outside, t, w, m, k, out)
 }
 
-// The names of a range, of `n` numbers from `i` on.
-fn put_range(
+// Names in the words from outside, in order.
+fn put_recorded(
     s: &[u32],
+    outside: &[u32],
     t: &[u32],
     q: &[u32],
     w: Wanted,
     p: Passed,
-    i: u32,
-    n: u32,
+    names: Listed,
     k: Written,
     out: &mut [u32],
 ) -> Written
-    requires { ⌜ i + n ≤ 256 ⌝ }
-    ensures { λ x. ⌜ ((o : Store) → filled x (now (out .exit)) ≡ putNew core (now (s .entry)) (storeOf o (now (t .entry)) (now (q .entry))) w p (from i n) (filled k (now (out .entry)))) ⌝ }
+    ensures { λ x. ⌜ ((o : Store) → filled x (now (out .exit)) ≡ putNew (over (now (outside .entry))) (now (s .entry)) (storeOf o (now (t .entry)) (now (q .entry))) w p (listed (now (outside .entry)) names) (filled k (now (out .entry)))) ⌝ }
 {
+    let step = step_of(names.kind);
     let mut done = k;
-    let mut at = i;
-    let mut left = n;
+    let mut at = names.at as usize;
+    let mut left = names.count;
     while 0 < left {
-        done = put_new(s, t, q, w, p, at, done, out);
-        at += 1;
+        done = put_new(s, outside, t, q, w, p, word_at(outside, at), done, out);
+        at += step;
         left -= 1;
     }
     done
 }
 
-// The fields of a class from outside the sheet.
-fn put_outside(
-    s: &[u32],
-    t: &[u32],
-    q: &[u32],
-    w: Wanted,
-    p: Passed,
-    c: ClassId,
-    k: Written,
-    out: &mut [u32],
-) -> Written
-    ensures { λ x. ⌜ ((o : Store) → filled x (now (out .exit)) ≡ putNew core (now (s .entry)) (storeOf o (now (t .entry)) (now (q .entry))) w p (recordOf core (c .0) .fields) (filled k (now (out .entry)))) ⌝ }
-{
-    let n = c.0;
-    match n {
-        100 => put_range(s, t, q, w, p, 10, 9, k, out),
-        101 => put_range(s, t, q, w, p, 19, 3, k, out),
-        102 => {
-            let first = put_range(s, t, q, w, p, 21, 1, k, out);
-            put_range(s, t, q, w, p, 19, 1, first, out)
-        }
-        _ => k,
-    }
-}
-
 // The names of the children of row `r`, in order.
 fn put_listed(
     s: &[u32],
+    outside: &[u32],
     t: &[u32],
     q: &[u32],
     w: Wanted,
@@ -162,7 +151,7 @@ fn put_listed(
     k: Written,
     out: &mut [u32],
 ) -> Written
-    ensures { λ x. ⌜ ((o : Store) → filled x (now (out .exit)) ≡ putNew core (now (s .entry)) (storeOf o (now (t .entry)) (now (q .entry))) w p (map (a (now (s .entry))) (kidsOf (now (s .entry)) (w .kind) r)) (filled k (now (out .entry)))) ⌝ }
+    ensures { λ x. ⌜ ((o : Store) → filled x (now (out .exit)) ≡ putNew (over (now (outside .entry))) (now (s .entry)) (storeOf o (now (t .entry)) (now (q .entry))) w p (map (a (now (s .entry))) (kidsOf (now (s .entry)) (w .kind) r)) (filled k (now (out .entry)))) ⌝ }
 {
     let mut done = k;
     let mut left = s.len() / 8;
@@ -175,7 +164,7 @@ fn put_listed(
         at = word(s, row, 1);
         left -= 1;
         if word(s, row, 0) == w.kind {
-            done = put_new(s, t, q, w, p, word(s, row, 6), done, out);
+            done = put_new(s, outside, t, q, w, p, word(s, row, 6), done, out);
         }
     }
     done
@@ -184,6 +173,7 @@ fn put_listed(
 // The keys of the list whose last node is node `last - 1`, in order.
 fn put_stored(
     s: &[u32],
+    outside: &[u32],
     t: &[u32],
     q: &[u32],
     w: Wanted,
@@ -192,20 +182,21 @@ fn put_stored(
     k: Written,
     out: &mut [u32],
 ) -> Written
-    ensures { λ x. ⌜ ((o : Store) → filled x (now (out .exit)) ≡ putNew core (now (s .entry)) (storeOf o (now (t .entry)) (now (q .entry))) w p (map (λ y. y .key) (chainTo (now (q .entry)) last)) (filled k (now (out .entry)))) ⌝ }
+    ensures { λ x. ⌜ ((o : Store) → filled x (now (out .exit)) ≡ putNew (over (now (outside .entry))) (now (s .entry)) (storeOf o (now (t .entry)) (now (q .entry))) w p (map (λ y. y .key) (chainTo (now (q .entry)) last)) (filled k (now (out .entry)))) ⌝ }
 {
     if last == 0 {
         return k;
     }
     let i = last - 1;
     let before = node_before(q, i);
-    let done = put_stored(s, t, q, w, p, before, k, out);
-    put_new(s, t, q, w, p, node_word(q, i, 1), done, out)
+    let done = put_stored(s, outside, t, q, w, p, before, k, out);
+    put_new(s, outside, t, q, w, p, node_word(q, i, 1), done, out)
 }
 
 // The own names of a class.
 pub fn put_own(
     s: &[u32],
+    outside: &[u32],
     t: &[u32],
     q: &[u32],
     w: Wanted,
@@ -214,25 +205,24 @@ pub fn put_own(
     k: Written,
     out: &mut [u32],
 ) -> Written
-    ensures { λ x. ⌜ ((o : Store) → filled x (now (out .exit)) ≡ putNew core (now (s .entry)) (storeOf o (now (t .entry)) (now (q .entry))) w p (ownIn core (now (s .entry)) (storeOf o (now (t .entry)) (now (q .entry))) (w .kind) (c .0)) (filled k (now (out .entry)))) ⌝ }
+    ensures { λ x. ⌜ ((o : Store) → filled x (now (out .exit)) ≡ putNew (over (now (outside .entry))) (now (s .entry)) (storeOf o (now (t .entry)) (now (q .entry))) w p (ownIn (over (now (outside .entry))) (now (s .entry)) (storeOf o (now (t .entry)) (now (q .entry))) (w .kind) (c .0)) (filled k (now (out .entry)))) ⌝ }
 {
-    if w.kind == 10 {
-        if is_class_row(s, c.0) {
-            let r = c.0 - FIRST_CLASS;
-            let done = put_listed(s, t, q, w, p, r, k, out);
-            return put_stored(s, t, q, w, p, word(t, r, 7), done, out);
-        }
-        return put_outside(s, t, q, w, p, c, k, out);
-    }
     if is_class_row(s, c.0) {
-        return put_listed(s, t, q, w, p, c.0 - FIRST_CLASS, k, out);
+        let r = c.0 - FIRST_CLASS;
+        let done = put_listed(s, outside, t, q, w, p, r, k, out);
+        if w.kind == 10 {
+            return put_stored(s, outside, t, q, w, p, word(t, r, 7), done, out);
+        }
+        return done;
     }
-    k
+    let names = recorded_names(outside, w.kind, c);
+    put_recorded(s, outside, t, q, w, p, names, k, out)
 }
 
 // The names of class `c`: the inherited, then the own ones that are new. It climbs at most `n` classes.
 pub fn put_names(
     s: &[u32],
+    outside: &[u32],
     t: &[u32],
     q: &[u32],
     w: Wanted,
@@ -241,7 +231,7 @@ pub fn put_names(
     k: Written,
     out: &mut [u32],
 ) -> Written
-    ensures { λ x. ⌜ ((o : Store) → filled x (now (out .exit)) ≡ putAll (nameRow core (now (s .entry)) (storeOf o (now (t .entry)) (now (q .entry))) w) (namesIn core (now (s .entry)) (storeOf o (now (t .entry)) (now (q .entry))) (w .kind) n (c .0)) (filled k (now (out .entry)))) ⌝ }
+    ensures { λ x. ⌜ ((o : Store) → filled x (now (out .exit)) ≡ putAll (nameRow (over (now (outside .entry))) (now (s .entry)) (storeOf o (now (t .entry)) (now (q .entry))) w) (namesIn (over (now (outside .entry))) (now (s .entry)) (storeOf o (now (t .entry)) (now (q .entry))) (w .kind) n (c .0)) (filled k (now (out .entry)))) ⌝ }
 {
     if n == 0 {
         return k;
@@ -252,17 +242,25 @@ pub fn put_names(
         left: n - 1,
     };
     if p.class == 0 {
-        return put_own(s, t, q, w, p, c, k, out);
+        return put_own(s, outside, t, q, w, p, c, k, out);
     }
-    let done = put_names(s, t, q, w, n - 1, up, k, out);
-    put_own(s, t, q, w, p, c, done, out)
+    let done = put_names(s, outside, t, q, w, n - 1, up, k, out);
+    put_own(s, outside, t, q, w, p, c, done, out)
 }
 
 // How many names class `c` has, or the largest number of a word. Nothing is written: not one row fits.
-pub fn count_names(s: &[u32], t: &[u32], q: &[u32], w: Wanted, n: usize, c: ClassId) -> u32
-    ensures { λ x. ⌜ ((o : Store) → x ≡ min (length (namesIn core (now (s .entry)) (storeOf o (now (t .entry)) (now (q .entry))) (w .kind) n (c .0))) 4294967295) ⌝ }
+pub fn count_names(
+    s: &[u32],
+    outside: &[u32],
+    t: &[u32],
+    q: &[u32],
+    w: Wanted,
+    n: usize,
+    c: ClassId,
+) -> u32
+    ensures { λ x. ⌜ ((o : Store) → x ≡ min (length (namesIn (over (now (outside .entry))) (now (s .entry)) (storeOf o (now (t .entry)) (now (q .entry))) (w .kind) n (c .0))) 4294967295) ⌝ }
 {
     let mut none = [0u32; 1];
     let start = Written { count: 0, slot: 0 };
-    put_names(s, t, q, w, n, c, start, &mut none).slot
+    put_names(s, outside, t, q, w, n, c, start, &mut none).slot
 }
