@@ -2,11 +2,11 @@
 use mathlib.Core.Path.{_≡_, refl, sym, ap, _∙_}
 use mathlib.Core.List.{List, [], _∷_, map}
 use mathlib.Core.Bool.{Bool, true, false, not}
-use Prim.Native.Nat.{suc, _+_}
+use Prim.Native.Nat.{suc}
 use lib.Dec.{eqb}
 use borrow.Author.Tests.{eq-eqb, ne-eqb}
-use Rattle.definition.specs.Basics.{if_then_else_, filter, from}
-use Rattle.definition.specs.Sheet.{Sheet, rows, is}
+use Rattle.definition.specs.Basics.{if_then_else_, filter}
+use Rattle.definition.specs.Sheet.{Sheet, rows}
 use Rattle.definition.specs.Outside.{Outside}
 use Rattle.definition.specs.Scope.{Moment, visited, visits, history}
 use Rattle.definition.specs.Question.{Refusal, none, firstNo, openOn, constructed, askClimb, firstOfClasses, askConstructor, refusal}
