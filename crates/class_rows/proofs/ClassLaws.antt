@@ -61,7 +61,7 @@ module _ (O : Outside) (s t q marks : List ℕ) (r : ℕ) (h : ClassReady O s t 
       methods-equal = omega (arith, i, ap length (wanted-methods O s st y), h .methods o)
 
 -- The rows of the fields and of the methods.
-module _ (f : ℕ → ℕ → List ℕ) (s : Sheet) (r : ℕ) where
+module _ (f : ℕ → ℕ → List ℕ) (r : ℕ) where
   field-rows : ((m i : ℕ) → f m i ≡ eight (r ∷ 23 ∷ i ∷ m ∷ [])) → (ms : List ℕ) (k : Filled) → k .slot + length ms ≤ 4294967295
       → putAll f ms k .done ≡ emitAll (map (λ vs. eight (r ∷ vs)) (numbered (k .slot) ms)) (k .done)
   unfolding putAll put emitAll
@@ -92,14 +92,14 @@ module _ (O : Outside) (s : Sheet) (o : Stored) (r : ℕ) (w : Wanted) (k : Fill
       → x .done ≡ emitAll (map (λ vs. eight (r ∷ vs)) (numbered 0 (fieldsIn O s o (rows s) (256 + r)))) (k .done)
   fields-told h l z e =
       ap (λ (y : Filled). y .done) (e ∙ ap (λ (ms : List ℕ). putAll (nameRow O s o w) ms k) (wanted-fields O s o h))
-      ∙ field-rows (nameRow O s o w) s r (field-row h) (fieldsIn O s o (rows s) (256 + r)) k (omega arith)
+      ∙ field-rows (nameRow O s o w) r (field-row h) (fieldsIn O s o (rows s) (256 + r)) k (omega arith)
       ∙ ap (λ (i : ℕ). emitAll (map (λ vs. eight (r ∷ vs)) (numbered i (fieldsIn O s o (rows s) (256 + r)))) (k .done)) z
 
   pub methods-told : {x : Filled} → Wants r 6 w → x ≡ putAll (nameRow O s o w) (namesIn O s o (w .kind) (rows s) (w .whole)) k
       → x .done ≡ emitAll (map (λ vs. eight (r ∷ vs)) (map (λ n. 24 ∷ n ∷ methodNamed n (methodsIn O s o (rows s) (256 + r)) ∷ []) (methodNamesIn O s o (rows s) (256 + r)))) (k .done)
   methods-told h e =
       ap (λ (y : Filled). y .done) (e ∙ ap (λ (ms : List ℕ). putAll (nameRow O s o w) ms k) (wanted-methods O s o h))
-      ∙ method-rows (nameRow O s o w) s r (λ n. methodNamed n (methodsIn O s o (rows s) (256 + r))) (method-row h) (methodNamesIn O s o (rows s) (256 + r)) k
+      ∙ method-rows (nameRow O s o w) r (λ n. methodNamed n (methodsIn O s o (rows s) (256 + r))) (method-row h) (methodNamesIn O s o (rows s) (256 + r)) k
 
 -- All rows of a class.
 pub class-rows : (O : Outside) (s : Sheet) (o : Stored) (r : ℕ) (k : Sink) {ws : List ℕ} {h x y : Sink} → ws ≡ eight (r ∷ headWords O s o r) → h ≡ emit ws k
