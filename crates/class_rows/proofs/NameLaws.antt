@@ -101,7 +101,8 @@ module _ (O : Outside) (s : Sheet) (o : Store) (c m : ℕ) where
   pub field-listed : true ≡ ofSheet s c → true ≡ (m ∈? listedFields s (c - 256)) → true ≡ (m ∈? ownFieldsIn O s o c)
   field-listed f e = sym (field-class f ∙ rw (sym e))
 
-  pub field-stored : {x : Bool} {p : ℕ} → true ≡ ofSheet s c → false ≡ (m ∈? listedFields s (c - 256)) → p ≡ cell (o .table) (c - 256) 7 → x ≡ hasKey m (chainTo (o .nodes) p) → x ≡ (m ∈? ownFieldsIn O s o c)
+  pub field-stored : {x : Bool} {p : ℕ} → true ≡ ofSheet s c → false ≡ (m ∈? listedFields s (c - 256))
+      → p ≡ cell (o .table) (c - 256) 7 → x ≡ hasKey m (chainTo (o .nodes) p) → x ≡ (m ∈? ownFieldsIn O s o c)
   unfolding listAt
   field-stored f e w h = h ∙ ap (λ (p : ℕ). hasKey m (chainTo (o .nodes) p)) w ∙ sym (field-class f ∙ rw (sym e))
 

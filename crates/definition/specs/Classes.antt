@@ -18,6 +18,10 @@ ofSheet s c = leb 256 c && is s 4 (c - 256)
 abbrev pub hasRecord : Outside → Sheet → ℕ → Bool
 hasRecord O s c = ofSheet s c || isRecorded O c
 
+-- is a parent a class without a record?
+abbrev pub lacksRecord : Outside → Sheet → ℕ → Bool
+lacksRecord O s c = not (eqb c 0) && not (hasRecord O s c)
+
 -- the name of a class that has a record
 abbrev pub className : Outside → Sheet → ℕ → ℕ
 className O s c = if ofSheet s c then a s (c - 256) else recordOf O c .name

@@ -11,7 +11,7 @@ use Rattle.definition.specs.Meaning.{Meaning, isDeclared, isClass, class
 use Rattle.definition.specs.Walk.{Event, enter, leave, loop, declare, bring, visit, literalLet}
 use Rattle.definition.specs.Scope.{Moment, Stack, lookup, taken, inLoop, visited, visits}
 use Rattle.definition.specs.Slots.{isMutable}
-use Rattle.definition.specs.Classes.{hasRecord, ofSheet, methodOf, ownMethods, className, parentOf, methods}
+use Rattle.definition.specs.Classes.{ofSheet, hasRecord, lacksRecord, methodOf, ownMethods, className, parentOf, methods}
 
 -- A question answered no: its number, the row of its position, the name asked about. Number 0: none.
 pub record Refusal : Type 0 where
@@ -107,7 +107,7 @@ askClimb O s parent (suc n) met c =
     let up : Refusal = askClimb O s parent n (c ∷ met) (parent c) in
     if not (ofSheet s c) then none
     else if c ∈? met then ask 18 (c - 256) (a s (c - 256)) false
-    else if not (eqb (parent c) 0) && not (hasRecord O s (parent c)) then ask 19 (c - 256) (a s (c - 256)) false
+    else if lacksRecord O s (parent c) then ask 19 (c - 256) (a s (c - 256)) false
     else up
 
 -- the first no of a question on the classes of the sheet, in row order

@@ -138,7 +138,8 @@ module _ (s : Sheet) (r K : ℕ) (hr : is s K r ≡ true) (nz : r ≡ 0 → ⊥)
       and-right true y e = e
       and-right false y e = absurd (true≢false (sym e))
   rest-false k st n₄ n₅₄ false true ec em =
-      kinds-apart s (child s k) r 54 K (receiver-member (is s 54 (child s k)) (is s 50 (child s (child s k))) (classNumber (lookup (a s (child s (child s k))) st)) (and-right (is s 59 k) (not (eqb (receiver s k (openOn s st)) 0)) em)) hr n₅₄
+      kinds-apart s (child s k) r 54 K
+      (receiver-member (is s 54 (child s k)) (is s 50 (child s (child s k))) (classNumber (lookup (a s (child s (child s k))) st)) (and-right (is s 59 k) (not (eqb (receiver s k (openOn s st)) 0)) em)) hr n₅₄
     where
       and-right : (x y : Bool) → (x && y) ≡ true → y ≡ true
       and-right true y e = e
@@ -306,7 +307,8 @@ target-class s hd r hr nz (visit k) st =
     go false ev true ec false ed false em =
         zero-apart r nz ∙ sym (when-false (is s 4 (a s k)) (eqb (a s k) r) (λ q. ap (is s 4) (eqb-true (a s k) r q) ∙ hr) ed)
     go false ev false ec d ed true em =
-        kinds-apart s (child s k) r 54 4 (receiver-member (is s 54 (child s k)) (is s 50 (child s (child s k))) (classNumber (lookup (a s (child s (child s k))) st)) (both (is s 59 k) (not (eqb (receiver s k (openOn s st)) 0)) em)) hr refl
+        kinds-apart s (child s k) r 54 4
+        (receiver-member (is s 54 (child s k)) (is s 50 (child s (child s k))) (classNumber (lookup (a s (child s (child s k))) st)) (both (is s 59 k) (not (eqb (receiver s k (openOn s st)) 0)) em)) hr refl
       where
         both : (x y : Bool) → (x && y) ≡ true → y ≡ true
         both true y e = e
@@ -319,7 +321,9 @@ target-member : (s : Sheet) → kind s 0 ≡ 0 → (r : ℕ) → is s 54 r ≡ t
 target-member s hd r hr nz (enter k) st = zero-apart r nz ∙ sym (ap (λ (t : Bool). t && not (eqb (receiver s 0 (openOn s st)) 0) && eqb (child s 0) r) (none-visited s hd r 54 hr nz 59 refl))
 target-member s hd r hr nz leave st = zero-apart r nz ∙ sym (ap (λ (t : Bool). t && not (eqb (receiver s 0 (openOn s st)) 0) && eqb (child s 0) r) (none-visited s hd r 54 hr nz 59 refl))
 target-member s hd r hr nz loop st = zero-apart r nz ∙ sym (ap (λ (t : Bool). t && not (eqb (receiver s 0 (openOn s st)) 0) && eqb (child s 0) r) (none-visited s hd r 54 hr nz 59 refl))
-target-member s hd r hr nz (declare k) st = declare-apart s hd r 54 hr nz k refl ∙ sym (ap (λ (t : Bool). t && not (eqb (receiver s 0 (openOn s st)) 0) && eqb (child s 0) r) (none-visited s hd r 54 hr nz 59 refl))
+target-member s hd r hr nz (declare k) st =
+    declare-apart s hd r 54 hr nz k refl
+    ∙ sym (ap (λ (t : Bool). t && not (eqb (receiver s 0 (openOn s st)) 0) && eqb (child s 0) r) (none-visited s hd r 54 hr nz 59 refl))
 target-member s hd r hr nz (bring k n d) st = zero-apart r nz ∙ sym (ap (λ (t : Bool). t && not (eqb (receiver s 0 (openOn s st)) 0) && eqb (child s 0) r) (none-visited s hd r 54 hr nz 59 refl))
 target-member s hd r hr nz (visit k) st =
     shape (ownRowKind s k) (is s 30 k && is s 4 (a s k)) (is s 59 k && not (eqb (receiver s k (openOn s st)) 0)) k (a s k) (child s k) r
@@ -441,5 +445,7 @@ module _ (O : Outside) (s : Sheet) (hd : kind s 0 ≡ 0) (h : List Moment) (o : 
   -- the definition's row of a member
   pub member-row : memberRow O s h r ≡ map (memberValues O s r) (filter (isMemberCall s r) h)
   member-row =
-      ap (λ (ms : List Moment). map (memberValues O s r) (filter (λ m. eqb (child s (visited (m .event))) r) ms)) (filter-filter (λ m. not (eqb (receiver s (visited (m .event)) (openOn s (m .stack))) 0)) (λ m. is s 59 (visited (m .event))) h)
-      ∙ ap (map (memberValues O s r)) (filter-filter (λ m. eqb (child s (visited (m .event))) r) (λ m. is s 59 (visited (m .event)) && not (eqb (receiver s (visited (m .event)) (openOn s (m .stack))) 0)) h)
+      ap (λ (ms : List Moment). map (memberValues O s r) (filter (λ m. eqb (child s (visited (m .event))) r) ms))
+      (filter-filter (λ m. not (eqb (receiver s (visited (m .event)) (openOn s (m .stack))) 0)) (λ m. is s 59 (visited (m .event))) h)
+      ∙ ap (map (memberValues O s r))
+      (filter-filter (λ m. eqb (child s (visited (m .event))) r) (λ m. is s 59 (visited (m .event)) && not (eqb (receiver s (visited (m .event)) (openOn s (m .stack))) 0)) h)

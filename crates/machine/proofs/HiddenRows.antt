@@ -181,7 +181,8 @@ module _ (n : ℕ) {O : Outside} {s : Sheet} (ok : Fits O s) (fa : SheetFacts n 
         (choose (is s 54 e && is s 50 r) (classNumber (lookup (a s r) (m′ .stack))) (and-both (is s 54 e) (is s 50 r) te tr) cls)) in
         mem-any (λ m. eqb (child s (child s (visited (m .event)))) r) m′ (classCalls s (history O s))
         (eqb-of (child s (child s (visited (m′ .event)))) r (ap (λ (j : ℕ). child s (child s j)) vc ∙ ap (child s) qe ∙ qr))
-        (mem-filter (λ m. not (eqb (receiver s (visited (m .event)) (openOn s (m .stack))) 0)) m′ (visits s (history O s) 59) (subst (λ (j : ℕ). T (not (eqb (receiver s j (openOn s (m′ .stack))) 0))) (sym vc) rec)
+        (mem-filter (λ m. not (eqb (receiver s (visited (m .event)) (openOn s (m .stack))) 0)) m′ (visits s (history O s) 59)
+        (subst (λ (j : ℕ). T (not (eqb (receiver s j (openOn s (m′ .stack))) 0))) (sym vc) rec)
         (mem-filter (λ m. is s 59 (visited (m .event))) m′ (history O s) (subst (λ (j : ℕ). T (is s 59 j)) (sym vc) tc) (mm .1)))
       where
         held-first : (e r : ℕ) → e < rows s → T (is s 54 e) → Mem r (kids s e) → child s e ≡ r

@@ -146,9 +146,11 @@ pub refine : (O : Outside) (s : Sheet) → kind s 0 ≡ 0 → (room : Room) (h :
 unfolding runState
 refine O s hd room h z [] x over g = accepted refl (subst (λ (l : List Moment). StateAgrees O s room l z x) (sym (append-nil h)) g)
 refine O s hd room h z (e ∷ es) x (next pr un w₁ w₂ r₁ r₂ rs out r₃ w) g =
-    by (eqb (askEvent O s e (openOn s z) .number) 0) refl (λ q. refine O s hd room (h ++ record { event = e; stack = z } ∷ []) (step s z e) es (stepState O s e x) (w q) (state-step O s hd room h z e x pr un w₁ w₂ r₁ r₂ rs out r₃ q g))
+    by (eqb (askEvent O s e (openOn s z) .number) 0) refl
+    (λ q. refine O s hd room (h ++ record { event = e; stack = z } ∷ []) (step s z e) es (stepState O s e x) (w q) (state-step O s hd room h z e x pr un w₁ w₂ r₁ r₂ rs out r₃ q g))
   where
-    pass : askEvent O s e (openOn s z) .number ≡ 0 → Ends O s room (h ++ record { event = e; stack = z } ∷ []) (step s z e) es (runState O s es (stepState O s e x)) → Ends O s room h z (e ∷ es) (runState O s es (stepState O s e x))
+    pass : askEvent O s e (openOn s z) .number ≡ 0
+        → Ends O s room (h ++ record { event = e; stack = z } ∷ []) (step s z e) es (runState O s es (stepState O s e x)) → Ends O s room h z (e ∷ es) (runState O s es (stepState O s e x))
     pass q (accepted n i) =
         accepted (numbers (no-later O s z e es q) ∙ n)
         (subst (λ (l : List Moment). StateAgrees O s room l (run s (step s z e) es) (runState O s es (stepState O s e x))) (append-assoc h (record { event = e; stack = z } ∷ []) (moments s (step s z e) es)) i)

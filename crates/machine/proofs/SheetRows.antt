@@ -127,7 +127,8 @@ module _ (n : ℕ) {O : Outside} {s : Sheet} (ok : Fits O s) (fa : SheetFacts n 
   at-holder : (r : ℕ) → (r ≡ 0 → ⊥) → (m : Moment) → Mem m (history O s) → T (isMemberCall s r m) → (visited (m .event) ≡ holder s r) × T (is s 59 (visited (m .event)))
   at-holder r nz m q h =
       let v : ℕ = visited (m .event) in
-      let front : T (is s 59 v && not (eqb (receiver s (visited (m .event)) (openOn s (m .stack))) 0)) = and-left (is s 59 v && not (eqb (receiver s (visited (m .event)) (openOn s (m .stack))) 0)) (eqb (child s v) r) h in
+      let front : T (is s 59 v && not (eqb (receiver s (visited (m .event)) (openOn s (m .stack))) 0)) =
+      and-left (is s 59 v && not (eqb (receiver s (visited (m .event)) (openOn s (m .stack))) 0)) (eqb (child s v) r) h in
       let call : T (is s 59 v) = and-left (is s 59 v) (not (eqb (receiver s (visited (m .event)) (openOn s (m .stack))) 0)) front in
       let c : child s v ≡ r = eqb→eq (child s v) r (and-right (is s 59 v && not (eqb (receiver s (visited (m .event)) (openOn s (m .stack))) 0)) (eqb (child s v) r) h) in
       let lv : v < rows s = visit-range n ok fa m v q (visited-event (m .event) v refl (kind-not-zero ok 59 v tt call)) in

@@ -207,7 +207,8 @@ hidden-snoc : (s : Sheet) (h : List Moment) (m : Moment) (r : ℕ)
 hidden-snoc s h m r =
     ap (λ (l : List Moment). bit (any (λ x. eqb (child s (child s (visited (x .event)))) r) l))
     (filter2-snoc (λ x. not (eqb (receiver s (visited (x .event)) (openOn s (x .stack))) 0)) (λ x. is s 59 (visited (x .event))) h m)
-    ∙ ap bit (any-append (λ x. eqb (child s (child s (visited (x .event)))) r) (classCalls s h) (only (is s 59 (visited (m .event)) && not (eqb (receiver s (visited (m .event)) (openOn s (m .stack))) 0)) m))
+    ∙ ap bit (any-append (λ x. eqb (child s (child s (visited (x .event)))) r) (classCalls s h)
+    (only (is s 59 (visited (m .event)) && not (eqb (receiver s (visited (m .event)) (openOn s (m .stack))) 0)) m))
     ∙ go (is s 59 (visited (m .event)) && not (eqb (receiver s (visited (m .event)) (openOn s (m .stack))) 0)) (isHidden s h r) (eqb (child s (child s (visited (m .event)))) r) refl
   where
     go : (t u v : Bool) → eqb (child s (child s (visited (m .event)))) r ≡ v
@@ -255,7 +256,8 @@ module _ (O : Outside) (s : Sheet) (hd : kind s 0 ≡ 0) (h : List Moment) (z : 
 -- Constructor calls, in the walk's order.
 calls-snoc : (s : Sheet) (h : List Moment) (m : Moment)
     → map (callNode s) (callsOf s (h ++ m ∷ []))
-    ≡ (if is s 59 (visited (m .event)) && not (eqb (constructed s (visited (m .event)) (openOn s (m .stack))) 0) then map (callNode s) (callsOf s h) ++ callNode s m ∷ [] else map (callNode s) (callsOf s h))
+    ≡ (if is s 59 (visited (m .event)) && not (eqb (constructed s (visited (m .event)) (openOn s (m .stack))) 0)
+    then map (callNode s) (callsOf s h) ++ callNode s m ∷ [] else map (callNode s) (callsOf s h))
 calls-snoc s h m =
     ap (map (callNode s)) (filter2-snoc (λ x. not (eqb (constructed s (visited (x .event)) (openOn s (x .stack))) 0)) (λ x. is s 59 (visited (x .event))) h m)
     ∙ map-append (callNode s) (callsOf s h) (only (is s 59 (visited (m .event)) && not (eqb (constructed s (visited (m .event)) (openOn s (m .stack))) 0)) m)
