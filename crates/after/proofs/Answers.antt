@@ -2,7 +2,7 @@
 use mathlib.Core.Path.{_≡_, refl, ap, _∙_}
 use mathlib.Core.List.{List, [], _∷_, _++_, map, List·Memᴰ as Mem, List·Memᴰ·head as here, List·Memᴰ·tail as there}
 use mathlib.Core.Bool.{Bool, true, false, _||_}
-use Prim.Native.Nat.{ℕ, suc, _+_, _<_}
+use Prim.Native.Nat.{ℕ, _+_, _<_}
 use native.Mathlib.Omega.{arith}
 use lib.ListN.{length}
 use lib.Dec.{eqb, T}
@@ -16,7 +16,7 @@ use Rattle.definition.proofs.Lists.Tests.{kind-apart}
 use Rattle.definition.proofs.Lists.Members.{from-mem}
 use Rattle.machine.specs.Machine.{Store, cell}
 use Rattle.machine.specs.Reads.{StoreReads, PastFour, answerRow, rowWords}
-use Rattle.after.specs.Inherited.{parentIn, fieldsIn, methodsIn, hasChildrenIn}
+use Rattle.after.specs.Inherited.{parentIn, fieldsIn, hasChildrenIn}
 use Rattle.after.specs.Rows.{literalRowsIn, functionRowsIn, classRowsIn, rowsIn, answersIn}
 use Rattle.after.proofs.Parents.{parents}
 use Rattle.after.proofs.Climbs.{methods-same}
@@ -41,11 +41,6 @@ by-kind false false false false false false true t4 e l i h n m li f c li′ f�
 by-kind false false false false false false false true e l i h n m li f c li′ f′ c′ w i′ m′ x y p29 p51 p55 p50 p54 p52 p6 p4 = ap (map e) (p4 tt)
 by-kind false false false false false false false false e l i h n m li f c li′ f′ c′ w i′ m′ x y p29 p51 p55 p50 p54 p52 p6 p4 = refl
 
--- places do not depend on the walk
-numbered-same : (s : Sheet) (h g : List Moment) (i : ℕ) (ns : List ℕ) → numbered s h i ns ≡ numbered s g i ns
-numbered-same s h g i [] = refl
-numbered-same s h g i (n ∷ ns) = ap (λ (l : List (List ℕ)). (23 ∷ i ∷ n ∷ []) ∷ l) (numbered-same s h g (suc i) ns)
-
 concat-same : (f g : ℕ → List (List ℕ)) (xs : List ℕ) → ((x : ℕ) → Mem x xs → f x ≡ g x) → concatMap f xs ≡ concatMap g xs
 concat-same f g [] h = refl
 concat-same f g (x ∷ xs) h = ap (λ (l : List (List ℕ)). l ++ concatMap f xs) (h x (here refl)) ∙ ap (λ (l : List (List ℕ)). g x ++ l) (concat-same f g xs (λ y m. h y (there m)))
@@ -62,11 +57,10 @@ module _ {O : Outside} {s : Sheet} (ok : PastFour O s) {o : Store} (k : StoreRea
   pub class-rows : (r : ℕ) → T (is s 4 r) → classRows O s (history O s) r ≡ classRowsIn O s o r
   unfolding classRowsIn
   class-rows r t =
-      ap (λ (p : ℕ). of p (hasChildren s h c) (fields O s h (rows s) c) (methods O s h (rows s) c) (numbered s h 0 (fields O s h (rows s) c))) (parents ok k c)
-      ∙ ap (λ (p : Bool). of (parentIn s o c) p (fields O s h (rows s) c) (methods O s h (rows s) c) (numbered s h 0 (fields O s h (rows s) c))) (children-same ok k c)
-      ∙ ap (λ (fs : List ℕ). of (parentIn s o c) (hasChildrenIn s o c) fs (methods O s h (rows s) c) (numbered s h 0 fs)) (fields-same ok k (rows s) c)
-      ∙ ap (λ (ms : List Method). of (parentIn s o c) (hasChildrenIn s o c) (fieldsIn O s o (rows s) c) ms (numbered s h 0 (fieldsIn O s o (rows s) c))) (methods-same ok k (rows s) c)
-      ∙ ap (λ (ns : List (List ℕ)). of (parentIn s o c) (hasChildrenIn s o c) (fieldsIn O s o (rows s) c) (methodsIn O s o (rows s) c) ns) (numbered-same s h [] 0 (fieldsIn O s o (rows s) c))
+      ap (λ (p : ℕ). of p (hasChildren s h c) (fields O s h (rows s) c) (methods O s h (rows s) c)) (parents ok k c)
+      ∙ ap (λ (p : Bool). of (parentIn s o c) p (fields O s h (rows s) c) (methods O s h (rows s) c)) (children-same ok k c)
+      ∙ ap (λ (fs : List ℕ). of (parentIn s o c) (hasChildrenIn s o c) fs (methods O s h (rows s) c)) (fields-same ok k (rows s) c)
+      ∙ ap (of (parentIn s o c) (hasChildrenIn s o c) (fieldsIn O s o (rows s) c)) (methods-same ok k (rows s) c)
     where
       h : List Moment
       h = history O s
@@ -74,8 +68,8 @@ module _ {O : Outside} {s : Sheet} (ok : PastFour O s) {o : Store} (k : StoreRea
       c : ℕ
       c = 256 + r
 
-      of : ℕ → Bool → List ℕ → List Method → List (List ℕ) → List (List ℕ)
-      of p d fs ms ns = (22 ∷ p ∷ bit d ∷ length fs ∷ length ms ∷ []) ∷ ns ++ map (λ m. 24 ∷ m .name ∷ m .fun ∷ []) ms
+      of : ℕ → Bool → List ℕ → List Method → List (List ℕ)
+      of p d fs ms = (22 ∷ p ∷ bit d ∷ length fs ∷ length ms ∷ []) ∷ numbered 0 fs ++ map (λ m. 24 ∷ m .name ∷ m .fun ∷ []) ms
 
   -- the rows of one sheet row
   pub rows-same : (r : ℕ) → r < rows s → map (λ vs. eight (r ∷ vs)) (rowsOf O s (history O s) r) ≡ rowsIn O s o r

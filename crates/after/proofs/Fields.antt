@@ -1,23 +1,23 @@
 -- Fields of classes, as stored: own ones, and those after inheritance.
-use mathlib.Core.Path.{_≡_, refl, sym, ap, _∙_, subst}
+use mathlib.Core.Path.{_≡_, refl, sym, ap, _∙_, subst, fun-ext}
 use mathlib.Core.List.{List, [], _∷_, _++_, map}
 use mathlib.Core.Bool.{Bool, true, false, not, _&&_, _||_}
-use Prim.Native.Nat.{ℕ, zero, suc, _+_, _-_, _*_, _<_}
+use Prim.Native.Nat.{ℕ, _+_, _-_, _*_, _<_}
 use native.Mathlib.Omega.{arith}
 use lib.Dec.{eqb, leb, T, T-not, not-T, leb→le}
 use Rattle.definition.specs.Basics.{if_then_else_, filter, any, distinct, unlike, from}
 use Rattle.definition.specs.Sheet.{Sheet, a, rows, is, kidsOf}
 use Rattle.definition.specs.Outside.{Outside, recordOf}
 use Rattle.definition.specs.Scope.{history}
-use Rattle.definition.specs.Classes.{registered, ownFields, parentOf, fields, hasChildren, mergeFields}
+use Rattle.definition.specs.Classes.{ofSheet, registered, ownFields, parentOf, fields, hasChildren, mergeFields, inheriting}
 use Rattle.definition.proofs.Lists.Tests.{and-left, and-right, if-true}
 use Rattle.definition.proofs.Lists.Members.{all-pass, mem-any}
 use Rattle.definition.proofs.Format.Tree.{class-names}
 use Rattle.machine.specs.Machine.{Store, cell, listAt}
 use Rattle.machine.specs.Reads.{StoreReads, PastFour, listedFields}
-use Rattle.after.specs.Inherited.{isClassRow, parentIn, ownFieldsIn, fieldsIn, hasChildrenIn}
+use Rattle.after.specs.Inherited.{parentIn, ownFieldsIn, fieldsIn, hasChildrenIn}
 use Rattle.after.proofs.Ranges.{row-of-kind, past-facts}
-use Rattle.after.proofs.Parents.{parents}
+use Rattle.after.proofs.Parents.{parents-are}
 
 -- numbers without repeats are their own distinct ones
 pub distinct-unlike : (xs : List ℕ) → T (unlike eqb xs) → distinct eqb xs ≡ xs
@@ -38,7 +38,7 @@ module _ {O : Outside} {s : Sheet} (ok : PastFour O s) {o : Store} (k : StoreRea
   -- own fields of a class
   pub own-fields : (c : ℕ) → ownFields O s (history O s) c ≡ ownFieldsIn O s o c
   unfolding ownFieldsIn
-  own-fields c = pick-fields (isClassRow s c) defined stored (recordOf O c .fields) same
+  own-fields c = pick-fields (ofSheet s c) defined stored (recordOf O c .fields) same
     where
       defined : List ℕ
       defined = distinct eqb (map (a s) (kidsOf s 10 (c - 256)) ++ registered s (history O s) (c - 256))
@@ -46,23 +46,21 @@ module _ {O : Outside} {s : Sheet} (ok : PastFour O s) {o : Store} (k : StoreRea
       stored : List ℕ
       stored = listedFields s (c - 256) ++ map (λ y. y .key) (listAt o (8 * (c - 256) + 7))
 
-      same : T (isClassRow s c) → defined ≡ stored
+      same : T (ofSheet s c) → defined ≡ stored
       same t =
           let u : T (is s 4 (c - 256)) = and-right (leb 256 c) (is s 4 (c - 256)) t in
           let l : c - 256 < rows s = row-of-kind ok 3 (c - 256) u in
           let e : 256 + (c - 256) ≡ c = omega (arith, leb→le 256 c (and-left (leb 256 c) (is s 4 (c - 256)) t)) in
-          sym (if-true (isClassRow s c) defined (recordOf O c .fields) t)
+          sym (if-true (ofSheet s c) defined (recordOf O c .fields) t)
           ∙ subst (λ (d : ℕ). ownFields O s (history O s) d ≡ distinct eqb (listedFields s (c - 256)) ++ map (λ y. y .key) (listAt o (8 * (c - 256) + 7))) e (k .fields (c - 256) l u)
           ∙ ap (λ (fs : List ℕ). fs ++ map (λ y. y .key) (listAt o (8 * (c - 256) + 7))) (distinct-unlike (listedFields s (c - 256)) (class-names (ok .names) s (past-facts ok) (c - 256) l u .0))
 
   -- fields of a class after inheritance
   pub fields-same : (n c : ℕ) → fields O s (history O s) n c ≡ fieldsIn O s o n c
   unfolding fieldsIn
-  fields-same zero c = refl
-  fields-same (suc n) c =
-      ap (λ (up : List ℕ). if eqb (parentOf s (history O s) c) 0 then ownFields O s (history O s) c else mergeFields up (ownFields O s (history O s) c)) (fields-same n (parentOf s (history O s) c))
-      ∙ ap (λ (p : ℕ). if eqb p 0 then ownFields O s (history O s) c else mergeFields (fieldsIn O s o n p) (ownFields O s (history O s) c)) (parents ok k c)
-      ∙ ap (λ (own : List ℕ). if eqb (parentIn s o c) 0 then own else mergeFields (fieldsIn O s o n (parentIn s o c)) own) (own-fields c)
+  fields-same n c =
+      ap (λ (parent : ℕ → ℕ). inheriting mergeFields parent (ownFields O s (history O s)) n c) (parents-are ok k)
+      ∙ ap (λ (own : ℕ → List ℕ). inheriting mergeFields (parentIn s o) own n c) (fun-ext own-fields)
 
   pub children-same : (c : ℕ) → hasChildren s (history O s) c ≡ hasChildrenIn s o c
   unfolding hasChildrenIn

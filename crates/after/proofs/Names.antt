@@ -8,7 +8,7 @@ use lib.Dec.{eqb, leb, T, T-not, eqb→eq}
 use Rattle.definition.specs.Basics.{if_then_else_, filter, any, first, unlike, _∈?_}
 use Rattle.definition.specs.Sheet.{Sheet, a, is, kidsOf}
 use Rattle.definition.specs.Outside.{Outside, Method, recordOf}
-use Rattle.definition.specs.Classes.{ownMethods, mergeFields, mergeMethods, methodOf, methodAt}
+use Rattle.definition.specs.Classes.{ofSheet, ownMethods, mergeFields, mergeMethods, methodOf, methodAt}
 use Rattle.definition.proofs.Lists.Tests.{and-left, and-right, decide, if-true, if-false, eqb-of}
 use Rattle.definition.proofs.Lists.Members.{Nodup, nodup-none, nodup-one, nodup-filter, nodup-append, filter-mem, mem-test, mem-map, map-append, map-map}
 use Rattle.definition.proofs.Format.Tree.{class-names}
@@ -16,7 +16,7 @@ use Rattle.definition.proofs.Classes.{recorded}
 use Rattle.machine.specs.Machine.{Store}
 use Rattle.machine.specs.Reads.{PastFour}
 use Rattle.machine.proofs.Lists.{eqb-same}
-use Rattle.after.specs.Inherited.{parentIn, methodsIn, methodNamesIn, isClassRow}
+use Rattle.after.specs.Inherited.{parentIn, methodsIn, methodNamesIn}
 use Rattle.after.proofs.Ranges.{row-of-kind, past-facts}
 
 abbrev namesOf : List Method → List ℕ
@@ -108,15 +108,15 @@ method-names O s o (suc n) c = go (eqb (parentIn s o c) 0) (method-names O s o n
 
 module _ {O : Outside} {s : Sheet} (ok : PastFour O s) where
   own-nodup : (c : ℕ) → Nodup (namesOf (ownMethods O s c))
-  own-nodup c = go (isClassRow s c) (λ t. t)
+  own-nodup c = go (ofSheet s c) (λ t. t)
     where
-      listed : T (isClassRow s c) → Nodup (namesOf (map (methodAt s) (kidsOf s 6 (c - 256))))
+      listed : T (ofSheet s c) → Nodup (namesOf (map (methodAt s) (kidsOf s 6 (c - 256))))
       listed t =
           let u : T (is s 4 (c - 256)) = and-right (leb 256 c) (is s 4 (c - 256)) t in
           subst Nodup (sym (map-map (λ m. m .name) (methodAt s) (kidsOf s 6 (c - 256))))
           (unlike-nodup (map (a s) (kidsOf s 6 (c - 256))) (class-names (ok .names) s (past-facts ok) (c - 256) (row-of-kind ok 3 (c - 256) u) u .1))
 
-      go : (t : Bool) → (T t → T (isClassRow s c)) → Nodup (namesOf (if t then map (methodAt s) (kidsOf s 6 (c - 256)) else recordOf O c .methods))
+      go : (t : Bool) → (T t → T (ofSheet s c)) → Nodup (namesOf (if t then map (methodAt s) (kidsOf s 6 (c - 256)) else recordOf O c .methods))
       go true f = listed (f tt)
       go false f = unlike-nodup (namesOf (recordOf O c .methods)) (recorded O (λ x. unlike eqb (namesOf (x .methods))) tt (ok .outside .methods-apart) c)
 

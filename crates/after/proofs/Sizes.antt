@@ -11,13 +11,13 @@ use Rattle.definition.specs.Sheet.{Sheet, next, child, a, rows, chain, kids, is
 use Rattle.definition.specs.Outside.{Outside, Method, recordOf}
 use Rattle.definition.specs.Walk.{Event, enter, leave, loop, declare, bring, visit, walk}
 use Rattle.definition.specs.Scope.{Stack, Moment, step, moments, start, history, visited, visits, within}
-use Rattle.definition.specs.Classes.{ownMethods, classOf, registered, ownFields, mergeFields, parentOf, fields, methodAt}
+use Rattle.definition.specs.Classes.{ofSheet, ownMethods, classOf, registered, ownFields, mergeFields, parentOf, fields, methodAt}
 use Rattle.definition.specs.Bounds.{isVisit}
 use Rattle.definition.proofs.Walk.Bounds.{visits-bound}
 use Rattle.definition.proofs.Classes.{recorded}
 use Rattle.machine.specs.Machine.{Store}
 use Rattle.machine.specs.Reads.{PastFour}
-use Rattle.after.specs.Inherited.{parentIn, methodNamesIn, isClassRow}
+use Rattle.after.specs.Inherited.{parentIn, methodNamesIn}
 use Rattle.machine.proofs.Theorems.{rows-few}
 use Rattle.after.proofs.Ranges.{past-fits}
 
@@ -72,7 +72,7 @@ module _ {O : Outside} {s : Sheet} (ok : PastFour O s) where
 
   -- own fields are at most two for each row, or 8,192
   own-length : (c : ℕ) → length (ownFields O s (history O s) c) ≤ 8192
-  own-length c = go (isClassRow s c)
+  own-length c = go (ofSheet s c)
     where
       both : List ℕ
       both = map (a s) (kidsOf s 10 (c - 256)) ++ registered s (history O s) (c - 256)
@@ -110,7 +110,7 @@ module _ {O : Outside} {s : Sheet} (ok : PastFour O s) where
 
 -- methods: at most one for each row and ancestor
 own-methods-length : {O : Outside} {s : Sheet} → PastFour O s → (c : ℕ) → length (map (λ m. m .name) (ownMethods O s c)) ≤ 8192
-own-methods-length {O} {s} ok c = omega (arith, length-map (ownMethods O s c) (λ m. m .name), go (isClassRow s c))
+own-methods-length {O} {s} ok c = omega (arith, length-map (ownMethods O s c) (λ m. m .name), go (ofSheet s c))
   where
     fs : List ℕ
     fs = kidsOf s 6 (c - 256)

@@ -1,5 +1,5 @@
 -- The answer rows, read off the sheet and off what the walk stored.
-use mathlib.Core.Bool.{Bool, _||_}
+use mathlib.Core.Bool.{_||_}
 use mathlib.Core.List.{List, [], _∷_, _++_, map}
 use Prim.Native.Nat.{ℕ, _+_, _*_}
 use lib.ListN.{length}
@@ -9,7 +9,7 @@ use Rattle.definition.specs.Sheet.{Sheet, child, rows, is}
 use Rattle.definition.specs.Outside.{Outside, Method}
 use Rattle.definition.specs.Classes.{methodNamed}
 use Rattle.definition.specs.Answer.{eight, numbered}
-use Rattle.machine.specs.Machine.{Store, Node, cell, listAt, seenIn, codeOf}
+use Rattle.machine.specs.Machine.{Store, cell, listAt, seenIn, codeOf}
 use Rattle.machine.specs.Reads.{rowWords, answerRow, meaningOfNode, escapingSlots}
 use Rattle.after.specs.Inherited.{parentIn, fieldsIn, methodsIn, methodNamesIn, hasChildrenIn}
 
@@ -29,7 +29,7 @@ classRowsIn O s o r =
     let fs : List ℕ = fieldsIn O s o (rows s) (256 + r) in
     let ms : List Method = methodsIn O s o (rows s) (256 + r) in
     (22 ∷ parentIn s o (256 + r) ∷ bit (hasChildrenIn s o (256 + r)) ∷ length fs ∷ length ms ∷ [])
-    ∷ numbered s [] 0 fs ++ map (λ m. 24 ∷ m .name ∷ m .fun ∷ []) ms
+    ∷ numbered 0 fs ++ map (λ m. 24 ∷ m .name ∷ m .fun ∷ []) ms
 
 -- the same, with each method told by its name and then looked for
 unfoldable pub classRowsNamed : Outside → Sheet → Store → ℕ → List (List ℕ)
@@ -37,7 +37,7 @@ classRowsNamed O s o r =
     let fs : List ℕ = fieldsIn O s o (rows s) (256 + r) in
     let ns : List ℕ = methodNamesIn O s o (rows s) (256 + r) in
     (22 ∷ parentIn s o (256 + r) ∷ bit (hasChildrenIn s o (256 + r)) ∷ length fs ∷ length ns ∷ [])
-    ∷ numbered s [] 0 fs ++ map (λ n. 24 ∷ n ∷ methodNamed n (methodsIn O s o (rows s) (256 + r)) ∷ []) ns
+    ∷ numbered 0 fs ++ map (λ n. 24 ∷ n ∷ methodNamed n (methodsIn O s o (rows s) (256 + r)) ∷ []) ns
 
 -- the answer rows of sheet row r
 unfoldable pub rowsIn : Outside → Sheet → Store → ℕ → List (List ℕ)

@@ -61,9 +61,9 @@ module _ (O : Outside) (s t q marks : List ℕ) (r : ℕ) (h : ClassReady O s t 
       methods-equal = omega (arith, i, ap length (wanted-methods O s st y), h .methods o)
 
 -- The rows of the fields and of the methods.
-module _ (f : ℕ → ℕ → List ℕ) (s : Sheet) (r : ℕ) where
+module _ (f : ℕ → ℕ → List ℕ) (r : ℕ) where
   field-rows : ((m i : ℕ) → f m i ≡ eight (r ∷ 23 ∷ i ∷ m ∷ [])) → (ms : List ℕ) (k : Filled) → k .slot + length ms ≤ 4294967295
-      → putAll f ms k .done ≡ emitAll (map (λ vs. eight (r ∷ vs)) (numbered s [] (k .slot) ms)) (k .done)
+      → putAll f ms k .done ≡ emitAll (map (λ vs. eight (r ∷ vs)) (numbered (k .slot) ms)) (k .done)
   unfolding putAll put emitAll
   field-rows g [] k l = refl
   field-rows g (m ∷ ms) k l =
@@ -89,21 +89,21 @@ module _ (O : Outside) (s : Sheet) (o : Stored) (r : ℕ) (w : Wanted) (k : Fill
 
   pub fields-told : {x : Filled} → Wants r 10 w → length (fieldsIn O s o (rows s) (256 + r)) ≤ 4294967295 → k .slot ≡ 0
       → x ≡ putAll (nameRow O s o w) (namesIn O s o (w .kind) (rows s) (w .whole)) k
-      → x .done ≡ emitAll (map (λ vs. eight (r ∷ vs)) (numbered s [] 0 (fieldsIn O s o (rows s) (256 + r)))) (k .done)
+      → x .done ≡ emitAll (map (λ vs. eight (r ∷ vs)) (numbered 0 (fieldsIn O s o (rows s) (256 + r)))) (k .done)
   fields-told h l z e =
       ap (λ (y : Filled). y .done) (e ∙ ap (λ (ms : List ℕ). putAll (nameRow O s o w) ms k) (wanted-fields O s o h))
-      ∙ field-rows (nameRow O s o w) s r (field-row h) (fieldsIn O s o (rows s) (256 + r)) k (omega arith)
-      ∙ ap (λ (i : ℕ). emitAll (map (λ vs. eight (r ∷ vs)) (numbered s [] i (fieldsIn O s o (rows s) (256 + r)))) (k .done)) z
+      ∙ field-rows (nameRow O s o w) r (field-row h) (fieldsIn O s o (rows s) (256 + r)) k (omega arith)
+      ∙ ap (λ (i : ℕ). emitAll (map (λ vs. eight (r ∷ vs)) (numbered i (fieldsIn O s o (rows s) (256 + r)))) (k .done)) z
 
   pub methods-told : {x : Filled} → Wants r 6 w → x ≡ putAll (nameRow O s o w) (namesIn O s o (w .kind) (rows s) (w .whole)) k
       → x .done ≡ emitAll (map (λ vs. eight (r ∷ vs)) (map (λ n. 24 ∷ n ∷ methodNamed n (methodsIn O s o (rows s) (256 + r)) ∷ []) (methodNamesIn O s o (rows s) (256 + r)))) (k .done)
   methods-told h e =
       ap (λ (y : Filled). y .done) (e ∙ ap (λ (ms : List ℕ). putAll (nameRow O s o w) ms k) (wanted-methods O s o h))
-      ∙ method-rows (nameRow O s o w) s r (λ n. methodNamed n (methodsIn O s o (rows s) (256 + r))) (method-row h) (methodNamesIn O s o (rows s) (256 + r)) k
+      ∙ method-rows (nameRow O s o w) r (λ n. methodNamed n (methodsIn O s o (rows s) (256 + r))) (method-row h) (methodNamesIn O s o (rows s) (256 + r)) k
 
 -- All rows of a class.
 pub class-rows : (O : Outside) (s : Sheet) (o : Stored) (r : ℕ) (k : Sink) {ws : List ℕ} {h x y : Sink} → ws ≡ eight (r ∷ headWords O s o r) → h ≡ emit ws k
-    → x ≡ emitAll (map (λ vs. eight (r ∷ vs)) (numbered s [] 0 (fieldsIn O s o (rows s) (256 + r)))) h
+    → x ≡ emitAll (map (λ vs. eight (r ∷ vs)) (numbered 0 (fieldsIn O s o (rows s) (256 + r)))) h
     → y ≡ emitAll (map (λ vs. eight (r ∷ vs)) (map (λ n. 24 ∷ n ∷ methodNamed n (methodsIn O s o (rows s) (256 + r)) ∷ []) (methodNamesIn O s o (rows s) (256 + r)))) x
     → y ≡ emitAll (map (λ vs. eight (r ∷ vs)) (classRowsNamed O s o r)) k
 unfolding classRowsNamed headWords
@@ -112,7 +112,7 @@ class-rows O s o r k {ws} {h} {x} {y} e f u v =
     (emit-both (map (λ vs. eight (r ∷ vs)) fs) (map (λ vs. eight (r ∷ vs)) ms) h u v ∙ ap (λ (l : List (List ℕ)). emitAll l h) (sym (joined fs ms)))
   where
     fs : List (List ℕ)
-    fs = numbered s [] 0 (fieldsIn O s o (rows s) (256 + r))
+    fs = numbered 0 (fieldsIn O s o (rows s) (256 + r))
 
     ms : List (List ℕ)
     ms = map (λ n. 24 ∷ n ∷ methodNamed n (methodsIn O s o (rows s) (256 + r)) ∷ []) (methodNamesIn O s o (rows s) (256 + r))

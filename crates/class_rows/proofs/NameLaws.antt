@@ -1,5 +1,5 @@
 -- Names of a class: its own, and after inheritance one class at a time.
-use mathlib.Core.Path.{_≡_, refl, sym, ap, _∙_}
+use mathlib.Core.Path.{_≡_, refl, sym, ap, _∙_, fun-ext}
 use mathlib.Core.Bool.{Bool, true, false, not, _&&_, _||_}
 use mathlib.Core.List.{List, [], _∷_, _++_, map}
 use Prim.Native.Nat.{ℕ, zero, suc, _+_, _-_, _*_, _<_, _≤_}
@@ -9,11 +9,11 @@ use borrow.Author.Tests.{eq-eqb, ne-eqb, eqb-true, eqb-false, lt-ltb, le-ltb, lt
 use Rattle.definition.specs.Basics.{if_then_else_, filter, head, from, _∈?_}
 use Rattle.definition.specs.Sheet.{Sheet, kind, next, child, a, rows, chain, is, kidsOf}
 use Rattle.definition.specs.Outside.{Outside, Method, ClassRecord, recordOf, core}
-use Rattle.definition.specs.Classes.{ownMethods, methodAt}
+use Rattle.definition.specs.Classes.{ofSheet, ownMethods, methodAt, mergeFields, inheriting}
 use Rattle.machine.specs.Machine.{Store, Node, cell, listAt, chainTo, hasKey}
 use Rattle.machine.specs.Reads.{listedFields}
 use Rattle.machine.proofs.Lists.{eqb-same, any-append}
-use Rattle.after.specs.Inherited.{isClassRow, parentIn, ownFieldsIn, fieldsIn, methodNamesIn}
+use Rattle.after.specs.Inherited.{parentIn, ownFieldsIn, fieldsIn, methodNamesIn}
 use Rattle.class_rows.specs.Names.{ownIn, namesIn, inherited, newOf}
 
 pub or-false : (t : Bool) → (t || false) ≡ t
@@ -50,13 +50,13 @@ range-above m i (suc n) l = go (eqb m i) refl (range-above m (suc i) n)
 
 -- Class numbers.
 
-pub outside-number : (s : Sheet) (c : ℕ) → c < 256 → false ≡ isClassRow s c
+pub outside-number : (s : Sheet) (c : ℕ) → c < 256 → false ≡ ofSheet s c
 outside-number s c l = rw (lt-leb 256 c l)
 
-pub sheet-number : (s : Sheet) (c x : ℕ) → 256 ≤ c → x ≡ kind s (c - 256) → eqb x 4 ≡ isClassRow s c
+pub sheet-number : (s : Sheet) (c x : ℕ) → 256 ≤ c → x ≡ kind s (c - 256) → eqb x 4 ≡ ofSheet s c
 sheet-number s c x l e = rw (le-leb 256 c l, e)
 
-pub class-from : (s : Sheet) (c : ℕ) → true ≡ isClassRow s c → 256 ≤ c
+pub class-from : (s : Sheet) (c : ℕ) → true ≡ ofSheet s c → 256 ≤ c
 class-from s c e = go (leb 256 c) refl e
   where
     go : (t : Bool) → leb 256 c ≡ t → true ≡ (t && is s 4 (c - 256)) → 256 ≤ c
@@ -87,21 +87,22 @@ keys-in m [] = refl
 keys-in m (y ∷ ys) = rw (eqb-same m (y .key), keys-in m ys)
 
 module _ (O : Outside) (s : Sheet) (o : Store) (c m : ℕ) where
-  pub field-outside : {x : Bool} → false ≡ isClassRow s c → x ≡ (m ∈? recordOf O c .fields) → x ≡ (m ∈? ownFieldsIn O s o c)
+  pub field-outside : {x : Bool} → false ≡ ofSheet s c → x ≡ (m ∈? recordOf O c .fields) → x ≡ (m ∈? ownFieldsIn O s o c)
   unfolding ownFieldsIn
   field-outside f e = e ∙ ap (λ (t : Bool). m ∈? (if t then listedFields s (c - 256) ++ map (λ y. y .key) (listAt o (8 * (c - 256) + 7)) else recordOf O c .fields)) f
 
-  field-class : true ≡ isClassRow s c → (m ∈? ownFieldsIn O s o c) ≡ ((m ∈? listedFields s (c - 256)) || hasKey m (listAt o (8 * (c - 256) + 7)))
+  field-class : true ≡ ofSheet s c → (m ∈? ownFieldsIn O s o c) ≡ ((m ∈? listedFields s (c - 256)) || hasKey m (listAt o (8 * (c - 256) + 7)))
   unfolding ownFieldsIn
   field-class f =
       sym (ap (λ (t : Bool). m ∈? (if t then listedFields s (c - 256) ++ map (λ y. y .key) (listAt o (8 * (c - 256) + 7)) else recordOf O c .fields)) f)
       ∙ any-append (eqb m) (listedFields s (c - 256)) (map (λ y. y .key) (listAt o (8 * (c - 256) + 7)))
       ∙ ap (λ (t : Bool). (m ∈? listedFields s (c - 256)) || t) (keys-in m (listAt o (8 * (c - 256) + 7)))
 
-  pub field-listed : true ≡ isClassRow s c → true ≡ (m ∈? listedFields s (c - 256)) → true ≡ (m ∈? ownFieldsIn O s o c)
+  pub field-listed : true ≡ ofSheet s c → true ≡ (m ∈? listedFields s (c - 256)) → true ≡ (m ∈? ownFieldsIn O s o c)
   field-listed f e = sym (field-class f ∙ rw (sym e))
 
-  pub field-stored : {x : Bool} {p : ℕ} → true ≡ isClassRow s c → false ≡ (m ∈? listedFields s (c - 256)) → p ≡ cell (o .table) (c - 256) 7 → x ≡ hasKey m (chainTo (o .nodes) p) → x ≡ (m ∈? ownFieldsIn O s o c)
+  pub field-stored : {x : Bool} {p : ℕ} → true ≡ ofSheet s c → false ≡ (m ∈? listedFields s (c - 256))
+      → p ≡ cell (o .table) (c - 256) 7 → x ≡ hasKey m (chainTo (o .nodes) p) → x ≡ (m ∈? ownFieldsIn O s o c)
   unfolding listAt
   field-stored f e w h = h ∙ ap (λ (p : ℕ). hasKey m (chainTo (o .nodes) p)) w ∙ sym (field-class f ∙ rw (sym e))
 
@@ -112,7 +113,7 @@ module _ (O : Outside) (s : Sheet) (o : Store) (j c m : ℕ) {x : Bool} where
   unfolding ownIn
   own-field e h = rw (eq-eqb j 10 e) h
 
-  pub own-other : (j ≡ 10 → ⊥) → true ≡ isClassRow s c → x ≡ (m ∈? map (a s) (kidsOf s j (c - 256))) → x ≡ (m ∈? ownIn O s o j c)
+  pub own-other : (j ≡ 10 → ⊥) → true ≡ ofSheet s c → x ≡ (m ∈? map (a s) (kidsOf s j (c - 256))) → x ≡ (m ∈? ownIn O s o j c)
   unfolding ownIn
   own-other f l h = rw (ne-eqb j 10 f, sym l) h
 
@@ -124,7 +125,7 @@ methods-none c = if-methods (eqb 100 c) _ _ refl (if-methods (eqb 101 c) _ _ ref
     if-methods true x y e h = e
     if-methods false x y e h = h
 
-pub own-none : (s : Sheet) (o : Store) (j c m : ℕ) → (j ≡ 10 → ⊥) → false ≡ isClassRow s c → false ≡ (m ∈? ownIn core s o j c)
+pub own-none : (s : Sheet) (o : Store) (j c m : ℕ) → (j ≡ 10 → ⊥) → false ≡ ofSheet s c → false ≡ (m ∈? ownIn core s o j c)
 unfolding ownIn
 own-none s o j c m f l = rw (ne-eqb j 10 f, sym l, methods-none c)
 
@@ -203,8 +204,7 @@ module _ (O : Outside) (s : Sheet) (o : Store) (j n c m : ℕ) (l : 0 < n) where
 
 pub names-fields : (O : Outside) (s : Sheet) (o : Store) (n c : ℕ) → namesIn O s o 10 n c ≡ fieldsIn O s o n c
 unfolding namesIn fieldsIn ownIn
-names-fields O s o zero c = refl
-names-fields O s o (suc n) c = rw (names-fields O s o n (parentIn s o c))
+names-fields O s o n c = refl
 
 map-names : (s : Sheet) (ks : List ℕ) → map (a s) ks ≡ map (λ (m : Method). m .name) (map (methodAt s) ks)
 map-names s [] = refl
@@ -212,7 +212,7 @@ map-names s (k ∷ ks) = rw (map-names s ks)
 
 own-methods : (O : Outside) (s : Sheet) (o : Store) (c : ℕ) → ownIn O s o 6 c ≡ map (λ (m : Method). m .name) (ownMethods O s c)
 unfolding ownIn
-own-methods O s o c = go (isClassRow s c)
+own-methods O s o c = go (ofSheet s c)
   where
     go : (t : Bool) → (if t then map (a s) (kidsOf s 6 (c - 256)) else map (λ m. m .name) (recordOf O c .methods))
         ≡ map (λ (m : Method). m .name) (if t then map (methodAt s) (kidsOf s 6 (c - 256)) else recordOf O c .methods)
@@ -221,5 +221,4 @@ own-methods O s o c = go (isClassRow s c)
 
 pub names-methods : (O : Outside) (s : Sheet) (o : Store) (n c : ℕ) → namesIn O s o 6 n c ≡ methodNamesIn O s o n c
 unfolding namesIn methodNamesIn
-names-methods O s o zero c = refl
-names-methods O s o (suc n) c = rw (names-methods O s o n (parentIn s o c), own-methods O s o c)
+names-methods O s o n c = ap (λ (own : ℕ → List ℕ). inheriting mergeFields (parentIn s o) own n c) (fun-ext (own-methods O s o))

@@ -32,15 +32,15 @@ front xs ys zs us e l = (
   sym (drop-at xs ys (length xs) refl) ∙ ap (drop (length xs)) e ∙ drop-at zs us (length xs) (sym l),
 )
 
-module _ (s : Sheet) (r : ℕ) where
+module _ (r : ℕ) where
   abbrev word : ℕ → List ℕ → ℕ
   word c vs = getD (eight (r ∷ vs)) c 0
 
-  numbered-length : (i : ℕ) (fs : List ℕ) → length (numbered s [] i fs) ≡ length fs
+  numbered-length : (i : ℕ) (fs : List ℕ) → length (numbered i fs) ≡ length fs
   numbered-length i [] = refl
   numbered-length i (f ∷ fs) = ap suc (numbered-length (suc i) fs)
 
-  numbered-names : (i : ℕ) (fs : List ℕ) → map (word 3) (numbered s [] i fs) ≡ fs
+  numbered-names : (i : ℕ) (fs : List ℕ) → map (word 3) (numbered i fs) ≡ fs
   numbered-names i [] = refl
   numbered-names i (f ∷ fs) = ap (λ (l : List ℕ). f ∷ l) (numbered-names (suc i) fs)
 
@@ -54,15 +54,15 @@ module _ (s : Sheet) (r : ℕ) where
 
   -- what the words say of rows h, fields, methods that stand from row k on
   module _ (w : List ℕ) (k : ℕ) (h fs ns : List ℕ) (g : ℕ → ℕ)
-      (e : (c : ℕ) → c < 8 → column w c k (suc (length fs + length ns)) ≡ map (word c) (h ∷ numbered s [] 0 fs ++ map (λ n. 24 ∷ n ∷ g n ∷ []) ns)) where
+      (e : (c : ℕ) → c < 8 → column w c k (suc (length fs + length ns)) ≡ map (word c) (h ∷ numbered 0 fs ++ map (λ n. 24 ∷ n ∷ g n ∷ []) ns)) where
     pub head-word : (c : ℕ) → c < 8 → getD w (8 * k + c) 0 ≡ word c h
     head-word c l = ap (λ (xs : List ℕ). getD xs 0 0) (e c l)
 
-    parts : (c : ℕ) → c < 8 → (column w c (suc k) (length fs) ≡ map (word c) (numbered s [] 0 fs)) × (column w c (suc k + length fs) (length ns) ≡ map (word c) (map (λ n. 24 ∷ n ∷ g n ∷ []) ns))
+    parts : (c : ℕ) → c < 8 → (column w c (suc k) (length fs) ≡ map (word c) (numbered 0 fs)) × (column w c (suc k + length fs) (length ns) ≡ map (word c) (map (λ n. 24 ∷ n ∷ g n ∷ []) ns))
     parts c l =
-        front (column w c (suc k) (length fs)) (column w c (suc k + length fs) (length ns)) (map (word c) (numbered s [] 0 fs)) (map (word c) (map (λ n. 24 ∷ n ∷ g n ∷ []) ns))
-        (sym (column-append w c (suc k) (length fs) (length ns)) ∙ ap (drop 1) (e c l) ∙ map-append (word c) (numbered s [] 0 fs) (map (λ n. 24 ∷ n ∷ g n ∷ []) ns))
-        (column-length w c (suc k) (length fs) ∙ sym (length-map (numbered s [] 0 fs) (word c) ∙ numbered-length 0 fs))
+        front (column w c (suc k) (length fs)) (column w c (suc k + length fs) (length ns)) (map (word c) (numbered 0 fs)) (map (word c) (map (λ n. 24 ∷ n ∷ g n ∷ []) ns))
+        (sym (column-append w c (suc k) (length fs) (length ns)) ∙ ap (drop 1) (e c l) ∙ map-append (word c) (numbered 0 fs) (map (λ n. 24 ∷ n ∷ g n ∷ []) ns))
+        (column-length w c (suc k) (length fs) ∙ sym (length-map (numbered 0 fs) (word c) ∙ numbered-length 0 fs))
 
     pub field-column : column w 3 (suc k) (length fs) ≡ fs
     field-column = parts 3 (omega arith) .0 ∙ numbered-names 0 fs
@@ -73,9 +73,9 @@ module _ (s : Sheet) (r : ℕ) where
     pub function-column : column w 3 (suc k + length fs) (length ns) ≡ map g ns
     function-column = parts 3 (omega arith) .1 ∙ method-functions g ns
 
-  class-length : (h fs ns : List ℕ) (g : ℕ → ℕ) → length (h ∷ numbered s [] 0 fs ++ map (λ n. 24 ∷ n ∷ g n ∷ []) ns) ≡ suc (length fs + length ns)
+  class-length : (h fs ns : List ℕ) (g : ℕ → ℕ) → length (h ∷ numbered 0 fs ++ map (λ n. 24 ∷ n ∷ g n ∷ []) ns) ≡ suc (length fs + length ns)
   class-length h fs ns g =
-      ap suc (length-append (numbered s [] 0 fs) (map (λ n. 24 ∷ n ∷ g n ∷ []) ns)
+      ap suc (length-append (numbered 0 fs) (map (λ n. 24 ∷ n ∷ g n ∷ []) ns)
       ∙ ap (λ (i : ℕ). i + length (map (λ n. 24 ∷ n ∷ g n ∷ []) ns)) (numbered-length 0 fs) ∙ ap (λ (i : ℕ). length fs + i) (length-map ns (λ n. 24 ∷ n ∷ g n ∷ [])))
 
 -- The class of row r, written after k rows, where all its rows fit.
@@ -91,19 +91,19 @@ module _ (O : Outside) (s : Sheet) (o : Stored) (w : List ℕ) (k r n : ℕ) {y 
 
   counted : length (classRowsNamed O s o r) ≡ suc (length fs + length ns)
   unfolding classRowsNamed headWords
-  counted = class-length s r (headWords O s o r) fs ns fun
+  counted = class-length r (headWords O s o r) fs ns fun
 
   fit : k + length (classRowsNamed O s o r) ≤ length w / 8
   fit =
       let c : emitAll (map (λ vs. eight (r ∷ vs)) (classRowsNamed O s o r)) (sink k w) .count ≤ length w / 8 = omega (arith, ap (λ (x : Sink). x .count) e) in
       omega (arith, all-fit (map (λ vs. eight (r ∷ vs)) (classRowsNamed O s o r)) (sink k w) c, length-map (classRowsNamed O s o r) (λ vs. eight (r ∷ vs)))
 
-  written : (c : ℕ) → c < 8 → (n ≡ k + length (classRowsNamed O s o r)) × (column y c k (length (classRowsNamed O s o r)) ≡ map (word s r c) (classRowsNamed O s o r))
+  written : (c : ℕ) → c < 8 → (n ≡ k + length (classRowsNamed O s o r)) × (column y c k (length (classRowsNamed O s o r)) ≡ map (word r c) (classRowsNamed O s o r))
   written c l =
       let h = all-written (λ vs. eight (r ∷ vs)) (λ vs. simp (length-take, length-append, length-replicate) (omega arith)) c l (classRowsNamed O s o r) (sink k w) fit in
       (ap (λ (x : Sink). x .count) e ∙ h .0, ap (λ (x : Sink). column (x .words) c k (length (classRowsNamed O s o r))) e ∙ h .1)
 
-  columns : (c : ℕ) → c < 8 → column y c k (suc (length fs + length ns)) ≡ map (word s r c) (headWords O s o r ∷ numbered s [] 0 fs ++ map (λ n. 24 ∷ n ∷ fun n ∷ []) ns)
+  columns : (c : ℕ) → c < 8 → column y c k (suc (length fs + length ns)) ≡ map (word r c) (headWords O s o r ∷ numbered 0 fs ++ map (λ n. 24 ∷ n ∷ fun n ∷ []) ns)
   unfolding classRowsNamed headWords
   columns c l = ap (column y c k) (sym counted) ∙ written c l .1
 
@@ -113,11 +113,11 @@ module _ (O : Outside) (s : Sheet) (o : Stored) (w : List ℕ) (k r n : ℕ) {y 
       record {
         below = rw (f, g) (omega (arith, written 0 (omega arith) .0, counted));
         within = rw (f, g, l) (omega (arith, fit, counted));
-        fields = rw f (head-word s r y k (headWords O s o r) fs ns fun columns 4 (omega arith));
-        methods = rw g (head-word s r y k (headWords O s o r) fs ns fun columns 5 (omega arith));
-        fieldNames = rw f (field-column s r y k (headWords O s o r) fs ns fun columns);
-        methodNames = rw (f, g) (method-column s r y k (headWords O s o r) fs ns fun columns);
-        functions = rw (f, g) (function-column s r y k (headWords O s o r) fs ns fun columns);
+        fields = rw f (head-word r y k (headWords O s o r) fs ns fun columns 4 (omega arith));
+        methods = rw g (head-word r y k (headWords O s o r) fs ns fun columns 5 (omega arith));
+        fieldNames = rw f (field-column r y k (headWords O s o r) fs ns fun columns);
+        methodNames = rw (f, g) (method-column r y k (headWords O s o r) fs ns fun columns);
+        functions = rw (f, g) (function-column r y k (headWords O s o r) fs ns fun columns);
         stable = h;
         stableMethods = u;
       }

@@ -10,12 +10,12 @@ use borrow.Author.Tests.{eq-eqb, ne-eqb, lt-ltb, le-ltb, ltb-true, ltb-false, le
 use Rattle.definition.specs.Basics.{filter, from, _∈?_}
 use Rattle.definition.specs.Sheet.{Sheet, kind, next, child, a, rows, chain, is, kidsOf}
 use Rattle.definition.specs.Outside.{Outside, recordOf, core}
-use Rattle.definition.specs.Classes.{methodNamed}
+use Rattle.definition.specs.Classes.{ofSheet, methodNamed}
 use Rattle.definition.proofs.Lists.Members.{filter-append}
 use Rattle.machine.specs.Machine.{Store, Node, oneMore, cell, nodeWord, nodeAt, previous, chainTo, listAt}
 use Rattle.machine.specs.Reads.{listedFields}
 use Rattle.machine.proofs.ByKind.{list-none, list-more}
-use Rattle.after.specs.Inherited.{isClassRow, parentIn, methodsIn, ownFieldsIn}
+use Rattle.after.specs.Inherited.{parentIn, methodsIn, ownFieldsIn}
 use Rattle.sink.specs.Sink.{Sink, emit}
 use Rattle.class_rows.specs.Names.{ownIn, namesIn, inherited, newOf}
 use Rattle.class_rows.specs.Put.{Filled, nameRow, put, putAll}
@@ -161,20 +161,20 @@ module _ (f : ℕ → ℕ → List ℕ) (up : List ℕ) (c : ℕ) (k : Filled) w
 
   module _ (s : Sheet) (o : Store) (j : ℕ) where
     -- the fields of a class row: listed, then stored
-    pub own-fields : {p : ℕ} {x y : Filled} → j ≡ 10 → true ≡ isClassRow s c → x ≡ putAll f (newOf up (map (a s) (kidsOf s j (c - 256)))) k → p ≡ cell (o .table) (c - 256) 7
+    pub own-fields : {p : ℕ} {x y : Filled} → j ≡ 10 → true ≡ ofSheet s c → x ≡ putAll f (newOf up (map (a s) (kidsOf s j (c - 256)))) k → p ≡ cell (o .table) (c - 256) 7
         → y ≡ putAll f (newOf up (keysTo (o .nodes) p)) x → y ≡ putAll f (newOf up (ownIn core s o j c)) k
     unfolding ownIn ownFieldsIn listAt
     own-fields {p} e t h w i = rw (e, sym t) (new-both f up (listedFields s (c - 256)) (keysTo (o .nodes) (cell (o .table) (c - 256) 7)) k (rw e at h) (rw w at i))
 
-    pub own-outside : {x : Filled} → j ≡ 10 → false ≡ isClassRow s c → x ≡ putAll f (newOf up (recordOf core c .fields)) k → x ≡ putAll f (newOf up (ownIn core s o j c)) k
+    pub own-outside : {x : Filled} → j ≡ 10 → false ≡ ofSheet s c → x ≡ putAll f (newOf up (recordOf core c .fields)) k → x ≡ putAll f (newOf up (ownIn core s o j c)) k
     unfolding ownIn ownFieldsIn
     own-outside e t h = rw (e, sym t) h
 
-    pub own-children : {x : Filled} → (j ≡ 10 → ⊥) → true ≡ isClassRow s c → x ≡ putAll f (newOf up (map (a s) (kidsOf s j (c - 256)))) k → x ≡ putAll f (newOf up (ownIn core s o j c)) k
+    pub own-children : {x : Filled} → (j ≡ 10 → ⊥) → true ≡ ofSheet s c → x ≡ putAll f (newOf up (map (a s) (kidsOf s j (c - 256)))) k → x ≡ putAll f (newOf up (ownIn core s o j c)) k
     unfolding ownIn
     own-children e l h = rw (ne-eqb j 10 e, sym l) h
 
-    pub own-nothing : (j ≡ 10 → ⊥) → false ≡ isClassRow s c → k ≡ putAll f (newOf up (ownIn core s o j c)) k
+    pub own-nothing : (j ≡ 10 → ⊥) → false ≡ ofSheet s c → k ≡ putAll f (newOf up (ownIn core s o j c)) k
     unfolding ownIn
     own-nothing e l = rw (ne-eqb j 10 e, sym l, methods-none c) (put-none f k)
 

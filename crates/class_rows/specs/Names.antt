@@ -2,28 +2,25 @@
 use mathlib.Core.Path.{_≡_}
 use mathlib.Core.Bool.{not, _&&_}
 use mathlib.Core.List.{List, [], _∷_, map}
-use Prim.Native.Nat.{ℕ, zero, suc, _+_, _-_, _<_, _≤_}
+use Prim.Native.Nat.{ℕ, _+_, _-_, _<_, _≤_}
 use lib.Dec.{eqb, leb}
 use lib.ListN.{length, getD, set}
 use Rattle.definition.specs.Basics.{if_then_else_, filter, bit, _∈?_}
 use Rattle.definition.specs.Sheet.{Sheet, a, rows, is, kidsOf}
-use Rattle.definition.specs.Classes.{mergeFields}
+use Rattle.definition.specs.Classes.{ofSheet, mergeFields, inheriting}
 use Rattle.definition.specs.Outside.{Outside, recordOf}
 use Rattle.machine.specs.Machine.{Store as Stored, cell}
-use Rattle.after.specs.Inherited.{parentIn, ownFieldsIn, fieldsIn, methodNamesIn, hasChildrenIn, isClassRow}
+use Rattle.after.specs.Inherited.{parentIn, ownFieldsIn, fieldsIn, methodNamesIn, hasChildrenIn}
 use Rattle.store.specs.Stored.{storeOf}
 use Rattle.store.specs.declared.nodes.Store.{Store}
 
 -- the own names of class c
 unfoldable pub ownIn : Outside → Sheet → Stored → ℕ → ℕ → List ℕ
-ownIn O s o j c = if eqb j 10 then ownFieldsIn O s o c else if isClassRow s c then map (a s) (kidsOf s j (c - 256)) else map (λ m. m .name) (recordOf O c .methods)
+ownIn O s o j c = if eqb j 10 then ownFieldsIn O s o c else if ofSheet s c then map (a s) (kidsOf s j (c - 256)) else map (λ m. m .name) (recordOf O c .methods)
 
 -- the names of class c after inheritance; n bounds the climb
 unfoldable pub namesIn : Outside → Sheet → Stored → ℕ → ℕ → ℕ → List ℕ
-namesIn O s o j zero c = []
-namesIn O s o j (suc n) c =
-    let up : List ℕ = namesIn O s o j n (parentIn s o c) in
-    if eqb (parentIn s o c) 0 then ownIn O s o j c else mergeFields up (ownIn O s o j c)
+namesIn O s o j n c = inheriting mergeFields (parentIn s o) (ownIn O s o j) n c
 
 -- the names that a class inherits from its parent p; no class has number 0
 unfoldable pub inherited : Outside → Sheet → Stored → ℕ → ℕ → ℕ → List ℕ

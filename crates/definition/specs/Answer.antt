@@ -12,11 +12,16 @@ use Rattle.definition.specs.Scope.{Moment, lookup, visited, visits, visi
 use Rattle.definition.specs.Slots.{code, openLocals, localCount}
 use Rattle.definition.specs.Capture.{useAt, captures, seenFrom, sources, escaping}
 use Rattle.definition.specs.Classes.{methodNamed, ownMethods, parentOf, fields, methods, hasChildren}
-use Rattle.definition.specs.Question.{receiver}
+use Rattle.definition.specs.Question.{openOn, receiver}
 
 -- eight numbers: the given ones, then zeros
 abbrev pub eight : List ℕ → List ℕ
 eight vs = take 8 (vs ++ replicate 8 0)
+
+-- the rows of fields, with their slots from i on
+abbrev pub numbered : ℕ → List ℕ → List (List ℕ)
+numbered i [] = []
+numbered i (n ∷ ns) = (23 ∷ i ∷ n ∷ []) ∷ numbered (suc i) ns
 
 -- is row r the base of a call's member callee?
 abbrev pub isCalleeBase : Sheet → ℕ → Bool
@@ -29,7 +34,7 @@ module _ (s : Sheet) (h : List Moment) where
 
   -- the calls of a method on a class
   abbrev pub classCalls : List Moment
-  classCalls = filter (λ m. not (eqb (receiver s (visited (m .event)) (m .stack)) 0)) (visits s h 59)
+  classCalls = filter (λ m. not (eqb (receiver s (visited (m .event)) (openOn s (m .stack))) 0)) (visits s h 59)
 
   -- an identifier: what it means in its function; nothing where it is the base of a class method's callee
   abbrev pub identifierRow : ℕ → List (List ℕ)
@@ -55,16 +60,11 @@ module _ (s : Sheet) (h : List Moment) where
       ∷ map (λ u. code s h (u .means) (u .slot)) (captures s h f)
       ++ map (λ k. 5 ∷ k ∷ f ∷ 1 ∷ []) (escaping s h f)
 
-  -- numbers paired with their places
-  abbrev pub numbered : ℕ → List ℕ → List (List ℕ)
-  numbered i [] = []
-  numbered i (n ∷ ns) = (23 ∷ i ∷ n ∷ []) ∷ numbered (suc i) ns
-
 module _ (O : Outside) (s : Sheet) (h : List Moment) where
   -- a member: the function where it is a class method's callee
   abbrev pub memberRow : ℕ → List (List ℕ)
   memberRow r =
-      map (λ m. 1 ∷ methodNamed (a s r) (ownMethods O s (receiver s (visited (m .event)) (m .stack))) ∷ [])
+      map (λ m. 1 ∷ methodNamed (a s r) (ownMethods O s (receiver s (visited (m .event)) (openOn s (m .stack)))) ∷ [])
       (filter (λ m. eqb (child s (visited (m .event))) r) (classCalls s h))
 
   -- a class: its counts, its fields by slot, its methods
@@ -74,7 +74,7 @@ module _ (O : Outside) (s : Sheet) (h : List Moment) where
       let fs : List ℕ = fields O s h (rows s) c in
       let ms : List Method = methods O s h (rows s) c in
       (22 ∷ parentOf s h c ∷ bit (hasChildren s h c) ∷ length fs ∷ length ms ∷ [])
-      ∷ numbered s h 0 fs
+      ∷ numbered 0 fs
       ++ map (λ m. 24 ∷ m .name ∷ m .fun ∷ []) ms
 
   -- the answer rows of sheet row r, without its number

@@ -18,6 +18,10 @@ ofSheet s c = leb 256 c && is s 4 (c - 256)
 abbrev pub hasRecord : Outside → Sheet → ℕ → Bool
 hasRecord O s c = ofSheet s c || isRecorded O c
 
+-- is a parent a class without a record?
+abbrev pub lacksRecord : Outside → Sheet → ℕ → Bool
+lacksRecord O s c = not (eqb c 0) && not (hasRecord O s c)
+
 -- the name of a class that has a record
 abbrev pub className : Outside → Sheet → ℕ → ℕ
 className O s c = if ofSheet s c then a s (c - 256) else recordOf O c .name
@@ -56,6 +60,16 @@ mergeMethods up own =
     map (λ m. first (λ o. eqb (o .name) (m .name)) m own) up
     ++ filter (λ o. not (any (λ m. eqb (m .name) (o .name)) up)) own
 
+-- what class c has after inheritance: its own, merged into what its parent so has; n bounds the climb
+abbrev pub inheriting : {A : Type 0} → (List A → List A → List A) → (ℕ → ℕ) → (ℕ → List A) → ℕ → ℕ → List A
+inheriting merge parent own zero c = []
+inheriting merge parent own (suc n) c =
+    let up = inheriting merge parent own n (parent c) in if eqb (parent c) 0 then own c else merge up (own c)
+
+-- is class c a parent, where `parent` gives that of the class of a row?
+abbrev pub isParent : Sheet → (ℕ → ℕ) → ℕ → Bool
+isParent s parent c = any (λ r. is s 4 r && eqb (parent r) c) (from 0 (rows s))
+
 module _ (s : Sheet) (h : List Moment) where
   -- the fields that assignments to members register in the class of row c, in the walk's order
   abbrev pub registered : ℕ → List ℕ
@@ -72,7 +86,7 @@ module _ (s : Sheet) (h : List Moment) where
 
   -- is a class the parent of some class of the sheet?
   abbrev pub hasChildren : ℕ → Bool
-  hasChildren c = any (λ r. is s 4 r && eqb (parentOf (256 + r)) c) (from 0 (rows s))
+  hasChildren c = isParent s (λ r. parentOf (256 + r)) c
 
 module _ (O : Outside) (s : Sheet) (h : List Moment) where
   -- the own fields of a class, by slot
@@ -82,10 +96,8 @@ module _ (O : Outside) (s : Sheet) (h : List Moment) where
 
   -- the fields of a class after inheritance, by slot; n bounds the climb
   abbrev pub fields : ℕ → ℕ → List ℕ
-  fields zero c = []
-  fields (suc n) c = let up = fields n (parentOf s h c) in if eqb (parentOf s h c) 0 then ownFields c else mergeFields up (ownFields c)
+  fields n c = inheriting mergeFields (parentOf s h) ownFields n c
 
   -- the methods of a class after inheritance; n bounds the climb
   abbrev pub methods : ℕ → ℕ → List Method
-  methods zero c = []
-  methods (suc n) c = let up = methods n (parentOf s h c) in if eqb (parentOf s h c) 0 then ownMethods O s c else mergeMethods up (ownMethods O s c)
+  methods n c = inheriting mergeMethods (parentOf s h) (ownMethods O s) n c

@@ -26,12 +26,12 @@ pub record Tables : Type 0 where
 abbrev pub at : List ℕ → ℕ → ℕ
 at t r = getD t r 0
 
+-- the depth of row r, where `up` is the table of parents and t that of depths: row 0 has depth 0, a child list is one deeper
+abbrev pub depthEntry : List ℕ → List ℕ → ℕ → ℕ
+depthEntry up t r = if eqb r 0 then 0 else suc (at t (at up r))
+
 -- the tables by the table of parents; entry r of each is made of the entry at the parent of r
 module _ (s : Sheet) (up : List ℕ) where
-  -- row 0 has depth 0, a child list is one deeper
-  abbrev pub depthEntry : List ℕ → ℕ → ℕ
-  depthEntry t r = if eqb r 0 then 0 else suc (at t (at up r))
-
   abbrev pub unitEntry : List ℕ → ℕ → ℕ
   unitEntry t r = if is s 2 r then r else at t (at up r)
 
@@ -45,7 +45,7 @@ module _ (s : Sheet) (up : List ℕ) where
   tablesBy =
       record {
         parents = up;
-        depths = table depthEntry (rows s);
+        depths = table (depthEntry up) (rows s);
         units = table unitEntry (rows s);
         functions = table functionEntry (rows s);
         classes = table classEntry (rows s);

@@ -7,25 +7,25 @@ use borrow.Author.Tests.{eq-eqb, ne-eqb, leb-true, eqb-true}
 use Rattle.definition.specs.Basics.{if_then_else_}
 use Rattle.definition.specs.Sheet.{Sheet, kind, is}
 use Rattle.definition.specs.Outside.{Outside}
-use Rattle.definition.specs.Classes.{hasRecord}
+use Rattle.definition.specs.Classes.{ofSheet, hasRecord}
 use Rattle.definition.proofs.Lists.Tests.{and-left, and-right, T-true, true-of}
 use Rattle.machine.specs.Machine.{Store, cell}
-use Rattle.after.specs.Inherited.{isClassRow, parentIn}
+use Rattle.after.specs.Inherited.{parentIn}
 use Rattle.inherit.specs.Answered.{lacksRecord}
 
 module _ (s : Sheet) (c : ℕ) where
-  pub row-number : isClassRow s c ≡ true → 256 ≤ c
-  row-number h = leb-true 256 c (true-of (leb 256 c) (and-left (leb 256 c) (is s 4 (c - 256)) (T-true (isClassRow s c) h)))
+  pub row-number : ofSheet s c ≡ true → 256 ≤ c
+  row-number h = leb-true 256 c (true-of (leb 256 c) (and-left (leb 256 c) (is s 4 (c - 256)) (T-true (ofSheet s c) h)))
 
-  pub row-kind : isClassRow s c ≡ true → kind s (c - 256) ≡ 4
-  row-kind h = eqb-true (kind s (c - 256)) 4 (true-of (is s 4 (c - 256)) (and-right (leb 256 c) (is s 4 (c - 256)) (T-true (isClassRow s c) h)))
+  pub row-kind : ofSheet s c ≡ true → kind s (c - 256) ≡ 4
+  row-kind h = eqb-true (kind s (c - 256)) 4 (true-of (is s 4 (c - 256)) (and-right (leb 256 c) (is s 4 (c - 256)) (T-true (ofSheet s c) h)))
 
 module _ (s : Sheet) (o : Store) (c : ℕ) where
-  pub parent-stored : {w : ℕ} → w ≡ cell (o .table) (c - 256) 1 → isClassRow s c ≡ true → w ≡ parentIn s o c
+  pub parent-stored : {w : ℕ} → w ≡ cell (o .table) (c - 256) 1 → ofSheet s c ≡ true → w ≡ parentIn s o c
   unfolding parentIn
   parent-stored e h = e ∙ sym (ap (λ (t : Bool). if t then cell (o .table) (c - 256) 1 else 0) h)
 
-  pub parent-none : isClassRow s c ≡ false → 0 ≡ parentIn s o c
+  pub parent-none : ofSheet s c ≡ false → 0 ≡ parentIn s o c
   unfolding parentIn
   parent-none h = sym (ap (λ (t : Bool). if t then cell (o .table) (c - 256) 1 else 0) h)
 

@@ -12,9 +12,10 @@ use Rattle.definition.specs.Basics.{if_then_else_, filter, from, _∈?_}
 use Rattle.definition.specs.Sheet.{Sheet, kind, a, rows, is}
 use Rattle.definition.specs.Outside.{Outside}
 use Rattle.definition.specs.Question.{Refusal, none, ask, firstNo}
+use Rattle.definition.specs.Classes.{ofSheet}
 use Rattle.machine.specs.Machine.{Store}
 use Rattle.symbols.proofs.DeclLaws.{kind-inside}
-use Rattle.after.specs.Inherited.{isClassRow, parentIn, climbIn}
+use Rattle.after.specs.Inherited.{parentIn, climbIn}
 use Rattle.inherit.specs.Answered.{lacksRecord, Marked}
 use Rattle.inherit.proofs.ClassLaws.{row-number, row-kind}
 
@@ -23,16 +24,16 @@ unfoldable pub climbMarked : Outside → Sheet → Store → ℕ → ℕ → Lis
 climbMarked O s o k zero m c = none
 climbMarked O s o k (suc n) m c =
     let up : Refusal = climbMarked O s o k n (set m (c - 256) k) (parentIn s o c) in
-    if not (isClassRow s c) then none
+    if not (ofSheet s c) then none
     else if eqb (getD m (c - 256) 0) k then ask 18 (c - 256) (a s (c - 256)) false
     else if lacksRecord O s (parentIn s o c) then ask 19 (c - 256) (a s (c - 256)) false
     else up
 
 -- a class row lies in the sheet, and has a mark of its own
-pub row-inside : (s : Sheet) (c : ℕ) → isClassRow s c ≡ true → 8 * (c - 256) < length s
+pub row-inside : (s : Sheet) (c : ℕ) → ofSheet s c ≡ true → 8 * (c - 256) < length s
 row-inside s c h = kind-inside s (c - 256) 3 (row-kind s c h)
 
-pub row-marked : (s : Sheet) (m : List ℕ) (c : ℕ) → length s ≤ 8 * length m → isClassRow s c ≡ true → c - 256 < length m
+pub row-marked : (s : Sheet) (m : List ℕ) (c : ℕ) → length s ≤ 8 * length m → ofSheet s c ≡ true → c - 256 < length m
 row-marked s m c l h = omega (arith, row-inside s c h)
 
 pub mark-later : (r : ℕ) (m : List ℕ) → Marked r m → Marked (r + 1) m
@@ -73,11 +74,11 @@ module _ (O : Outside) (s : Sheet) (o : Store) (k : ℕ) where
   unfolding climbMarked climbIn
   climb-met zero m met c l h = refl
   climb-met (suc n) m met c l h =
-      choose (isClassRow s c) (eqb (getD m (c - 256) 0) k) (c ∈? met) (lacksRecord O s (parentIn s o c)) _ _ _ _
+      choose (ofSheet s c) (eqb (getD m (c - 256) 0) k) (c ∈? met) (lacksRecord O s (parentIn s o c)) _ _ _ _
       (λ e. h (c - 256) ∙ ap (λ (i : ℕ). i ∈? met) (number e))
       (λ e. climb-met n (set m (c - 256) k) (c ∷ met) (parentIn s o c) (omega (arith, length-set m (c - 256) k)) (met-more m (c - 256) k (row-marked s m c l e) c met (sym (number e)) h))
     where
-      number : isClassRow s c ≡ true → 256 + (c - 256) ≡ c
+      number : ofSheet s c ≡ true → 256 + (c - 256) ≡ c
       number e = omega (arith, row-number s c e)
 
 -- where no mark is over r, none is r + 1
@@ -100,18 +101,18 @@ module _ (O : Outside) (s : Sheet) (o : Store) (m : List ℕ) (k n c : ℕ) (l :
       else if w then ask 19 (c - 256) (a s (c - 256)) false
       else climbMarked O s o k (n - 1) (set m (c - 256) k) (parentIn s o c)
 
-  climb-suc : climbMarked O s o k n m c ≡ chosen (isClassRow s c) (eqb (getD m (c - 256) 0) k) (lacksRecord O s (parentIn s o c))
+  climb-suc : climbMarked O s o k n m c ≡ chosen (ofSheet s c) (eqb (getD m (c - 256) 0) k) (lacksRecord O s (parentIn s o c))
   unfolding climbMarked chosen
   climb-suc = ap (λ (i : ℕ). climbMarked O s o k i m c) below
     where
       below : n ≡ suc (n - 1)
       below = omega arith
 
-  pub climb-off : isClassRow s c ≡ false → none ≡ climbMarked O s o k n m c
+  pub climb-off : ofSheet s c ≡ false → none ≡ climbMarked O s o k n m c
   unfolding chosen
   climb-off h = sym (climb-suc ∙ ap (λ (t : Bool). chosen t (eqb (getD m (c - 256) 0) k) (lacksRecord O s (parentIn s o c))) h)
 
-  module _ (h : isClassRow s c ≡ true) where
+  module _ (h : ofSheet s c ≡ true) where
     at-row : climbMarked O s o k n m c ≡ chosen true (eqb (getD m (c - 256) 0) k) (lacksRecord O s (parentIn s o c))
     at-row = climb-suc ∙ ap (λ (t : Bool). chosen t (eqb (getD m (c - 256) 0) k) (lacksRecord O s (parentIn s o c))) h
 

@@ -12,8 +12,9 @@ use Rattle.definition.specs.Basics.{bit}
 use Rattle.definition.specs.Sheet.{Sheet, rows}
 use Rattle.definition.specs.Outside.{Outside}
 use Rattle.definition.specs.Question.{none}
+use Rattle.definition.specs.Classes.{ofSheet}
 use Rattle.machine.specs.Machine.{Store}
-use Rattle.after.specs.Inherited.{isClassRow, parentIn}
+use Rattle.after.specs.Inherited.{parentIn}
 use Rattle.inherit.specs.Answered.{lacksRecord, Marked, Ends, Climbed}
 use Rattle.inherit.proofs.ClassLaws.{row-number}
 use Rattle.inherit.proofs.ClimbLaws.{climbMarked, climb-off, climb-up, row-inside, row-marked}
@@ -77,7 +78,7 @@ module _ (s : Sheet) (m : List ℕ) where
   unfolding remaining
   remaining-start r h = omega (arith, counted-none (r + 1) m (λ j z. omega (arith, h .marks j)) (rows s))
 
-  pub remaining-less : (k c : ℕ) → 8 * rows s ≡ length s → length s ≤ 8 * length m → isClassRow s c ≡ true → (getD m (c - 256) 0 ≡ k → ⊥) → remaining s k (set m (c - 256) k) ≡ remaining s k m - 1
+  pub remaining-less : (k c : ℕ) → 8 * rows s ≡ length s → length s ≤ 8 * length m → ofSheet s c ≡ true → (getD m (c - 256) 0 ≡ k → ⊥) → remaining s k (set m (c - 256) k) ≡ remaining s k m - 1
   unfolding remaining
   remaining-less k c w l h f = omega (arith, counted-more k m (c - 256) (row-marked s m c l h) f (rows s) (omega (arith, row-inside s c h)))
 
@@ -90,7 +91,7 @@ module _ (O : Outside) (s : Sheet) (o : Store) where
   ends-once (suc n) zero c h g = absurd (subst T (sym (h .0) ∙ g) tt)
   ends-once (suc n) (suc k) c h g = ap suc (ends-once n k (parentIn s o c) (h .2) (g .2))
 
-  pub ends-top : (c : ℕ) → isClassRow s c ≡ false → Ends O s o 0 c
+  pub ends-top : (c : ℕ) → ofSheet s c ≡ false → Ends O s o 0 c
   unfolding Ends
   ends-top c h = h
 
@@ -119,14 +120,14 @@ module _ (O : Outside) (s : Sheet) (o : Store) (m : List ℕ) where
         go j f false d = h .earlier j f (eqb-false (getD m j 0) k d)
 
     -- a class marked by an earlier climb has a line that ends
-    pub climbing-met : isClassRow s c ≡ true → (getD m (c - 256) 0 ≡ 0 → ⊥) → (getD m (c - 256) 0 ≡ k → ⊥) → (n : ℕ) × Ends O s o n c
+    pub climbing-met : ofSheet s c ≡ true → (getD m (c - 256) 0 ≡ 0 → ⊥) → (getD m (c - 256) 0 ≡ k → ⊥) → (n : ℕ) × Ends O s o n c
     climbing-met b f d =
         let x = h .earlier (c - 256) f d in
         let y : 256 + (c - 256) ≡ c = omega (arith, row-number s c b) in
         (x .0, subst (Ends O s o (x .0)) y (x .1))
 
     -- one class more is marked
-    module _ (l : c - 256 < length m) (b : isClassRow s c ≡ true) {p : ℕ} (e : p ≡ parentIn s o c) (g : lacksRecord O s p ≡ false) where
+    module _ (l : c - 256 < length m) (b : ofSheet s c ≡ true) {p : ℕ} (e : p ≡ parentIn s o c) (g : lacksRecord O s p ≡ false) where
       one-more : (n : ℕ) → Ends O s o n p → Ends O s o (suc n) c
       unfolding Ends
       one-more n d = (b, ap (lacksRecord O s) (sym e) ∙ g, subst (Ends O s o n) e d)
@@ -168,7 +169,7 @@ module _ (O : Outside) (s : Sheet) (o : Store) (k : ℕ) where
           omega (arith, x .1, ends-once O s o (suc n) (x .0) c e (subst (Ends O s o (x .0)) y (x .2)))
 
 -- the climb goes on to the parent p
-pub climb-next : (O : Outside) (s : Sheet) (o : Store) (m : List ℕ) (k c : ℕ) → 8 * rows s ≡ length s → length s ≤ 8 * length m → isClassRow s c ≡ true → (getD m (c - 256) 0 ≡ k → ⊥)
+pub climb-next : (O : Outside) (s : Sheet) (o : Store) (m : List ℕ) (k c : ℕ) → 8 * rows s ≡ length s → length s ≤ 8 * length m → ofSheet s c ≡ true → (getD m (c - 256) 0 ≡ k → ⊥)
     → {p : ℕ} → p ≡ parentIn s o c → lacksRecord O s p ≡ false → climbMarked O s o k (remaining s k (set m (c - 256) k)) (set m (c - 256) k) p ≡ climbMarked O s o k (remaining s k m) m c
 climb-next O s o m k c w l h f {p} e g =
     ap (λ (n : ℕ). climbMarked O s o k n (set m (c - 256) k) p) (remaining-less s m k c w l h f) ∙ climb-up O s o m k (remaining s k m) c (remaining-some s m k) h f e g

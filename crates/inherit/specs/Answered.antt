@@ -1,16 +1,16 @@
 -- The program's refusal as the definition's, and the marks of the classes that were climbed through.
 use mathlib.Core.Path.{_≡_}
-use mathlib.Core.Bool.{Bool, true, false, not, _&&_}
+use mathlib.Core.Bool.{true, false}
 use mathlib.Core.List.{List}
 use Prim.Native.Nat.{ℕ, zero, suc, _+_, _≤_}
-use lib.Dec.{eqb}
 use lib.ListN.{getD}
 use Rattle.definition.specs.Sheet.{Sheet}
 use Rattle.definition.specs.Outside.{Outside}
-use Rattle.definition.specs.Classes.{hasRecord}
+use Rattle.definition.specs.Classes.{ofSheet}
+pub use Rattle.definition.specs.Classes.{lacksRecord}
 use Rattle.definition.specs.Question.{Refusal as No}
 use Rattle.machine.specs.Machine.{Store}
-use Rattle.after.specs.Inherited.{isClassRow, parentIn}
+use Rattle.after.specs.Inherited.{parentIn}
 use Rattle.inherit.specs.declared.Refusal.{Refusal}
 
 -- a refusal's three values
@@ -21,14 +21,10 @@ refusalOf x = record { number = x .number; at = x .at; name = x .name }
 pub record Marked (k : ℕ) (m : List ℕ) : Type 0 where
   pub marks : (j : ℕ) → getD m j 0 ≤ k
 
--- is a parent a class without a record?
-abbrev pub lacksRecord : Outside → Sheet → ℕ → Bool
-lacksRecord O s c = not (eqb c 0) && not (hasRecord O s c)
-
 -- from c on there are exactly n class rows, each the parent of the one before, and none of them has a parent without a record
 unfoldable pub Ends : Outside → Sheet → Store → ℕ → ℕ → Type 0
-Ends O s o zero c = isClassRow s c ≡ false
-Ends O s o (suc n) c = (isClassRow s c ≡ true) × (lacksRecord O s (parentIn s o c) ≡ false) × Ends O s o n (parentIn s o c)
+Ends O s o zero c = ofSheet s c ≡ false
+Ends O s o (suc n) c = (ofSheet s c ≡ true) × (lacksRecord O s (parentIn s o c) ≡ false) × Ends O s o n (parentIn s o c)
 
 -- from every row that has a mark the line of parents ends
 pub record Climbed (O : Outside) (s : Sheet) (o : Store) (m : List ℕ) : Type 0 where

@@ -17,7 +17,7 @@ use Rattle.definition.specs.Scope.{Stack, Moment, lookup, within, visited, decl
 use Rattle.definition.specs.Slots.{openLocals, code}
 use Rattle.definition.specs.Capture.{useAt, seenFrom}
 use Rattle.definition.specs.Classes.{methodNamed, ownMethods, parentOf}
-use Rattle.definition.specs.Question.{receiver}
+use Rattle.definition.specs.Question.{openOn, receiver}
 use Rattle.definition.specs.Answer.{letRow, memberRow}
 use Rattle.definition.proofs.Classes.{of-sheet}
 use Rattle.machine.specs.Machine.{cell, Store, fourWords}
@@ -130,7 +130,7 @@ module _ (s : Sheet) (r K : ℕ) (hr : is s K r ≡ true) (nz : r ≡ 0 → ⊥)
   same-row k J e = ap (is s K) (eqb-true k r e) ∙ hr
 
   -- a row that is no class and no member is written by no class declaration and no call
-  rest-false : (k : ℕ) (st : Stack) → eqb 4 K ≡ false → eqb 54 K ≡ false → (c m : Bool) → (is s 30 k && is s 4 (a s k)) ≡ c → (is s 59 k && not (eqb (receiver s k st) 0)) ≡ m
+  rest-false : (k : ℕ) (st : Stack) → eqb 4 K ≡ false → eqb 54 K ≡ false → (c m : Bool) → (is s 30 k && is s 4 (a s k)) ≡ c → (is s 59 k && not (eqb (receiver s k (openOn s st)) 0)) ≡ m
       → (if c then eqb (a s k) r else if m then eqb (child s k) r else eqb 0 r) ≡ false
   rest-false k st n₄ n₅₄ true m ec em = kinds-apart s (a s k) r 4 K (and-right (is s 30 k) (is s 4 (a s k)) ec) hr n₄
     where
@@ -138,7 +138,8 @@ module _ (s : Sheet) (r K : ℕ) (hr : is s K r ≡ true) (nz : r ≡ 0 → ⊥)
       and-right true y e = e
       and-right false y e = absurd (true≢false (sym e))
   rest-false k st n₄ n₅₄ false true ec em =
-      kinds-apart s (child s k) r 54 K (receiver-member (is s 54 (child s k)) (is s 50 (child s (child s k))) (classNumber (lookup (a s (child s (child s k))) st)) (and-right (is s 59 k) (not (eqb (receiver s k st) 0)) em)) hr n₅₄
+      kinds-apart s (child s k) r 54 K
+      (receiver-member (is s 54 (child s k)) (is s 50 (child s (child s k))) (classNumber (lookup (a s (child s (child s k))) st)) (and-right (is s 59 k) (not (eqb (receiver s k (openOn s st)) 0)) em)) hr n₅₄
     where
       and-right : (x y : Bool) → (x && y) ≡ true → y ≡ true
       and-right true y e = e
@@ -157,8 +158,8 @@ module _ (s : Sheet) (r K : ℕ) (hr : is s K r ≡ true) (nz : r ≡ 0 → ⊥)
       go false e = refl
   target-visit n₂₉ n₄ n₅₄ f (bring k n d) st = refl
   target-visit n₂₉ n₄ n₅₄ f (visit k) st =
-      shape (ownRowKind s k) (is s 30 k && is s 4 (a s k)) (is s 59 k && not (eqb (receiver s k st) 0)) k (a s k) (child s k) r
-      ∙ ap (λ (t : Bool). if ownRowKind s k then eqb k r else t) (rest-false k st n₄ n₅₄ (is s 30 k && is s 4 (a s k)) (is s 59 k && not (eqb (receiver s k st) 0)) refl refl)
+      shape (ownRowKind s k) (is s 30 k && is s 4 (a s k)) (is s 59 k && not (eqb (receiver s k (openOn s st)) 0)) k (a s k) (child s k) r
+      ∙ ap (λ (t : Bool). if ownRowKind s k then eqb k r else t) (rest-false k st n₄ n₅₄ (is s 30 k && is s 4 (a s k)) (is s 59 k && not (eqb (receiver s k (openOn s st)) 0)) refl refl)
       ∙ go (ownRowKind s k) refl
     where
       go : (v : Bool) → ownRowKind s k ≡ v → (if v then eqb k r else false) ≡ eqb k r
@@ -179,8 +180,8 @@ module _ (s : Sheet) (r K : ℕ) (hr : is s K r ≡ true) (nz : r ≡ 0 → ⊥)
           ∙ sym (when-false (is s 29 k) (eqb k r) (λ q. ap (λ (j : ℕ). is s j k) (eqb-true 29 K is₂₉) ∙ same-row k 0 q) e)
   target-let is₂₉ n₄ n₅₄ f (bring k n d) st = refl
   target-let is₂₉ n₄ n₅₄ f (visit k) st =
-      shape (ownRowKind s k) (is s 30 k && is s 4 (a s k)) (is s 59 k && not (eqb (receiver s k st) 0)) k (a s k) (child s k) r
-      ∙ ap (λ (t : Bool). if ownRowKind s k then eqb k r else t) (rest-false k st n₄ n₅₄ (is s 30 k && is s 4 (a s k)) (is s 59 k && not (eqb (receiver s k st) 0)) refl refl)
+      shape (ownRowKind s k) (is s 30 k && is s 4 (a s k)) (is s 59 k && not (eqb (receiver s k (openOn s st)) 0)) k (a s k) (child s k) r
+      ∙ ap (λ (t : Bool). if ownRowKind s k then eqb k r else t) (rest-false k st n₄ n₅₄ (is s 30 k && is s 4 (a s k)) (is s 59 k && not (eqb (receiver s k (openOn s st)) 0)) refl refl)
       ∙ go (ownRowKind s k) refl (eqb k r) refl ∙ sym (zero-apart r nz)
     where
       go : (v : Bool) → ownRowKind s k ≡ v → (t : Bool) → eqb k r ≡ t → (if v then t else false) ≡ false
@@ -294,19 +295,20 @@ target-class s hd r hr nz loop st = zero-apart r nz ∙ sym (ap (λ (t : Bool). 
 target-class s hd r hr nz (declare k) st = declare-apart s hd r 4 hr nz k refl ∙ sym (ap (λ (t : Bool). t && eqb (a s 0) r) (none-visited s hd r 4 hr nz 30 refl))
 target-class s hd r hr nz (bring k n d) st = zero-apart r nz ∙ sym (ap (λ (t : Bool). t && eqb (a s 0) r) (none-visited s hd r 4 hr nz 30 refl))
 target-class s hd r hr nz (visit k) st =
-    shape (ownRowKind s k) (is s 30 k && is s 4 (a s k)) (is s 59 k && not (eqb (receiver s k st) 0)) k (a s k) (child s k) r
-    ∙ go (ownRowKind s k) refl (is s 30 k) refl (is s 4 (a s k)) refl (is s 59 k && not (eqb (receiver s k st) 0)) refl
+    shape (ownRowKind s k) (is s 30 k && is s 4 (a s k)) (is s 59 k && not (eqb (receiver s k (openOn s st)) 0)) k (a s k) (child s k) r
+    ∙ go (ownRowKind s k) refl (is s 30 k) refl (is s 4 (a s k)) refl (is s 59 k && not (eqb (receiver s k (openOn s st)) 0)) refl
   where
-    go : (v : Bool) → ownRowKind s k ≡ v → (c : Bool) → is s 30 k ≡ c → (d : Bool) → is s 4 (a s k) ≡ d → (m : Bool) → (is s 59 k && not (eqb (receiver s k st) 0)) ≡ m
+    go : (v : Bool) → ownRowKind s k ≡ v → (c : Bool) → is s 30 k ≡ c → (d : Bool) → is s 4 (a s k) ≡ d → (m : Bool) → (is s 59 k && not (eqb (receiver s k (openOn s st)) 0)) ≡ m
         → (if v then eqb k r else if c && d then eqb (a s k) r else if m then eqb (child s k) r else eqb 0 r) ≡ (c && eqb (a s k) r)
     go true ev true ec d ed m em = absurd (true≢false (sym ev ∙ four-false s k 30 ec refl refl refl refl))
     go true ev false ec d ed m em = own-row-apart s hd r 4 hr nz k (λ j q. four-false s j 4 q refl refl refl refl) true ev refl
     go false ev true ec true ed m em = refl
-    go false ev true ec false ed true em = absurd (true≢false (sym em ∙ ap (λ (t : Bool). t && not (eqb (receiver s k st) 0)) (other-kind s k 30 59 ec refl)))
+    go false ev true ec false ed true em = absurd (true≢false (sym em ∙ ap (λ (t : Bool). t && not (eqb (receiver s k (openOn s st)) 0)) (other-kind s k 30 59 ec refl)))
     go false ev true ec false ed false em =
         zero-apart r nz ∙ sym (when-false (is s 4 (a s k)) (eqb (a s k) r) (λ q. ap (is s 4) (eqb-true (a s k) r q) ∙ hr) ed)
     go false ev false ec d ed true em =
-        kinds-apart s (child s k) r 54 4 (receiver-member (is s 54 (child s k)) (is s 50 (child s (child s k))) (classNumber (lookup (a s (child s (child s k))) st)) (both (is s 59 k) (not (eqb (receiver s k st) 0)) em)) hr refl
+        kinds-apart s (child s k) r 54 4
+        (receiver-member (is s 54 (child s k)) (is s 50 (child s (child s k))) (classNumber (lookup (a s (child s (child s k))) st)) (both (is s 59 k) (not (eqb (receiver s k (openOn s st)) 0)) em)) hr refl
       where
         both : (x y : Bool) → (x && y) ≡ true → y ≡ true
         both true y e = e
@@ -315,15 +317,17 @@ target-class s hd r hr nz (visit k) st =
 
 -- a member row is written by the call on a class whose callee it is
 target-member : (s : Sheet) → kind s 0 ≡ 0 → (r : ℕ) → is s 54 r ≡ true → (r ≡ 0 → ⊥) → (e : Event) (st : Stack)
-    → eqb (rowWritten s e st) r ≡ (is s 59 (visited e) && not (eqb (receiver s (visited e) st) 0) && eqb (child s (visited e)) r)
-target-member s hd r hr nz (enter k) st = zero-apart r nz ∙ sym (ap (λ (t : Bool). t && not (eqb (receiver s 0 st) 0) && eqb (child s 0) r) (none-visited s hd r 54 hr nz 59 refl))
-target-member s hd r hr nz leave st = zero-apart r nz ∙ sym (ap (λ (t : Bool). t && not (eqb (receiver s 0 st) 0) && eqb (child s 0) r) (none-visited s hd r 54 hr nz 59 refl))
-target-member s hd r hr nz loop st = zero-apart r nz ∙ sym (ap (λ (t : Bool). t && not (eqb (receiver s 0 st) 0) && eqb (child s 0) r) (none-visited s hd r 54 hr nz 59 refl))
-target-member s hd r hr nz (declare k) st = declare-apart s hd r 54 hr nz k refl ∙ sym (ap (λ (t : Bool). t && not (eqb (receiver s 0 st) 0) && eqb (child s 0) r) (none-visited s hd r 54 hr nz 59 refl))
-target-member s hd r hr nz (bring k n d) st = zero-apart r nz ∙ sym (ap (λ (t : Bool). t && not (eqb (receiver s 0 st) 0) && eqb (child s 0) r) (none-visited s hd r 54 hr nz 59 refl))
+    → eqb (rowWritten s e st) r ≡ (is s 59 (visited e) && not (eqb (receiver s (visited e) (openOn s st)) 0) && eqb (child s (visited e)) r)
+target-member s hd r hr nz (enter k) st = zero-apart r nz ∙ sym (ap (λ (t : Bool). t && not (eqb (receiver s 0 (openOn s st)) 0) && eqb (child s 0) r) (none-visited s hd r 54 hr nz 59 refl))
+target-member s hd r hr nz leave st = zero-apart r nz ∙ sym (ap (λ (t : Bool). t && not (eqb (receiver s 0 (openOn s st)) 0) && eqb (child s 0) r) (none-visited s hd r 54 hr nz 59 refl))
+target-member s hd r hr nz loop st = zero-apart r nz ∙ sym (ap (λ (t : Bool). t && not (eqb (receiver s 0 (openOn s st)) 0) && eqb (child s 0) r) (none-visited s hd r 54 hr nz 59 refl))
+target-member s hd r hr nz (declare k) st =
+    declare-apart s hd r 54 hr nz k refl
+    ∙ sym (ap (λ (t : Bool). t && not (eqb (receiver s 0 (openOn s st)) 0) && eqb (child s 0) r) (none-visited s hd r 54 hr nz 59 refl))
+target-member s hd r hr nz (bring k n d) st = zero-apart r nz ∙ sym (ap (λ (t : Bool). t && not (eqb (receiver s 0 (openOn s st)) 0) && eqb (child s 0) r) (none-visited s hd r 54 hr nz 59 refl))
 target-member s hd r hr nz (visit k) st =
-    shape (ownRowKind s k) (is s 30 k && is s 4 (a s k)) (is s 59 k && not (eqb (receiver s k st) 0)) k (a s k) (child s k) r
-    ∙ go (ownRowKind s k) refl (is s 30 k && is s 4 (a s k)) refl (is s 59 k) refl (not (eqb (receiver s k st) 0))
+    shape (ownRowKind s k) (is s 30 k && is s 4 (a s k)) (is s 59 k && not (eqb (receiver s k (openOn s st)) 0)) k (a s k) (child s k) r
+    ∙ go (ownRowKind s k) refl (is s 30 k && is s 4 (a s k)) refl (is s 59 k) refl (not (eqb (receiver s k (openOn s st)) 0))
   where
     left : (x y : Bool) → (x && y) ≡ true → x ≡ true
     left true y e = refl
@@ -350,11 +354,11 @@ final-short (x ∷ y ∷ ys) = final-short (y ∷ ys)
 
 -- does a moment call a method on a class with row r as its member callee?
 abbrev pub isMemberCall : Sheet → ℕ → Moment → Bool
-isMemberCall s r m = is s 59 (visited (m .event)) && not (eqb (receiver s (visited (m .event)) (m .stack)) 0) && eqb (child s (visited (m .event))) r
+isMemberCall s r m = is s 59 (visited (m .event)) && not (eqb (receiver s (visited (m .event)) (openOn s (m .stack))) 0) && eqb (child s (visited (m .event))) r
 
 -- code and values of the member callee of such a call
 abbrev pub memberValues : Outside → Sheet → ℕ → Moment → List ℕ
-memberValues O s r m = 1 ∷ methodNamed (a s r) (ownMethods O s (receiver s (visited (m .event)) (m .stack))) ∷ []
+memberValues O s r m = 1 ∷ methodNamed (a s r) (ownMethods O s (receiver s (visited (m .event)) (openOn s (m .stack)))) ∷ []
 
 module _ (O : Outside) (s : Sheet) (hd : kind s 0 ≡ 0) (h : List Moment) (o : Store) (k : StoreAgrees O s h o) (r : ℕ) (nz : r ≡ 0 → ⊥) (l : r < length (o .table) / 8) where
   no-visit : {A : Type 0} (J : ℕ) (t : Bool) → eqb 0 J ≡ false → (is s J 0 && t) ≡ true → A
@@ -411,20 +415,20 @@ module _ (O : Outside) (s : Sheet) (hd : kind s 0 ≡ 0) (h : List Moment) (o : 
           let c : classNumber (lookup (b s r) (w .0 .stack)) ≡ cell (o .table) r 1 = ap (λ (x : List (List ℕ)). getD (getD x 0 []) 1 0) e in
           sym (ap (λ (ms : List Moment). largest (map (λ m. classNumber (lookup (b s r) (m .stack))) ms)) (w .1) ∙ omega (arith, c))
 
-  member-writes : (e : Event) (z : Stack) → (is s 59 (visited e) && not (eqb (receiver s (visited e) z) 0) && eqb (child s (visited e)) r) ≡ true
-      → wordsWritten O s h (record { event = e; stack = z }) ≡ 1 ∷ methodNamed (a s r) (ownMethods O s (receiver s (visited e) z)) ∷ []
+  member-writes : (e : Event) (z : Stack) → (is s 59 (visited e) && not (eqb (receiver s (visited e) (openOn s z)) 0) && eqb (child s (visited e)) r) ≡ true
+      → wordsWritten O s h (record { event = e; stack = z }) ≡ 1 ∷ methodNamed (a s r) (ownMethods O s (receiver s (visited e) (openOn s z))) ∷ []
   member-writes (enter k) z q = no-visit₂ _ _ q
   member-writes leave z q = no-visit₂ _ _ q
   member-writes loop z q = no-visit₂ _ _ q
   member-writes (declare k) z q = no-visit₂ _ _ q
   member-writes (bring k n d) z q = no-visit₂ _ _ q
-  member-writes (visit k) z q = go (is s 59 k) refl (not (eqb (receiver s k z) 0)) q
+  member-writes (visit k) z q = go (is s 59 k) refl (not (eqb (receiver s k (openOn s z)) 0)) q
     where
       go : (t : Bool) → is s 59 k ≡ t → (u : Bool) → (t && u && eqb (child s k) r) ≡ true
-          → wordsWritten O s h (record { event = visit k; stack = z }) ≡ 1 ∷ methodNamed (a s r) (ownMethods O s (receiver s k z)) ∷ []
+          → wordsWritten O s h (record { event = visit k; stack = z }) ≡ 1 ∷ methodNamed (a s r) (ownMethods O s (receiver s k (openOn s z))) ∷ []
       go true e true w =
           rw (other-kind s k 59 50 e refl, other-kind s k 59 51 e refl, other-kind s k 59 52 e refl, other-kind s k 59 55 e refl, other-kind s k 59 30 e refl)
-          (ap (λ (j : ℕ). 1 ∷ methodNamed (a s j) (ownMethods O s (receiver s k z)) ∷ []) (eqb-true (child s k) r w))
+          (ap (λ (j : ℕ). 1 ∷ methodNamed (a s j) (ownMethods O s (receiver s k (openOn s z))) ∷ []) (eqb-true (child s k) r w))
       go true e false w = absurd (true≢false (sym w))
       go false e u w = absurd (true≢false (sym w))
 
@@ -441,5 +445,7 @@ module _ (O : Outside) (s : Sheet) (hd : kind s 0 ≡ 0) (h : List Moment) (o : 
   -- the definition's row of a member
   pub member-row : memberRow O s h r ≡ map (memberValues O s r) (filter (isMemberCall s r) h)
   member-row =
-      ap (λ (ms : List Moment). map (memberValues O s r) (filter (λ m. eqb (child s (visited (m .event))) r) ms)) (filter-filter (λ m. not (eqb (receiver s (visited (m .event)) (m .stack)) 0)) (λ m. is s 59 (visited (m .event))) h)
-      ∙ ap (map (memberValues O s r)) (filter-filter (λ m. eqb (child s (visited (m .event))) r) (λ m. is s 59 (visited (m .event)) && not (eqb (receiver s (visited (m .event)) (m .stack)) 0)) h)
+      ap (λ (ms : List Moment). map (memberValues O s r) (filter (λ m. eqb (child s (visited (m .event))) r) ms))
+      (filter-filter (λ m. not (eqb (receiver s (visited (m .event)) (openOn s (m .stack))) 0)) (λ m. is s 59 (visited (m .event))) h)
+      ∙ ap (map (memberValues O s r))
+      (filter-filter (λ m. eqb (child s (visited (m .event))) r) (λ m. is s 59 (visited (m .event)) && not (eqb (receiver s (visited (m .event)) (openOn s (m .stack))) 0)) h)

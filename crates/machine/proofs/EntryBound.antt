@@ -13,7 +13,7 @@ use Rattle.definition.specs.Outside.{Outside, OutsideFits}
 use Rattle.definition.specs.Meaning.{Meaning, isDeclared, Named}
 use Rattle.definition.specs.Walk.{Event, enter, leave, loop, declare, bring, visit, literalLet, walk}
 use Rattle.definition.specs.Scope.{Stack, Moment, scope, looping, bound, taken, closed, step, start}
-use Rattle.definition.specs.Question.{ask, askEvent}
+use Rattle.definition.specs.Question.{ask, openOn, askEvent}
 use Rattle.definition.proofs.Lists.Tests.{and-left, and-right, true-of}
 use Rattle.machine.proofs.Lists.{eqb-same}
 use Rattle.machine.proofs.Stacks.{Distinct, a-none, a-one}
@@ -110,7 +110,7 @@ not-taken : (t : Bool) → not t ≡ true → t ≡ false
 not-taken true e = sym e
 not-taken false e = refl
 
-names-step : (O : Outside) (s : Sheet) (z : Stack) (e : Event) → askEvent O s e z .number ≡ 0 → NamesApart z → NamesApart ((step s z e))
+names-step : (O : Outside) (s : Sheet) (z : Stack) (e : Event) → askEvent O s e (openOn s z) .number ≡ 0 → NamesApart z → NamesApart ((step s z e))
 names-step O s z (enter r) q p = n-scope p
 names-step O s z leave q p = names-closed p
 names-step O s z loop q p = n-loop p
@@ -150,7 +150,7 @@ closed-length (bound m d ∷ st) = omega (arith, closed-length st)
 unfoldable pub ImportShallow : ℕ → ℕ → Moment → Type 0
 ImportShallow n c m = (r k : ℕ) (d : Meaning) → m .event ≡ bring r k d → (length (m .stack) ≤ length (topNames (m .stack)) + c) × All (λ x. ltb x n) (k ∷ topNames (m .stack))
 
-step-length : (O : Outside) (s : Sheet) (z : Stack) (e : Event) (n c B : ℕ) → n + c ≤ B → length z ≤ B → NamesApart z → askEvent O s e z .number ≡ 0
+step-length : (O : Outside) (s : Sheet) (z : Stack) (e : Event) (n c B : ℕ) → n + c ≤ B → length z ≤ B → NamesApart z → askEvent O s e (openOn s z) .number ≡ 0
     → ImportShallow n c (record { event = e; stack = z }) → length ((step s z e)) + entriesPushed [] ≤ B + entriesPushed (e ∷ [])
 unfolding ImportShallow
 step-length O s z (enter r) n c B h l p q f = omega arith

@@ -15,7 +15,7 @@ use Rattle.definition.specs.Meaning.{classNumber, isClass}
 use Rattle.definition.specs.Walk.{Event, enter, leave, loop, declare, bring, visit, walk}
 use Rattle.definition.specs.Scope.{Moment, lookup, around, history, start, visited, visits, visitOf}
 use Rattle.definition.specs.Capture.{useAt}
-use Rattle.definition.specs.Question.{receiver}
+use Rattle.definition.specs.Question.{openOn, receiver}
 use Rattle.definition.specs.Answer.{isCalleeBase, classCalls}
 use Rattle.definition.specs.Bounds.{walked, own}
 use Rattle.definition.proofs.Lists.Tests.{and-both, and-left, and-right, eqb-of}
@@ -132,7 +132,7 @@ module _ (n : ℕ) {O : Outside} {s : Sheet} (ok : Fits O s) (fa : SheetFacts n 
     found-at-call h =
         let x = any-mem (λ m. eqb (child s (child s (visited (m .event)))) r) (classCalls s (history O s)) h in
         let m′ : Moment = x .0 in
-        let f = filter-mem (λ m. not (eqb (receiver s (visited (m .event)) (m .stack)) 0)) m′ (visits s (history O s) 59) (x .1) in
+        let f = filter-mem (λ m. not (eqb (receiver s (visited (m .event)) (openOn s (m .stack))) 0)) m′ (visits s (history O s) 59) (x .1) in
         let g = filter-mem (λ m. is s 59 (visited (m .event))) m′ (history O s) (f .0) in
         let c : ℕ = visited (m′ .event) in
         let e : ℕ = child s c in
@@ -175,13 +175,14 @@ module _ (n : ℕ) {O : Outside} {s : Sheet} (ok : Fits O s) (fa : SheetFacts n 
         let v : m′ .event ≡ visit c = visited-event (m′ .event) c vc (kind-not-zero ok 59 c tt tc) in
         let w : record { event = visit r; stack = m′ .stack } ≡ m = same-moment c e r y m m′ one (mm .1) v in
         let cls : T (isClass (lookup (a s r) (m′ .stack))) = subst (λ (j : Moment). T (isClass (useAt s j .means))) (sym w) (and-right (isCalleeBase s r) (isClass (useAt s m .means)) h) in
-        let rec : T (not (eqb (receiver s c (m′ .stack)) 0)) =
+        let rec : T (not (eqb (receiver s c (openOn s (m′ .stack))) 0)) =
         subst (λ (j : ℕ). T (not (eqb (if is s 54 j && is s 50 (child s j) then classNumber (lookup (a s (child s j)) (m′ .stack)) else 0) 0))) (sym qe)
         (subst (λ (j : ℕ). T (not (eqb (if is s 54 e && is s 50 j then classNumber (lookup (a s j) (m′ .stack)) else 0) 0))) (sym qr)
         (choose (is s 54 e && is s 50 r) (classNumber (lookup (a s r) (m′ .stack))) (and-both (is s 54 e) (is s 50 r) te tr) cls)) in
         mem-any (λ m. eqb (child s (child s (visited (m .event)))) r) m′ (classCalls s (history O s))
         (eqb-of (child s (child s (visited (m′ .event)))) r (ap (λ (j : ℕ). child s (child s j)) vc ∙ ap (child s) qe ∙ qr))
-        (mem-filter (λ m. not (eqb (receiver s (visited (m .event)) (m .stack)) 0)) m′ (visits s (history O s) 59) (subst (λ (j : ℕ). T (not (eqb (receiver s j (m′ .stack)) 0))) (sym vc) rec)
+        (mem-filter (λ m. not (eqb (receiver s (visited (m .event)) (openOn s (m .stack))) 0)) m′ (visits s (history O s) 59)
+        (subst (λ (j : ℕ). T (not (eqb (receiver s j (openOn s (m′ .stack))) 0))) (sym vc) rec)
         (mem-filter (λ m. is s 59 (visited (m .event))) m′ (history O s) (subst (λ (j : ℕ). T (is s 59 j)) (sym vc) tc) (mm .1)))
       where
         held-first : (e r : ℕ) → e < rows s → T (is s 54 e) → Mem r (kids s e) → child s e ≡ r

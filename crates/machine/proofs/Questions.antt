@@ -1,19 +1,18 @@
 -- The program asks the definition's questions.
 use mathlib.Core.Path.{_≡_, refl, sym, ap}
 use mathlib.Core.List.{List}
-use mathlib.Core.Bool.{Bool, true, false, _&&_}
+use mathlib.Core.Bool.{Bool, true, false}
 use Prim.Native.Nat.{ℕ, zero, suc, _-_, _<_, _≤_}
 use native.Mathlib.Omega.{arith}
 use lib.Dec.{eqb, leb}
 use Rattle.definition.specs.Basics.{if_then_else_}
-use Rattle.definition.specs.Sheet.{Sheet, is, a, b, child}
+use Rattle.definition.specs.Sheet.{Sheet}
 use Rattle.definition.specs.Outside.{Outside}
-use Rattle.definition.specs.Meaning.{Meaning, classNumber}
-use Rattle.definition.specs.Walk.{Event, enter, leave, loop, declare, bring, visit}
+use Rattle.definition.specs.Walk.{Event}
 use Rattle.definition.specs.Scope.{Stack, find, taken, inLoop}
 use Rattle.definition.specs.Slots.{openLocals, topSlot}
-use Rattle.definition.specs.Question.{constructed, receiver, askVisit, askEvent}
-use Rattle.machine.specs.Machine.{entryWord, findName, takenIn, loopIn, slotAt, Scopes, lookupSlot, constructedClass, receiverClass, checkVisit, checkEvent}
+use Rattle.definition.specs.Question.{openOn, constructed, receiver, askEvent}
+use Rattle.machine.specs.Machine.{entryWord, findName, takenIn, loopIn, slotAt, Scopes, lookupSlot, openIn, constructedClass, receiverClass, checkEvent}
 use Rattle.machine.proofs.Entries.{entries, find-is, taken-is, loop-is}
 use Rattle.machine.proofs.ScopesAgree.{ScopesAgree, lookup-is}
 
@@ -46,20 +45,16 @@ module _ (O : Outside) (s : Sheet) (z : Stack) (p : Scopes) (o : ScopesAgree s z
   loop-found : inLoop s z ≡ loopIn s (p .env) (p .count)
   loop-found = rw (← (o .stack-is)) (loop-is s (p .env) (p .count))
 
-  pub constructed-is : (r : ℕ) → constructed s r z ≡ constructedClass s r p
-  constructed-is r = ap (λ (d : Meaning). if is s 50 (child s r) then classNumber d else 0) (lookup-is s z p o (a s (child s r)))
+  -- the questions read the same of both
+  open-is : openOn s z ≡ openIn s p
+  open-is = λ i. record { means = λ n. lookup-is s z p o n i; isTaken = λ n. taken-found n i; isLooping = loop-found i }
 
-  pub receiver-is : (r : ℕ) → receiver s r z ≡ receiverClass s r p
-  receiver-is r = ap (λ (d : Meaning). if is s 54 (child s r) && is s 50 (child s (child s r)) then classNumber d else 0) (lookup-is s z p o (a s (child s (child s r))))
+  pub constructed-is : (r : ℕ) → constructed s r (openOn s z) ≡ constructedClass s r p
+  constructed-is r = ap (constructed s r) open-is
 
-  checkVisit-is : (r : ℕ) → askVisit O s r z ≡ checkVisit O s r p
-  checkVisit-is r = rw (loop-found, lookup-is s z p o (a s (child s r)), lookup-is s z p o (a s r), lookup-is s z p o (b s (a s r)), lookup-is s z p o (a s (child s (child s r))))
+  pub receiver-is : (r : ℕ) → receiver s r (openOn s z) ≡ receiverClass s r p
+  receiver-is r = ap (receiver s r) open-is
 
-  pub check-is : (e : Event) → askEvent O s e z ≡ checkEvent O s e p
+  pub check-is : (e : Event) → askEvent O s e (openOn s z) ≡ checkEvent O s e p
   unfolding checkEvent
-  check-is (enter r) = refl
-  check-is leave = refl
-  check-is loop = refl
-  check-is (declare r) = rw (taken-found (a s r))
-  check-is (bring r n d) = rw (taken-found n)
-  check-is (visit r) = checkVisit-is r
+  check-is e = ap (askEvent O s e) open-is

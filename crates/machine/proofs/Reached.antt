@@ -12,7 +12,7 @@ use Rattle.definition.specs.Sheet.{Sheet, is}
 use Rattle.definition.specs.Outside.{Outside}
 use Rattle.definition.specs.Walk.{Event, enter, leave, loop, declare, bring, visit, walk}
 use Rattle.definition.specs.Scope.{Stack, Moment, scope, looping, bound, around, closed, inside, step, moments, start, declares}
-use Rattle.definition.specs.Question.{askEvent}
+use Rattle.definition.specs.Question.{openOn, askEvent}
 use Rattle.machine.proofs.Lists.{eqb-self}
 use Rattle.machine.proofs.Stacks.{Proper, Distinct, a-one}
 use Rattle.machine.proofs.Captures.{Outward}
@@ -25,7 +25,7 @@ use Rattle.machine.proofs.Refinement.{Room, Runs, over, next}
 -- a moment of the walk before which no question has a no
 pub data Reached (O : Outside) (s : Sheet) : Stack → List Event → Moment → Type 0 where
   r-here : {z : Stack} {e : Event} {es : List Event} → Reached O s z (e ∷ es) (record { event = e; stack = z })
-  r-later : {z : Stack} {e : Event} {es : List Event} {m : Moment} → askEvent O s e z .number ≡ 0 → Reached O s (step s z e) es m → Reached O s z (e ∷ es) m
+  r-later : {z : Stack} {e : Event} {es : List Event} {m : Moment} → askEvent O s e (openOn s z) .number ≡ 0 → Reached O s (step s z e) es m → Reached O s z (e ∷ es) m
 
 pub record StepReady (s : Sheet) (room : Room) (m : Moment) : Type 0 where
   pub proper : Proper s (m .stack) (m .event)

@@ -14,7 +14,7 @@ use Rattle.definition.specs.Outside.{Outside}
 use Rattle.definition.specs.Walk.{Event, enter, leave, loop, declare, bring, visit}
 use Rattle.definition.specs.Scope.{Stack, Moment, around, inside, step, run, moments}
 use Rattle.definition.specs.Slots.{finalGlobals}
-use Rattle.definition.specs.Question.{Refusal, firstNo, askEvent}
+use Rattle.definition.specs.Question.{Refusal, firstNo, openOn, askEvent}
 use Rattle.machine.specs.Machine.{nodeRoom, entryRoom, tagOf, firstOf, secondOf, newMeaning, Scopes, Store, State, wordsPushed, stepScopes, stepStore, checkEvent, stepState, runState}
 use Rattle.machine.proofs.Nodes.{Extends, extends-trans}
 use Rattle.machine.proofs.ScopesAgree.{slot-small, ScopesAgree, scopes-step}
@@ -49,11 +49,11 @@ pub data Runs (O : Outside) (s : Sheet) (room : Room) : List Moment → Stack �
       → Proper s z e → Unlisted s h e → length z < 4294967295 → finalGlobals s h < 4294967295 → length z < room .entries → inside s z < room .rows
       → ((g : ℕ) → (g ∈? around s z) ≡ true → g < room .rows) → Outward s h (record { event = e; stack = z })
       → nodesNeeded s (h ++ record { event = e; stack = z } ∷ []) ≤ room .nodes
-      → (askEvent O s e z .number ≡ 0 → Runs O s room (h ++ record { event = e; stack = z } ∷ []) (step s z e) es)
+      → (askEvent O s e (openOn s z) .number ≡ 0 → Runs O s room (h ++ record { event = e; stack = z } ∷ []) (step s z e) es)
       → Runs O s room h z (e ∷ es)
 
 abbrev pub refusalOf : Outside → Sheet → Stack → List Event → Refusal
-refusalOf O s z es = firstNo (map (λ m. askEvent O s (m .event) (m .stack)) (moments s z es))
+refusalOf O s z es = firstNo (map (λ m. askEvent O s (m .event) (openOn s (m .stack))) (moments s z es))
 
 -- after a refusal nothing changes
 refused-one : (O : Outside) (s : Sheet) (e : Event) (x : State) → (x .refusal .number ≡ 0 → ⊥) → stepState O s e x ≡ x
@@ -102,7 +102,7 @@ step-refused O s e x y d = rw (eq-eqb (x .refusal .number) 0 y, ne-eqb (checkEve
 state-step : (O : Outside) (s : Sheet) → kind s 0 ≡ 0 → (room : Room) (h : List Moment) (z : Stack) (e : Event) (x : State)
     → Proper s z e → Unlisted s h e → length z < 4294967295 → finalGlobals s h < 4294967295 → length z < room .entries → inside s z < room .rows
     → ((g : ℕ) → (g ∈? around s z) ≡ true → g < room .rows) → Outward s h (record { event = e; stack = z }) → nodesNeeded s (h ++ record { event = e; stack = z } ∷ []) ≤ room .nodes
-    → askEvent O s e z .number ≡ 0
+    → askEvent O s e (openOn s z) .number ≡ 0
     → StateAgrees O s room h z x → StateAgrees O s room (h ++ record { event = e; stack = z } ∷ []) (step s z e) (stepState O s e x)
 state-step O s hd room h z e x pr un w₁ w₂ r₁ r₂ rs out r₃ y g =
     rw (step-accepted O s e x (g .agreed) (ap (λ (q : Refusal). q .number) (sym (check-is O s z (x .scopes) (g .opened) e)) ∙ y))
@@ -123,20 +123,20 @@ pub data Ends (O : Outside) (s : Sheet) (room : Room) (h : List Moment) (z : Sta
   accepted : refusalOf O s z es .number ≡ 0 → StateAgrees O s room (h ++ moments s z es) (run s z es) x → Ends O s room h z es x
   refused : (refusalOf O s z es .number ≡ 0 → ⊥) → x .refusal ≡ refusalOf O s z es → Ends O s room h z es x
 
-no-later : (O : Outside) (s : Sheet) (z : Stack) (e : Event) (es : List Event) → askEvent O s e z .number ≡ 0 → refusalOf O s z (e ∷ es) ≡ refusalOf O s (step s z e) es
-no-later O s z e es q = rw (eq-eqb (askEvent O s e z .number) 0 q)
+no-later : (O : Outside) (s : Sheet) (z : Stack) (e : Event) (es : List Event) → askEvent O s e (openOn s z) .number ≡ 0 → refusalOf O s z (e ∷ es) ≡ refusalOf O s (step s z e) es
+no-later O s z e es q = rw (eq-eqb (askEvent O s e (openOn s z) .number) 0 q)
 
-no-here : (O : Outside) (s : Sheet) (z : Stack) (e : Event) (es : List Event) → (askEvent O s e z .number ≡ 0 → ⊥) → refusalOf O s z (e ∷ es) ≡ askEvent O s e z
-no-here O s z e es q = rw (ne-eqb (askEvent O s e z .number) 0 q)
+no-here : (O : Outside) (s : Sheet) (z : Stack) (e : Event) (es : List Event) → (askEvent O s e (openOn s z) .number ≡ 0 → ⊥) → refusalOf O s z (e ∷ es) ≡ askEvent O s e (openOn s z)
+no-here O s z e es q = rw (ne-eqb (askEvent O s e (openOn s z) .number) 0 q)
 
 numbers : {x y : Refusal} → x ≡ y → x .number ≡ y .number
 numbers e = ap (λ (q : Refusal). q .number) e
 
 -- a refusal does not change
-refused-here : (O : Outside) (s : Sheet) (z : Stack) (e : Event) (es : List Event) (x : State) → ScopesAgree s z (x .scopes) → x .refusal .number ≡ 0 → (askEvent O s e z .number ≡ 0 → ⊥)
-    → runState O s es (stepState O s e x) .refusal ≡ askEvent O s e z
+refused-here : (O : Outside) (s : Sheet) (z : Stack) (e : Event) (es : List Event) (x : State) → ScopesAgree s z (x .scopes) → x .refusal .number ≡ 0 → (askEvent O s e (openOn s z) .number ≡ 0 → ⊥)
+    → runState O s es (stepState O s e x) .refusal ≡ askEvent O s e (openOn s z)
 refused-here O s z e es x o y q =
-    let d : askEvent O s e z ≡ checkEvent O s e (x .scopes) = check-is O s z (x .scopes) o e in
+    let d : askEvent O s e (openOn s z) ≡ checkEvent O s e (x .scopes) = check-is O s z (x .scopes) o e in
     let n : checkEvent O s e (x .scopes) .number ≡ 0 → ⊥ = λ k. q (numbers d ∙ k) in
     ap (λ (w : State). runState O s es w .refusal) (step-refused O s e x y n)
     ∙ ap (λ (w : State). w .refusal) (refused-run O s es (record { scopes = x .scopes; store = x .store; refusal = checkEvent O s e (x .scopes) }) n) ∙ sym d
@@ -146,18 +146,20 @@ pub refine : (O : Outside) (s : Sheet) → kind s 0 ≡ 0 → (room : Room) (h :
 unfolding runState
 refine O s hd room h z [] x over g = accepted refl (subst (λ (l : List Moment). StateAgrees O s room l z x) (sym (append-nil h)) g)
 refine O s hd room h z (e ∷ es) x (next pr un w₁ w₂ r₁ r₂ rs out r₃ w) g =
-    by (eqb (askEvent O s e z .number) 0) refl (λ q. refine O s hd room (h ++ record { event = e; stack = z } ∷ []) (step s z e) es (stepState O s e x) (w q) (state-step O s hd room h z e x pr un w₁ w₂ r₁ r₂ rs out r₃ q g))
+    by (eqb (askEvent O s e (openOn s z) .number) 0) refl
+    (λ q. refine O s hd room (h ++ record { event = e; stack = z } ∷ []) (step s z e) es (stepState O s e x) (w q) (state-step O s hd room h z e x pr un w₁ w₂ r₁ r₂ rs out r₃ q g))
   where
-    pass : askEvent O s e z .number ≡ 0 → Ends O s room (h ++ record { event = e; stack = z } ∷ []) (step s z e) es (runState O s es (stepState O s e x)) → Ends O s room h z (e ∷ es) (runState O s es (stepState O s e x))
+    pass : askEvent O s e (openOn s z) .number ≡ 0
+        → Ends O s room (h ++ record { event = e; stack = z } ∷ []) (step s z e) es (runState O s es (stepState O s e x)) → Ends O s room h z (e ∷ es) (runState O s es (stepState O s e x))
     pass q (accepted n i) =
         accepted (numbers (no-later O s z e es q) ∙ n)
         (subst (λ (l : List Moment). StateAgrees O s room l (run s (step s z e) es) (runState O s es (stepState O s e x))) (append-assoc h (record { event = e; stack = z } ∷ []) (moments s (step s z e) es)) i)
     pass q (refused n i) = refused (λ k. n (sym (numbers (no-later O s z e es q)) ∙ k)) (i ∙ sym (no-later O s z e es q))
 
-    by : (t : Bool) → eqb (askEvent O s e z .number) 0 ≡ t
-        → (askEvent O s e z .number ≡ 0 → Ends O s room (h ++ record { event = e; stack = z } ∷ []) (step s z e) es (runState O s es (stepState O s e x)))
+    by : (t : Bool) → eqb (askEvent O s e (openOn s z) .number) 0 ≡ t
+        → (askEvent O s e (openOn s z) .number ≡ 0 → Ends O s room (h ++ record { event = e; stack = z } ∷ []) (step s z e) es (runState O s es (stepState O s e x)))
         → Ends O s room h z (e ∷ es) (runState O s es (stepState O s e x))
-    by true q i = pass (eqb-true (askEvent O s e z .number) 0 q) (i (eqb-true (askEvent O s e z .number) 0 q))
+    by true q i = pass (eqb-true (askEvent O s e (openOn s z) .number) 0 q) (i (eqb-true (askEvent O s e (openOn s z) .number) 0 q))
     by false q i =
-        let n : askEvent O s e z .number ≡ 0 → ⊥ = eqb-false (askEvent O s e z .number) 0 q in
+        let n : askEvent O s e (openOn s z) .number ≡ 0 → ⊥ = eqb-false (askEvent O s e (openOn s z) .number) 0 q in
         refused (λ k. n (sym (numbers (no-here O s z e es n)) ∙ k)) (refused-here O s z e es x (g .opened) (g .agreed) n ∙ sym (no-here O s z e es n))

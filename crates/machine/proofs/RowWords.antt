@@ -15,7 +15,7 @@ use Rattle.definition.specs.Scope.{Stack, Moment, lookup, around, inside, withi
 use Rattle.definition.specs.Slots.{isMutable, openLocals, code}
 use Rattle.definition.specs.Capture.{Use, useAt, beyond, isOuter, same, captures, seenFrom}
 use Rattle.definition.specs.Classes.{methodNamed, ownMethods}
-use Rattle.definition.specs.Question.{receiver}
+use Rattle.definition.specs.Question.{openOn, receiver}
 use Rattle.definition.proofs.Lists.Members.{filter-append}
 use Rattle.machine.specs.Machine.{Node, Store, listAt, Scopes, currentFunction, lookupMeaning, lookupSlot, lookupGlobal, newMeaning, codeOf, fourWords, writeRow, visitsKind, declaresLet, eventRow, receiverClass, writtenRow, writtenWords, seenIn, storeRow}
 use Rattle.machine.specs.Reads.{rowWords}
@@ -33,7 +33,7 @@ abbrev pub rowWritten : Sheet → Event → Stack → ℕ
 rowWritten s e st =
     if declaresLet s e || visitsKind s 50 e || visitsKind s 51 e || visitsKind s 52 e || visitsKind s 55 e then eventRow e
     else if visitsKind s 30 e && is s 4 (a s (eventRow e)) then a s (eventRow e)
-    else if visitsKind s 59 e && not (eqb (receiver s (eventRow e) st) 0) then child s (eventRow e)
+    else if visitsKind s 59 e && not (eqb (receiver s (eventRow e) (openOn s st)) 0) then child s (eventRow e)
     else 0
 
 -- what it writes: code and values; of a literal the function in which it stands, of a class its parent
@@ -45,7 +45,7 @@ wordsWritten O s h m =
     else if visitsKind s 52 (m .event) then 1 ∷ within s m ∷ []
     else if visitsKind s 55 (m .event) then 2 ∷ classNumber (lookup (a s (eventRow (m .event))) (m .stack)) ∷ []
     else if visitsKind s 30 (m .event) then 2 ∷ classNumber (lookup (b s (a s (eventRow (m .event)))) (m .stack)) ∷ []
-    else 1 ∷ methodNamed (a s (child s (eventRow (m .event)))) (ownMethods O s (receiver s (eventRow (m .event)) (m .stack))) ∷ []
+    else 1 ∷ methodNamed (a s (child s (eventRow (m .event)))) (ownMethods O s (receiver s (eventRow (m .event)) (openOn s (m .stack)))) ∷ []
 
 -- does the identifier of a moment mean a local or argument of another function?
 abbrev pub outside : Sheet → Moment → Bool
@@ -109,7 +109,7 @@ words-on O s h m′ m q =
         else if visitsKind s 52 (m .event) then 1 ∷ within s m ∷ []
         else if visitsKind s 55 (m .event) then 2 ∷ classNumber (lookup (a s (eventRow (m .event))) (m .stack)) ∷ []
         else if visitsKind s 30 (m .event) then 2 ∷ classNumber (lookup (b s (a s (eventRow (m .event)))) (m .stack)) ∷ []
-        else 1 ∷ methodNamed (a s (child s (eventRow (m .event)))) (ownMethods O s (receiver s (eventRow (m .event)) (m .stack))) ∷ []
+        else 1 ∷ methodNamed (a s (child s (eventRow (m .event)))) (ownMethods O s (receiver s (eventRow (m .event)) (openOn s (m .stack)))) ∷ []
 
     go : (t u : Bool)
         → (t ≡ true → code s (h ++ m′ ∷ []) (declared s (eventRow (m .event)) (within s m)) (openLocals s (m .stack)) ≡ code s h (declared s (eventRow (m .event)) (within s m)) (openLocals s (m .stack)))

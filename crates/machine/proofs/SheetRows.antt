@@ -13,7 +13,7 @@ use Rattle.definition.specs.Sheet.{Sheet, kind, rows, is, child, holder}
 use Rattle.definition.specs.Outside.{Outside}
 use Rattle.definition.specs.Walk.{Event, visit, after, walk}
 use Rattle.definition.specs.Scope.{Moment, start, history, visitOf, visited, within, around}
-use Rattle.definition.specs.Question.{receiver}
+use Rattle.definition.specs.Question.{openOn, receiver}
 use Rattle.definition.specs.Answer.{eight, letRow, identifierRow, hostRow, instanceRow, literalRows, memberRow, functionRows}
 use Rattle.definition.proofs.Lists.Tests.{true-of, and-left, and-right, eqb-of}
 use Rattle.definition.proofs.Lists.Members.{map-mem, filter-mem, from-mem, count-filter}
@@ -127,9 +127,10 @@ module _ (n : ℕ) {O : Outside} {s : Sheet} (ok : Fits O s) (fa : SheetFacts n 
   at-holder : (r : ℕ) → (r ≡ 0 → ⊥) → (m : Moment) → Mem m (history O s) → T (isMemberCall s r m) → (visited (m .event) ≡ holder s r) × T (is s 59 (visited (m .event)))
   at-holder r nz m q h =
       let v : ℕ = visited (m .event) in
-      let front : T (is s 59 v && not (eqb (receiver s (visited (m .event)) (m .stack)) 0)) = and-left (is s 59 v && not (eqb (receiver s (visited (m .event)) (m .stack)) 0)) (eqb (child s v) r) h in
-      let call : T (is s 59 v) = and-left (is s 59 v) (not (eqb (receiver s (visited (m .event)) (m .stack)) 0)) front in
-      let c : child s v ≡ r = eqb→eq (child s v) r (and-right (is s 59 v && not (eqb (receiver s (visited (m .event)) (m .stack)) 0)) (eqb (child s v) r) h) in
+      let front : T (is s 59 v && not (eqb (receiver s (visited (m .event)) (openOn s (m .stack))) 0)) =
+      and-left (is s 59 v && not (eqb (receiver s (visited (m .event)) (openOn s (m .stack))) 0)) (eqb (child s v) r) h in
+      let call : T (is s 59 v) = and-left (is s 59 v) (not (eqb (receiver s (visited (m .event)) (openOn s (m .stack))) 0)) front in
+      let c : child s v ≡ r = eqb→eq (child s v) r (and-right (is s 59 v && not (eqb (receiver s (visited (m .event)) (openOn s (m .stack))) 0)) (eqb (child s v) r) h) in
       let lv : v < rows s = visit-range n ok fa m v q (visited-event (m .event) v refl (kind-not-zero ok 59 v tt call)) in
       (sym (sym (ap (holder s) c) ∙ child-held s (ok .links) v lv (nonzero (child s v) (λ z. nz (sym c ∙ z)))), call)
 

@@ -17,7 +17,7 @@ use Rattle.definition.specs.Scope.{Stack, Moment, lookup, around, inside, withi
 use Rattle.definition.specs.Slots.{isLocal, openLocals, localCount}
 use Rattle.definition.specs.Capture.{Use, useAt, beyond, same, captures}
 use Rattle.definition.specs.Classes.{classOf, registered}
-use Rattle.definition.specs.Question.{constructed, receiver}
+use Rattle.definition.specs.Question.{openOn, constructed, receiver}
 use Rattle.definition.specs.Answer.{classCalls}
 use Rattle.definition.proofs.Lists.Tests.{and-both, T-true, true-of}
 use Rattle.definition.proofs.Lists.Members.{map-append}
@@ -202,13 +202,14 @@ isHidden s h r = any (λ m. eqb (child s (child s (visited (m .event)))) r) (cla
 
 hidden-snoc : (s : Sheet) (h : List Moment) (m : Moment) (r : ℕ)
     → bit (isHidden s (h ++ m ∷ []) r)
-    ≡ (if is s 59 (visited (m .event)) && not (eqb (receiver s (visited (m .event)) (m .stack)) 0)
+    ≡ (if is s 59 (visited (m .event)) && not (eqb (receiver s (visited (m .event)) (openOn s (m .stack))) 0)
     then (if eqb (child s (child s (visited (m .event)))) r then 1 else bit (isHidden s h r)) else bit (isHidden s h r))
 hidden-snoc s h m r =
     ap (λ (l : List Moment). bit (any (λ x. eqb (child s (child s (visited (x .event)))) r) l))
-    (filter2-snoc (λ x. not (eqb (receiver s (visited (x .event)) (x .stack)) 0)) (λ x. is s 59 (visited (x .event))) h m)
-    ∙ ap bit (any-append (λ x. eqb (child s (child s (visited (x .event)))) r) (classCalls s h) (only (is s 59 (visited (m .event)) && not (eqb (receiver s (visited (m .event)) (m .stack)) 0)) m))
-    ∙ go (is s 59 (visited (m .event)) && not (eqb (receiver s (visited (m .event)) (m .stack)) 0)) (isHidden s h r) (eqb (child s (child s (visited (m .event)))) r) refl
+    (filter2-snoc (λ x. not (eqb (receiver s (visited (x .event)) (openOn s (x .stack))) 0)) (λ x. is s 59 (visited (x .event))) h m)
+    ∙ ap bit (any-append (λ x. eqb (child s (child s (visited (x .event)))) r) (classCalls s h)
+    (only (is s 59 (visited (m .event)) && not (eqb (receiver s (visited (m .event)) (openOn s (m .stack))) 0)) m))
+    ∙ go (is s 59 (visited (m .event)) && not (eqb (receiver s (visited (m .event)) (openOn s (m .stack))) 0)) (isHidden s h r) (eqb (child s (child s (visited (m .event)))) r) refl
   where
     go : (t u v : Bool) → eqb (child s (child s (visited (m .event)))) r ≡ v
         → bit (u || any (λ x. eqb (child s (child s (visited (x .event)))) r) (only t m)) ≡ (if t then (if v then 1 else bit u) else bit u)
@@ -255,11 +256,12 @@ module _ (O : Outside) (s : Sheet) (hd : kind s 0 ≡ 0) (h : List Moment) (z : 
 -- Constructor calls, in the walk's order.
 calls-snoc : (s : Sheet) (h : List Moment) (m : Moment)
     → map (callNode s) (callsOf s (h ++ m ∷ []))
-    ≡ (if is s 59 (visited (m .event)) && not (eqb (constructed s (visited (m .event)) (m .stack)) 0) then map (callNode s) (callsOf s h) ++ callNode s m ∷ [] else map (callNode s) (callsOf s h))
+    ≡ (if is s 59 (visited (m .event)) && not (eqb (constructed s (visited (m .event)) (openOn s (m .stack))) 0)
+    then map (callNode s) (callsOf s h) ++ callNode s m ∷ [] else map (callNode s) (callsOf s h))
 calls-snoc s h m =
-    ap (map (callNode s)) (filter2-snoc (λ x. not (eqb (constructed s (visited (x .event)) (x .stack)) 0)) (λ x. is s 59 (visited (x .event))) h m)
-    ∙ map-append (callNode s) (callsOf s h) (only (is s 59 (visited (m .event)) && not (eqb (constructed s (visited (m .event)) (m .stack)) 0)) m)
-    ∙ go (is s 59 (visited (m .event)) && not (eqb (constructed s (visited (m .event)) (m .stack)) 0))
+    ap (map (callNode s)) (filter2-snoc (λ x. not (eqb (constructed s (visited (x .event)) (openOn s (x .stack))) 0)) (λ x. is s 59 (visited (x .event))) h m)
+    ∙ map-append (callNode s) (callsOf s h) (only (is s 59 (visited (m .event)) && not (eqb (constructed s (visited (m .event)) (openOn s (m .stack))) 0)) m)
+    ∙ go (is s 59 (visited (m .event)) && not (eqb (constructed s (visited (m .event)) (openOn s (m .stack))) 0))
   where
     go : (t : Bool) → map (callNode s) (callsOf s h) ++ map (callNode s) (only t m) ≡ (if t then map (callNode s) (callsOf s h) ++ callNode s m ∷ [] else map (callNode s) (callsOf s h))
     go true = refl

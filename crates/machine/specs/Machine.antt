@@ -9,13 +9,13 @@ use lib.Seq.{sets}
 use lib.Dec.{eqb, leb, ltb}
 use Rattle.definition.specs.Basics.{if_then_else_, any, place, bit, _∈?_}
 use Rattle.definition.specs.Sheet.{Sheet, child, a, b, is, kidsOf}
-use Rattle.definition.specs.Meaning.{Meaning, Named, nothing, function, class, global, toplevel, variable, rowOf, ownerOf, isVariable, isToplevel, classNumber, isDeclared, isClass}
-use Rattle.definition.specs.Outside.{Outside, Method}
-use Rattle.definition.specs.Walk.{Event, enter, leave, loop, declare, bring, visit, literalLet}
+use Rattle.definition.specs.Meaning.{Meaning, Named, nothing, function, class, global, toplevel, variable, rowOf, ownerOf, isVariable, isToplevel, classNumber}
+use Rattle.definition.specs.Outside.{Outside}
+use Rattle.definition.specs.Walk.{Event, enter, leave, loop, declare, bring, visit}
 use Rattle.definition.specs.Scope.{declared}
 use Rattle.definition.specs.Slots.{isLocal, isMutable}
-use Rattle.definition.specs.Classes.{hasRecord, methodNamed, methodOf, ownMethods, classOf}
-use Rattle.definition.specs.Question.{Refusal, none, ask, arguments}
+use Rattle.definition.specs.Classes.{methodNamed, ownMethods, classOf}
+use Rattle.definition.specs.Question.{Refusal, none, Open, constructed, receiver, askVisit, askEvent}
 
 -- word c of open entry i, of five
 abbrev pub entryWord : List ℕ → ℕ → ℕ → ℕ
@@ -339,13 +339,17 @@ eventRow (declare r) = r
 eventRow (bring r n d) = 0
 eventRow (visit r) = r
 
+-- what the questions read of the open scopes
+abbrev pub openIn : Sheet → Scopes → Open
+openIn s p = record { means = lookupMeaning p; isTaken = λ m. takenIn (p .env) m (p .count); isLooping = loopIn s (p .env) (p .count) }
+
 -- the class that call r constructs, or 0
 abbrev pub constructedClass : Sheet → ℕ → Scopes → ℕ
-constructedClass s r p = if is s 50 (child s r) then classNumber (lookupMeaning p (a s (child s r))) else 0
+constructedClass s r p = constructed s r (openIn s p)
 
 -- the class on which call r calls a method, or 0
 abbrev pub receiverClass : Sheet → ℕ → Scopes → ℕ
-receiverClass s r p = if is s 54 (child s r) && is s 50 (child s (child s r)) then classNumber (lookupMeaning p (a s (child s (child s r)))) else 0
+receiverClass s r p = receiver s r (openIn s p)
 
 -- an event's constructor call stored
 unfoldable pub storeCall : Sheet → Event → Scopes → Store → Store
@@ -430,38 +434,13 @@ storeRow O s e p o = writeRowAt (writtenRow s e p) (writtenWords O s e p o) o
 unfoldable pub stepStore : Outside → Sheet → Event → Scopes → Store → Store
 stepStore O s e p o = storeRow O s e p (storeHidden s e p (storeLocal s e p (storeCapture s e p (storeField s e p (storeCall s e p o)))))
 
--- the questions on the callee of call r
-abbrev pub checkCallee : Outside → Sheet → ℕ → Scopes → Refusal
-checkCallee O s r p =
-    let callee : ℕ = child s r in
-    let c : ℕ = receiverClass s r p in
-    let m : Method = methodOf (a s callee) (ownMethods O s c) in
-    if not (eqb (constructedClass s r p) 0) then ask 12 callee (a s callee) (hasRecord O s (constructedClass s r p))
-    else if eqb c 0 then none
-    else if not (hasRecord O s c) then ask 17 callee (a s callee) false
-    else if eqb (m .fun) 0 then ask 13 callee (a s callee) false
-    else ask 14 callee (a s callee) (eqb (arguments s r) (m .params))
-
 -- the question on row r when it is visited
 abbrev pub checkVisit : Outside → Sheet → ℕ → Scopes → Refusal
-checkVisit O s r p =
-    if is s 23 r || is s 24 r then ask 5 r 0 (loopIn s (p .env) (p .count))
-    else if is s 21 r then ask 6 r (a s (child s r)) (not (is s 50 (child s r)) || isMutable s (lookupMeaning p (a s (child s r))))
-    else if is s 50 r then ask (if eqb (a s r) 22 then 9 else 8) r (a s r) (isDeclared (lookupMeaning p (a s r)))
-    else if is s 55 r then ask 10 r (a s r) (isClass (lookupMeaning p (a s r)))
-    else if is s 30 r then ask 11 r (b s (a s r)) (eqb (b s (a s r)) 0 || isClass (lookupMeaning p (b s (a s r))))
-    else if is s 51 r then ask 17 r (a s r) (eqb (a s r) 24)
-    else if is s 59 r then checkCallee O s r p
-    else none
+checkVisit O s r p = askVisit O s r (openIn s p)
 
 -- the question at an event
 unfoldable pub checkEvent : Outside → Sheet → Event → Scopes → Refusal
-checkEvent O s (enter r) p = none
-checkEvent O s leave p = none
-checkEvent O s loop p = none
-checkEvent O s (declare r) p = ask (if is s 29 r && not (literalLet s r) then 7 else 16) r (a s r) (not (takenIn (p .env) (a s r) (p .count)))
-checkEvent O s (bring r n d) p = if isDeclared d then ask 16 r n (not (takenIn (p .env) n (p .count))) else ask 15 r n false
-checkEvent O s (visit r) p = checkVisit O s r p
+checkEvent O s e p = askEvent O s e (openIn s p)
 
 -- the state after an event: unchanged after a refusal; refused by its question; or stepped
 unfoldable pub stepState : Outside → Sheet → Event → State → State

@@ -1,6 +1,6 @@
 -- What the program reads off its state after the walk, and the statements that it is what the definition says.
 use mathlib.Core.Path.{_≡_}
-use mathlib.Core.Bool.{Bool, false, not, _&&_}
+use mathlib.Core.Bool.{Bool, not, _&&_}
 use mathlib.Core.List.{List, [], _∷_, _++_, map}
 use Prim.Native.Nat.{ℕ, suc, _+_, _*_, _<_, _≤_}
 use lib.ListN.{length}
@@ -8,11 +8,11 @@ use lib.Dec.{eqb, T}
 use Rattle.definition.specs.Basics.{if_then_else_, filter, any, distinct, from, concatMap}
 use Rattle.definition.specs.Sheet.{Sheet, rows, child, a, is, kidsOf}
 use Rattle.definition.specs.Meaning.{Meaning, variable}
-use Rattle.definition.specs.Outside.{Outside, Method, OutsideFits}
+use Rattle.definition.specs.Outside.{Outside, OutsideFits}
 use Rattle.definition.specs.Scope.{Moment, visited, visits, history}
 use Rattle.definition.specs.Slots.{isMutable, finalGlobals}
-use Rattle.definition.specs.Classes.{ownFields, parentOf, methodOf, methods, className}
-use Rattle.definition.specs.Question.{Refusal, ask, firstNo, askEvent, askClimb, constructed, arguments, refusal}
+use Rattle.definition.specs.Classes.{ownFields, parentOf, methods}
+use Rattle.definition.specs.Question.{Refusal, firstNo, openOn, constructed, askEvent, askClimb, firstOfClasses, askInit, refusal}
 use Rattle.definition.specs.Format.{sheetFits, depthsFit}
 use Rattle.definition.specs.Outcome.{rowsFit}
 use Rattle.definition.specs.Answer.{eight, letRow, identifierRow, hostRow, instanceRow, memberRow, literalRows, functionRows}
@@ -48,11 +48,11 @@ listedFields s c = map (a s) (kidsOf s 10 c)
 
 -- the moments at which a constructor is called
 abbrev pub callsOf : Sheet → List Moment → List Moment
-callsOf s h = filter (λ m. not (eqb (constructed s (visited (m .event)) (m .stack)) 0)) (visits s h 59)
+callsOf s h = filter (λ m. not (eqb (constructed s (visited (m .event)) (openOn s (m .stack))) 0)) (visits s h 59)
 
 -- the node of a constructor call: its row and its class
 abbrev pub callNode : Sheet → Moment → Node
-callNode s m = record { key = visited (m .event); one = constructed s (visited (m .event)) (m .stack); two = 0 }
+callNode s m = record { key = visited (m .event); one = constructed s (visited (m .event)) (openOn s (m .stack)); two = 0 }
 
 -- Of the store o after the walk over sheet s, with all answer rows of a row in the definition's order:
 pub record StoreReads (O : Outside) (s : Sheet) (o : Store) : Type 0 where
@@ -90,20 +90,17 @@ pub record PastFour (O : Outside) (s : Sheet) : Type 0 where
 
 -- the questions 20 and 21 on a stored constructor call
 abbrev pub checkCall : Outside → Sheet → List Moment → Node → Refusal
-checkCall O s h y =
-    let m : Method = methodOf 23 (methods O s h (rows s) (y .one)) in
-    if eqb (m .fun) 0 then ask 20 (child s (y .key)) (className O s (y .one)) false
-    else ask 21 (child s (y .key)) (className O s (y .one)) (eqb (arguments s (y .key) + 1) (m .params))
+checkCall O s h y = askInit O s (methods O s h (rows s) (y .one)) (y .key) (y .one)
 
 -- the first no of the questions that the walk asks, 5 to 17
 abbrev pub walkRefusal : Outside → Sheet → Refusal
-walkRefusal O s = firstNo (map (λ m. askEvent O s (m .event) (m .stack)) (history O s))
+walkRefusal O s = firstNo (map (λ m. askEvent O s (m .event) (openOn s (m .stack))) (history O s))
 
 -- the first no after the walk: of the classes in row order, then of the stored constructor calls
 abbrev pub laterRefusal : Outside → Sheet → Store → Refusal
 laterRefusal O s o =
     firstNo (
-    firstNo (map (λ r. askClimb O s (history O s) (suc (rows s)) [] (256 + r)) (filter (is s 4) (from 0 (rows s))))
+    firstOfClasses s (askClimb O s (parentOf s (history O s)) (suc (rows s)) [])
     ∷ firstNo (map (checkCall O s (history O s)) (chainTo (o .nodes) (o .calls)))
     ∷ [])
 

@@ -571,7 +571,7 @@ module _ (last : ℕ) (s : Sheet) (t m : List ℕ) (some : 0 < rows s) (few : ro
   places-all p (x ∷ xs) h (suc i) l = places-all p xs (T-and (p x) (all p xs) h .1) i (omega arith)
 
   depths-long : length (tables s .depths) ≡ rows s
-  depths-long = table-length (depthEntry s (parentTable s)) (rows s)
+  depths-long = table-length (depthEntry (parentTable s)) (rows s)
 
   pub question-4 : sheetFits last s ≡ true → all (depthOk (rowsNoted s (rows s) 0 t)) (from 0 (rows s)) ≡ depthsFit s
   unfolding depthOk

@@ -273,14 +273,14 @@ module _ (s : Sheet) (ok : LinkFacts s) where
   parent-is r l = map-below (holder s) (rows s) r l
 
   pub depth-header : 0 < rows s → at (tables s .depths) 0 ≡ 0
-  depth-header l = table-at (depthEntry s (parentTable s)) (rows s) 0 l
+  depth-header l = table-at (depthEntry (parentTable s)) (rows s) 0 l
 
   local-entry : (r : ℕ) → 0 < r → r < rows s → parent (tables s) r < r
   local-entry r z l = omega (arith, parent-is r l, held r z l .1)
 
   pub depth-step : (r : ℕ) → 0 < r → r < rows s → at (tables s .depths) r ≡ suc (at (tables s .depths) (holder s r))
   depth-step r z l =
-      table-from (depthEntry s (parentTable s)) (rows s) r (parent (tables s) r) l (local-entry r z l) (λ t u e. ap (λ (x : ℕ). if eqb r 0 then 0 else suc x) e)
+      table-from (depthEntry (parentTable s)) (rows s) r (parent (tables s) r) l (local-entry r z l) (λ t u e. ap (λ (x : ℕ). if eqb r 0 then 0 else suc x) e)
       ∙ go (eqb r 0) refl ∙ ap (λ (p : ℕ). suc (at (tables s .depths) p)) (parent-is r l)
     where
       go : (t : Bool) → eqb r 0 ≡ t → (if t then 0 else suc (at (tables s .depths) (parent (tables s) r))) ≡ suc (at (tables s .depths) (parent (tables s) r))
