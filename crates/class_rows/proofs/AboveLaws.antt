@@ -10,7 +10,7 @@ use borrow.Author.Tests.{eq-eqb, ne-eqb, ltb-true, le-leb, lt-leb, leb-true}
 use Rattle.definition.specs.Basics.{if_then_else_}
 use Rattle.definition.specs.Sheet.{rows}
 use Rattle.definition.specs.Outside.{Outside, Method}
-use Rattle.definition.specs.Classes.{methodNamed}
+use Rattle.definition.specs.Classes.{ofSheet, methodNamed}
 use Rattle.machine.specs.Machine.{Store as Stored}
 use Rattle.after.specs.Inherited.{parentIn, methodsIn}
 use Rattle.sink.specs.Sink.{sink, emitAll}
@@ -130,21 +130,22 @@ module _ {O : Outside} {s t q places w : List ℕ} {r k : ℕ} (h : Placed O s t
   parent-below : (i : ℕ) → at ≡ suc i → (p - 256 < r) × ((o : Store) → parentIn s (storeOf o t q) (256 + r) ≡ 256 + (p - 256))
   parent-below i z = (h .told (p - 256) i (found i z .1) .0, λ o. omega (arith, e o, found i z .0))
 
-  pub line-steady : true ≡ (not (eqb at 0) || (ltb p 256 && ltb 0 r)) → (o : Store)
+  pub line-steady : true ≡ (not (eqb at 0) || (not (ofSheet s p) && ltb 0 r)) → (o : Store)
       → ((j : ℕ) → Steady O s (storeOf o t q) (namesIn O s (storeOf o t q) j) r) × Steady O s (storeOf o t q) (methodsIn O s (storeOf o t q)) r
   line-steady g o = go at refl g
     where
       st : Stored
       st = storeOf o t q
 
-      outside : (u v : Bool) → ltb p 256 ≡ u → ltb 0 r ≡ v → true ≡ (u && v) → ((j : ℕ) → Steady O s st (namesIn O s st j) r) × Steady O s st (methodsIn O s st) r
-      outside true true b c d =
-          (names-outside O s st r l (ltb-true 0 r c) (omega (arith, ltb-true p 256 b, e o)), methods-outside O s st r l (ltb-true 0 r c) (omega (arith, ltb-true p 256 b, e o)))
-      outside true false b c d = absurd (subst T d tt)
-      outside false v b c d = absurd (subst T d tt)
+      outside : (u v : Bool) → ofSheet s p ≡ u → ltb 0 r ≡ v → true ≡ (not u && v) → ((j : ℕ) → Steady O s st (namesIn O s st j) r) × Steady O s st (methodsIn O s st) r
+      outside false true b c d =
+          let none : ofSheet s (parentIn s st (256 + r)) ≡ false = ap (ofSheet s) (sym (e o)) ∙ b in
+          (names-outside O s st r l (ltb-true 0 r c) none, methods-outside O s st r l (ltb-true 0 r c) none)
+      outside false false b c d = absurd (subst T d tt)
+      outside true v b c d = absurd (subst T d tt)
 
-      go : (x : ℕ) → at ≡ x → true ≡ (not (eqb x 0) || (ltb p 256 && ltb 0 r)) → ((j : ℕ) → Steady O s st (namesIn O s st j) r) × Steady O s st (methodsIn O s st) r
-      go zero z d = outside (ltb p 256) (ltb 0 r) refl refl d
+      go : (x : ℕ) → at ≡ x → true ≡ (not (eqb x 0) || (not (ofSheet s p) && ltb 0 r)) → ((j : ℕ) → Steady O s st (namesIn O s st j) r) × Steady O s st (methodsIn O s st) r
+      go zero z d = outside (ofSheet s p) (ltb 0 r) refl refl d
       go (suc i) z d = (
         λ j. names-below O s st r l (p - 256) (parent-below i z .0) (parent-below i z .1 o) j (parent-stands i z o .stable j),
         methods-below O s st r l (p - 256) (parent-below i z .0) (parent-below i z .1 o) (parent-stands i z o .stableMethods),

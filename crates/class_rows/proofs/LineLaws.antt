@@ -9,7 +9,7 @@ use lib.ListN.{length, getD, length-append}
 use borrow.Author.Tests.{eq-eqb, ne-eqb, eqb-true, eqb-false}
 use Rattle.definition.specs.Basics.{if_then_else_, from}
 use Rattle.definition.specs.Sheet.{Sheet, rows}
-use Rattle.definition.specs.Outside.{Outside, OutsideFits}
+use Rattle.definition.specs.Outside.{Outside, Method}
 use Rattle.definition.specs.Classes.{ownMethods, methodNamed}
 use Rattle.machine.specs.Machine.{Store as Stored}
 use Rattle.after.specs.Inherited.{parentIn}
@@ -64,7 +64,7 @@ module _ (O : Outside) (s : Sheet) (w : Wanted) where
           ∙ sym (ap (λ (a : ℕ). putAll (copiedRow O s w v) (from i a) k) d)
 
 -- A copied row is the row that tells the name, if it tells the function that the parent has.
-module _ {O : Outside} (known : OutsideFits O) (s : Sheet) (o : Stored) (w : Wanted) (l : 0 < rows s) (g : parentIn s o (w .whole) ≡ 0 → ⊥) where
+module _ (O : Outside) (s : Sheet) (o : Stored) (w : Wanted) (l : 0 < rows s) (g : parentIn s o (w .whole) ≡ 0 → ⊥) where
   own-else : (m : ℕ) {f : ℕ} → f ≡ functionIn O s o (rows s - 1) (parentIn s o (w .whole)) m
       → (if eqb (methodNamed m (ownMethods O s (w .whole))) 0 then f else methodNamed m (ownMethods O s (w .whole))) ≡ functionIn O s o (rows s) (w .whole) m
   own-else m {f} e = go (eqb own 0) refl
@@ -73,8 +73,8 @@ module _ {O : Outside} (known : OutsideFits O) (s : Sheet) (o : Stored) (w : Wan
       own = methodNamed m (ownMethods O s (w .whole))
 
       go : (t : Bool) → eqb own 0 ≡ t → (if t then f else own) ≡ functionIn O s o (rows s) (w .whole) m
-      go true h = e ∙ method-up known s o m (rows s) (w .whole) l refl (eqb-true own 0 h) refl g
-      go false h = method-here known s o m (rows s) (w .whole) l refl (eqb-false own 0 h)
+      go true h = e ∙ ap (λ (y : Method). y .fun) (method-up O s o m (rows s) (w .whole) l refl (eqb-true own 0 h) refl g)
+      go false h = ap (λ (y : Method). y .fun) (method-here O s o m (rows s) (w .whole) l refl (eqb-false own 0 h))
 
   copied-row : (v : List ℕ) (i m k : ℕ) → getD v (8 * i + nameColumn (w .kind)) 0 ≡ m → ((w .kind ≡ 10 → ⊥) → getD v (8 * i + 3) 0 ≡ functionIn O s o (rows s - 1) (parentIn s o (w .whole)) m)
       → copiedRow O s w v i k ≡ nameRow O s o w m k

@@ -2,25 +2,26 @@
 use mathlib.Core.Path.{_≡_, refl, sym, ap, _∙_}
 use mathlib.Core.Bool.{Bool, true, false, not}
 use mathlib.Core.List.{List, [], _∷_, _++_, map}
-use Prim.Native.Nat.{ℕ, zero, suc, _+_, _-_, _<_, _≤_, min}
+use Prim.Native.Nat.{ℕ, zero, suc, _+_, _-_, _*_, _<_, _≤_, min}
 use native.Mathlib.Omega.{arith}
 use lib.Dec.{ltb}
-use lib.ListN.{length}
+use lib.ListN.{length, getD}
 use borrow.Author.Tests.{eq-eqb, ne-eqb, lt-ltb, le-ltb, ltb-true, ltb-false, le-leb, lt-leb}
-use Rattle.definition.specs.Basics.{filter, from, _∈?_}
+use Rattle.definition.specs.Basics.{if_then_else_, filter, _∈?_}
 use Rattle.definition.specs.Sheet.{Sheet, kind, next, child, a, rows, chain, is, kidsOf}
-use Rattle.definition.specs.Outside.{Outside, recordOf, core}
+use Rattle.definition.specs.Outside.{Outside}
+use Rattle.outside.specs.Words.{spacedAt}
+use Rattle.outside.specs.Found.{recordedNames}
 use Rattle.definition.specs.Classes.{ofSheet, methodNamed}
 use Rattle.definition.proofs.Lists.Members.{filter-append}
 use Rattle.machine.specs.Machine.{Store, Node, oneMore, cell, nodeWord, nodeAt, previous, chainTo, listAt}
-use Rattle.machine.specs.Reads.{listedFields}
 use Rattle.machine.proofs.ByKind.{list-none, list-more}
 use Rattle.after.specs.Inherited.{parentIn, methodsIn, ownFieldsIn}
 use Rattle.sink.specs.Sink.{Sink, emit}
-use Rattle.class_rows.specs.Names.{ownIn, namesIn, inherited, newOf}
+use Rattle.class_rows.specs.Names.{rowNames, ownIn, namesIn, inherited, newOf}
 use Rattle.class_rows.specs.Put.{Filled, nameRow, put, putAll}
 use Rattle.class_rows.specs.declared.put.Wanted.{Wanted}
-use Rattle.class_rows.proofs.NameLaws.{names-split, methods-none}
+use Rattle.class_rows.proofs.NameLaws.{names-split}
 
 pub more-fits : (n : ℕ) → n < 4294967295 → n + 1 ≡ oneMore n
 more-fits n l = let e : n + 1 ≡ suc n = omega arith in rw (lt-ltb n 4294967295 l, e)
@@ -72,17 +73,19 @@ module _ (f : ℕ → ℕ → List ℕ) where
     new-first : (m : ℕ) (ms : List ℕ) (k : Filled) {x : Filled} → x ≡ putAll f (newOf up (m ∷ [])) k → putAll f (newOf up ms) x ≡ putAll f (newOf up (m ∷ ms)) k
     new-first m ms k e = new-both (m ∷ []) ms k e refl
 
-    -- a range
-    pub range-end : (i n : ℕ) (k : Filled) → n ≤ 0 → k ≡ putAll f (newOf up (from i n)) k
-    range-end i zero k l = put-none k
-    range-end i (suc n) k l = absurd (omega arith)
+    -- n words from place p on, every d-th; m is the first
+    module _ (w : List ℕ) (d p n : ℕ) (k : Filled) where
+      pub spaced-end : n ≤ 0 → k ≡ putAll f (newOf up (spacedAt w d p n)) k
+      unfolding spacedAt
+      spaced-end l = let z : n ≡ 0 = omega arith in put-none k ∙ sym (ap (λ (i : ℕ). putAll f (newOf up (spacedAt w d p i)) k) z)
 
-    pub range-next : (i n : ℕ) (k : Filled) {x : Filled} → 0 < n → x ≡ putAll f (newOf up (i ∷ [])) k → putAll f (newOf up (from (i + 1) (n - 1))) x ≡ putAll f (newOf up (from i n)) k
-    range-next i zero k l e = absurd (omega arith)
-    range-next i (suc n) k l e =
-        let g : i + 1 ≡ suc i = omega arith in
-        let h : suc n - 1 ≡ n = omega arith in
-        rw (g, h) (new-first i (from (suc i) n) k e)
+      pub spaced-next : {m : ℕ} {x : Filled} → 0 < n → m ≡ getD w p 0 → x ≡ putAll f (newOf up (m ∷ [])) k
+          → putAll f (newOf up (spacedAt w d (p + d) (n - 1))) x ≡ putAll f (newOf up (spacedAt w d p n)) k
+      unfolding spacedAt
+      spaced-next {m} l g e =
+          let z : n ≡ suc (n - 1) = omega arith in
+          new-first m (spacedAt w d (p + d) (n - 1)) k e ∙ ap (λ (i : ℕ). putAll f (newOf up (i ∷ spacedAt w d (p + d) (n - 1))) k) g
+          ∙ sym (ap (λ (i : ℕ). putAll f (newOf up (spacedAt w d p i)) k) z)
 
 -- The names of the children of a kind, where n rows are left to look at from row k on.
 abbrev pub namesFrom : Sheet → ℕ → ℕ → ℕ → List ℕ
@@ -151,32 +154,32 @@ module _ (f : ℕ → ℕ → List ℕ) (up q : List ℕ) (p : ℕ) (k : Filled)
           ap (λ (i : ℕ). keysTo q i ++ m ∷ []) e ∙ ap (λ (i : ℕ). keysTo q (previous q (p - 1)) ++ i ∷ []) w
           ∙ sym (ap (keysTo q) z ∙ ap (map (λ (y : Node). y .key)) (list-more q (p - 1)) ∙ map-last (chainTo q (previous q (p - 1))) (nodeAt q (p - 1)))
 
--- Own names.
-module _ (f : ℕ → ℕ → List ℕ) (up : List ℕ) (c : ℕ) (k : Filled) where
-  pub outside-put : (n : ℕ) {x : Filled} → c ≡ n → x ≡ putAll f (newOf up (recordOf core n .fields)) k → x ≡ putAll f (newOf up (recordOf core c .fields)) k
-  outside-put n e h = h ∙ sym (ap (λ (i : ℕ). putAll f (newOf up (recordOf core i .fields)) k) e)
+-- Own names, by the row or the record of class c.
+append-none : (xs : List ℕ) → xs ≡ xs ++ []
+append-none [] = refl
+append-none (x ∷ xs) = ap (λ (l : List ℕ). x ∷ l) (append-none xs)
 
-  pub outside-left : (c ≡ 100 → ⊥) → (c ≡ 101 → ⊥) → (c ≡ 102 → ⊥) → k ≡ putAll f (newOf up (recordOf core c .fields)) k
-  outside-left g h i = rw (ne-eqb 100 c (λ e. g (sym e)), ne-eqb 101 c (λ e. h (sym e)), ne-eqb 102 c (λ e. i (sym e))) (put-none f k)
-
-  module _ (s : Sheet) (o : Store) (j : ℕ) where
-    -- the fields of a class row: listed, then stored
-    pub own-fields : {p : ℕ} {x y : Filled} → j ≡ 10 → true ≡ ofSheet s c → x ≡ putAll f (newOf up (map (a s) (kidsOf s j (c - 256)))) k → p ≡ cell (o .table) (c - 256) 7
-        → y ≡ putAll f (newOf up (keysTo (o .nodes) p)) x → y ≡ putAll f (newOf up (ownIn core s o j c)) k
-    unfolding ownIn ownFieldsIn listAt
-    own-fields {p} e t h w i = rw (e, sym t) (new-both f up (listedFields s (c - 256)) (keysTo (o .nodes) (cell (o .table) (c - 256) 7)) k (rw e at h) (rw w at i))
-
-    pub own-outside : {x : Filled} → j ≡ 10 → false ≡ ofSheet s c → x ≡ putAll f (newOf up (recordOf core c .fields)) k → x ≡ putAll f (newOf up (ownIn core s o j c)) k
-    unfolding ownIn ownFieldsIn
-    own-outside e t h = rw (e, sym t) h
-
-    pub own-children : {x : Filled} → (j ≡ 10 → ⊥) → true ≡ ofSheet s c → x ≡ putAll f (newOf up (map (a s) (kidsOf s j (c - 256)))) k → x ≡ putAll f (newOf up (ownIn core s o j c)) k
+module _ (O : Outside) (f : ℕ → ℕ → List ℕ) (up : List ℕ) (s : Sheet) (o : Store) (j c : ℕ) (k : Filled) where
+  module _ (t : true ≡ ofSheet s c) {x : Filled} (h : x ≡ putAll f (newOf up (map (a s) (kidsOf s j (c - 256)))) k) where
+    by-row : putAll f (newOf up (rowNames s o j (c - 256))) k ≡ putAll f (newOf up (ownIn O s o j c)) k
     unfolding ownIn
-    own-children e l h = rw (ne-eqb j 10 e, sym l) h
+    by-row = ap (λ (u : Bool). putAll f (newOf up (if u then rowNames s o j (c - 256) else recordedNames O j c)) k) t
 
-    pub own-nothing : (j ≡ 10 → ⊥) → false ≡ ofSheet s c → k ≡ putAll f (newOf up (ownIn core s o j c)) k
-    unfolding ownIn
-    own-nothing e l = rw (ne-eqb j 10 e, sym l, methods-none c) (put-none f k)
+    -- fields: listed, then stored
+    pub own-stored : {p : ℕ} {y : Filled} → j ≡ 10 → p ≡ cell (o .table) (c - 256) 7 → y ≡ putAll f (newOf up (keysTo (o .nodes) p)) x → y ≡ putAll f (newOf up (ownIn O s o j c)) k
+    unfolding rowNames listAt
+    own-stored e w i = new-both f up (map (a s) (kidsOf s j (c - 256))) (keysTo (o .nodes) (cell (o .table) (c - 256) 7)) k h (rw w at i)
+        ∙ ap (λ (u : Bool). putAll f (newOf up (map (a s) (kidsOf s j (c - 256)) ++ (if u then keysTo (o .nodes) (cell (o .table) (c - 256) 7) else []))) k) (sym (eq-eqb j 10 e)) ∙ by-row
+
+    -- methods: listed
+    pub own-listed : (j ≡ 10 → ⊥) → x ≡ putAll f (newOf up (ownIn O s o j c)) k
+    unfolding rowNames
+    own-listed e = h ∙ ap (λ (ms : List ℕ). putAll f (newOf up ms) k) (append-none (map (a s) (kidsOf s j (c - 256))))
+        ∙ ap (λ (u : Bool). putAll f (newOf up (map (a s) (kidsOf s j (c - 256)) ++ (if u then map (λ y. y .key) (listAt o (8 * (c - 256) + 7)) else []))) k) (sym (ne-eqb j 10 e)) ∙ by-row
+
+  pub own-recorded : {ms : List ℕ} {x : Filled} → false ≡ ofSheet s c → ms ≡ recordedNames O j c → x ≡ putAll f (newOf up ms) k → x ≡ putAll f (newOf up (ownIn O s o j c)) k
+  unfolding ownIn
+  own-recorded t e h = h ∙ ap (λ (ms : List ℕ). putAll f (newOf up ms) k) e ∙ ap (λ (u : Bool). putAll f (newOf up (if u then rowNames s o j (c - 256) else recordedNames O j c)) k) t
 
 -- Names after inheritance: above class c, with n classes left to climb, stands class p.
 pub names-zero : (O : Outside) (f : ℕ → ℕ → List ℕ) (s : Sheet) (o : Store) (j n c : ℕ) (k : Filled) → n ≡ 0 → k ≡ putAll f (namesIn O s o j n c) k

@@ -1,14 +1,14 @@
 -- Names and methods that a longer climb does not change.
 use mathlib.Core.Path.{_≡_, refl, sym, ap, _∙_}
+use mathlib.Core.Bool.{false}
 use mathlib.Core.List.{List}
 use Prim.Native.Nat.{ℕ, zero, suc, _+_, _-_, _<_, _≤_}
 use native.Mathlib.Omega.{arith}
 use lib.Dec.{eqb}
-use borrow.Author.Tests.{lt-leb}
 use Rattle.definition.specs.Basics.{if_then_else_}
 use Rattle.definition.specs.Sheet.{Sheet, rows}
 use Rattle.definition.specs.Outside.{Outside}
-use Rattle.definition.specs.Classes.{ownMethods, mergeFields, mergeMethods}
+use Rattle.definition.specs.Classes.{ofSheet, ownMethods, mergeFields, mergeMethods}
 use Rattle.machine.specs.Machine.{Store as Stored}
 use Rattle.after.specs.Inherited.{parentIn, methodsIn}
 use Rattle.class_rows.specs.Names.{ownIn, namesIn}
@@ -19,9 +19,9 @@ module _ (O : Outside) (s : Sheet) (o : Stored) where
   Steady f r = (n : ℕ) → r < n → f n (256 + r) ≡ f (rows s) (256 + r)
 
   -- a class from outside has no parent
-  outside-first : (p : ℕ) → p < 256 → parentIn s o p ≡ 0
+  outside-first : (p : ℕ) → ofSheet s p ≡ false → parentIn s o p ≡ 0
   unfolding parentIn
-  outside-first p l = rw (lt-leb 256 p l)
+  outside-first p l = rw l
 
   module _ {A : Type 0} (f : ℕ → ℕ → List A) (own : ℕ → List A) (merge : List A → List A → List A)
       (step : (n c : ℕ) → f (suc n) c ≡ (if eqb (parentIn s o c) 0 then own c else merge (f n (parentIn s o c)) (own c))) (r : ℕ) (l : r < rows s) where
@@ -34,7 +34,7 @@ module _ (O : Outside) (s : Sheet) (o : Stored) where
             ap (λ (i : ℕ). f i (256 + r)) z ∙ step (n - 1) (256 + r)
             ∙ ap (λ (u : List A). if eqb (parentIn s o (256 + r)) 0 then own (256 + r) else merge u (own (256 + r))) (h (n - 1) (omega arith))
 
-    steady-outside : 0 < r → parentIn s o (256 + r) < 256 → Steady f r
+    steady-outside : 0 < r → ofSheet s (parentIn s o (256 + r)) ≡ false → Steady f r
     steady-outside z b = steady-from (own (parentIn s o (256 + r))) (λ m h. top m (omega arith))
       where
         top : (m : ℕ) → 0 < m → f m (parentIn s o (256 + r)) ≡ own (parentIn s o (256 + r))
@@ -54,10 +54,10 @@ module _ (O : Outside) (s : Sheet) (o : Stored) where
 
   module _ (r : ℕ) (l : r < rows s) where
     -- below a class from outside, or with no parent
-    pub names-outside : 0 < r → parentIn s o (256 + r) < 256 → (j : ℕ) → Steady (namesIn O s o j) r
+    pub names-outside : 0 < r → ofSheet s (parentIn s o (256 + r)) ≡ false → (j : ℕ) → Steady (namesIn O s o j) r
     names-outside z b j = steady-outside (namesIn O s o j) (ownIn O s o j) mergeFields (names-by-parent j) r l z b
 
-    pub methods-outside : 0 < r → parentIn s o (256 + r) < 256 → Steady (methodsIn O s o) r
+    pub methods-outside : 0 < r → ofSheet s (parentIn s o (256 + r)) ≡ false → Steady (methodsIn O s o) r
     methods-outside z b = steady-outside (methodsIn O s o) (ownMethods O s) mergeMethods methods-by-parent r l z b
 
     -- below the class of row i

@@ -1,22 +1,27 @@
 -- The names of the fields or of the methods of a class, its own and after inheritance, told by the kind of their rows: 10 or 6.
 use mathlib.Core.Path.{_≡_}
 use mathlib.Core.Bool.{not, _&&_}
-use mathlib.Core.List.{List, [], _∷_, map}
-use Prim.Native.Nat.{ℕ, _+_, _-_, _<_, _≤_}
+use mathlib.Core.List.{List, [], _∷_, _++_, map}
+use Prim.Native.Nat.{ℕ, _+_, _-_, _*_, _<_, _≤_}
 use lib.Dec.{eqb, leb}
 use lib.ListN.{length, getD, set}
 use Rattle.definition.specs.Basics.{if_then_else_, filter, bit, _∈?_}
 use Rattle.definition.specs.Sheet.{Sheet, a, rows, is, kidsOf}
 use Rattle.definition.specs.Classes.{ofSheet, mergeFields, inheriting}
-use Rattle.definition.specs.Outside.{Outside, recordOf}
-use Rattle.machine.specs.Machine.{Store as Stored, cell}
-use Rattle.after.specs.Inherited.{parentIn, ownFieldsIn, fieldsIn, methodNamesIn, hasChildrenIn}
+use Rattle.definition.specs.Outside.{Outside}
+use Rattle.outside.specs.Found.{recordedNames}
+use Rattle.machine.specs.Machine.{Store as Stored, cell, listAt}
+use Rattle.after.specs.Inherited.{parentIn, fieldsIn, methodNamesIn, hasChildrenIn}
 use Rattle.store.specs.Stored.{storeOf}
 use Rattle.store.specs.declared.nodes.Store.{Store}
 
--- the own names of class c
+-- the own names of the class of row r: those that it lists, and of fields then those that the walk stored
+unfoldable pub rowNames : Sheet → Stored → ℕ → ℕ → List ℕ
+rowNames s o j r = map (a s) (kidsOf s j r) ++ (if eqb j 10 then map (λ y. y .key) (listAt o (8 * r + 7)) else [])
+
+-- the own names of class c: of its row, or of its record
 unfoldable pub ownIn : Outside → Sheet → Stored → ℕ → ℕ → List ℕ
-ownIn O s o j c = if eqb j 10 then ownFieldsIn O s o c else if ofSheet s c then map (a s) (kidsOf s j (c - 256)) else map (λ m. m .name) (recordOf O c .methods)
+ownIn O s o j c = if ofSheet s c then rowNames s o j (c - 256) else recordedNames O j c
 
 -- the names of class c after inheritance; n bounds the climb
 unfoldable pub namesIn : Outside → Sheet → Stored → ℕ → ℕ → ℕ → List ℕ

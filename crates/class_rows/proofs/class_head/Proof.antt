@@ -4,10 +4,10 @@ use Rattle.class_rows.proofs.ClassLaws.{head-row}
 use borrow.Author.Needs.{needs}
 use Rattle.class_rows.proofs.class_head.Statement.{statement}
 use Rattle.class_rows.proofs.class_head.Tie as tie
-use Rattle.definition.specs.Outside.{core}
+use Rattle.outside.specs.Words.{over}
 
-add-t13 : tie.Need-add-t13
-add-t13 c = search needs
+add-t14 : tie.Need-add-t14
+add-t14 c = search needs
 
 parent-of-requires : tie.Need-parent-of-requires
 parent-of-requires c κs = search needs
@@ -19,22 +19,22 @@ wanted-requires : tie.Need-wanted-requires
 wanted-requires c κs = search needs
 
 count-line-requires : tie.Need-count-line-requires
-count-line-requires c κs = (omega (arith, c .before .before .before .before .before .before .before .pre .0 .row), counted-wanted core (c .before .before .before .before .before .before .before .args .s .now) (c .before .before .before .before .before .before .before .args .t .now) (c .before .before .before .before .before .before .before .args .q .now) (c .wanted .ensures) (c .before .before .before .before .before .before .before .pre .1))
+count-line-requires c κs = (omega (arith, c .before .before .before .before .before .before .before .before .pre .0 .row), counted-wanted (over (c .before .before .before .before .before .before .before .before .args .outside .now)) (c .before .before .before .before .before .before .before .before .args .s .now) (c .before .before .before .before .before .before .before .before .args .t .now) (c .before .before .before .before .before .before .before .before .args .q .now) (c .wanted .ensures) (c .before .before .before .before .before .before .before .before .pre .1))
 
 wanted-requires-2 : tie.Need-wanted-requires-2
 wanted-requires-2 c κs = search needs
 
 count-line-requires-2 : tie.Need-count-line-requires-2
-count-line-requires-2 c κs = (omega (arith, c .before .before .before .before .before .before .before .before .before .pre .0 .row), counted-wanted core (c .before .before .before .before .before .before .before .before .before .args .s .now) (c .before .before .before .before .before .before .before .before .before .args .t .now) (c .before .before .before .before .before .before .before .before .before .args .q .now) (c .wanted2 .ensures) (c .before .before .before .before .before .before .before .before .before .pre .2))
+count-line-requires-2 c κs = (omega (arith, c .before .before .before .before .before .before .before .before .before .before .pre .0 .row), counted-wanted (over (c .before .before .before .before .before .before .before .before .before .before .args .outside .now)) (c .before .before .before .before .before .before .before .before .before .before .args .s .now) (c .before .before .before .before .before .before .before .before .before .before .args .t .now) (c .before .before .before .before .before .before .before .before .before .before .args .q .now) (c .wanted2 .ensures) (c .before .before .before .before .before .before .before .before .before .before .pre .2))
 
 returns : tie.Need-returns
-returns c = λ o. let a = c .before .before .before .before .before .before .before .before .before .before .args in head-row core (a .s .now) (a .t .now) (a .q .now) (a .marks .now) (a .r) (c .before .before .before .before .before .before .before .before .before .before .pre .0) o (c .before .before .before .before .before .parent-of .ensures o (a .q .now)) (c .before .before .before .before .mark-bit .ensures) (c .before .before .before .wanted .ensures) (c .before .before .count-line .ensures o) (c .before .wanted2 .ensures) (c .count-line2 .ensures o)
+returns c = λ o. let a = c .before .before .before .before .before .before .before .before .before .before .before .args in head-row (over (a .outside .now)) (a .s .now) (a .t .now) (a .q .now) (a .marks .now) (a .r) (c .before .before .before .before .before .before .before .before .before .before .before .pre .0) o (c .before .before .before .before .before .parent-of .ensures o (a .q .now)) (c .before .before .before .before .mark-bit .ensures) (c .before .before .before .wanted .ensures) (c .before .before .count-line .ensures o) (c .before .wanted2 .ensures) (c .count-line2 .ensures o)
 
 pub class-head-spec : {M : Type 1} → statement M
 class-head-spec =
     tie.close
     (tie.spec
-    add-t13
+    add-t14
     parent-of-requires
     mark-bit-requires
     wanted-requires

@@ -9,16 +9,16 @@ use Rattle.class_rows.proofs.AboveLaws.{entry-fits, fields-shown, metho
 use borrow.Author.Needs.{needs}
 use Rattle.class_rows.proofs.emit_class.Statement.{statement}
 use Rattle.class_rows.proofs.emit_class.Tie as tie
-use Rattle.definition.specs.Outside.{core}
+use Rattle.outside.specs.Words.{over}
 
 add-result : tie.Need-add-result
 add-result c = search needs
 
 returns : tie.Need-returns
-returns c = let a = c .before .before .before .before .before .before .before .args in let o : Store = record { used = 0; calls = 0 } in (λ o. class-full core (a .s .now) (storeOf o (a .t .now) (a .q .now)) (a .r) (a .k) (a .out .now) (c .if1 .taken), placed-kept (c .before .before .before .before .before .before .before .pre .1) _ (class-full core (a .s .now) (storeOf o (a .t .now) (a .q .now)) (a .r) (a .k) (a .out .now) (c .if1 .taken)))
+returns c = let a = c .before .before .before .before .before .before .before .before .args in let o : Store = record { used = 0; calls = 0 } in (λ o. class-full (over (a .outside .now)) (a .s .now) (storeOf o (a .t .now) (a .q .now)) (a .r) (a .k) (a .out .now) (c .if1 .taken), placed-kept (c .before .before .before .before .before .before .before .before .pre .1) _ (class-full (over (a .outside .now)) (a .s .now) (storeOf o (a .t .now) (a .q .now)) (a .r) (a .k) (a .out .now) (c .if1 .taken)))
 
-add-t18 : tie.Need-add-t18
-add-t18 c = search needs
+add-t19 : tie.Need-add-t19
+add-t19 c = search needs
 
 parent-of-requires : tie.Need-parent-of-requires
 parent-of-requires c κs = search needs
@@ -27,13 +27,13 @@ place-of-requires : tie.Need-place-of-requires
 place-of-requires c κs = search needs
 
 above-of-requires : tie.Need-above-of-requires
-above-of-requires c κs = entry-fits (c .before .before .before .before .before .before .before .before .before .before .before .pre .1) (c .before .before .before .before .before .before .before .before .before .before .before .pre .0 .row) (λ o. c .before .before .before .parent-of .ensures o (c .before .before .before .before .before .before .before .before .before .before .before .args .q .now)) (c .before .place-of .ensures)
+above-of-requires c κs = entry-fits (c .before .before .before .before .before .before .before .before .before .before .before .before .pre .1) (c .before .before .before .before .before .before .before .before .before .before .before .before .pre .0 .row) (λ o. c .before .before .before .parent-of .ensures o (c .before .before .before .before .before .before .before .before .before .before .before .before .args .q .now)) (c .before .place-of .ensures)
 
 above-of-requires-2 : tie.Need-above-of-requires-2
-above-of-requires-2 c κs = entry-fits (c .before .before .before .before .before .before .before .before .before .before .before .before .before .pre .1) (c .before .before .before .before .before .before .before .before .before .before .before .before .before .pre .0 .row) (λ o. c .before .before .before .before .before .parent-of .ensures o (c .before .before .before .before .before .before .before .before .before .before .before .before .before .args .q .now)) (c .before .before .before .place-of .ensures)
+above-of-requires-2 c κs = entry-fits (c .before .before .before .before .before .before .before .before .before .before .before .before .before .before .pre .1) (c .before .before .before .before .before .before .before .before .before .before .before .before .before .before .pre .0 .row) (λ o. c .before .before .before .before .before .parent-of .ensures o (c .before .before .before .before .before .before .before .before .before .before .before .before .before .before .args .q .now)) (c .before .before .before .place-of .ensures)
 
 write-class-requires : tie.Need-write-class-requires
-write-class-requires c κs = (c .before .before .before .before .before .before .before .before .before .before .before .before .before .before .before .pre .0, fields-shown (c .before .before .before .before .before .before .before .before .before .before .before .before .before .before .before .pre .1) (c .before .before .before .before .before .before .before .before .before .before .before .before .before .before .before .pre .0 .row) (λ o. c .before .before .before .before .before .before .before .parent-of .ensures o (c .before .before .before .before .before .before .before .before .before .before .before .before .before .before .before .args .q .now)) (c .before .before .before .before .before .place-of .ensures) (c .before .before .before .above-of .ensures), methods-shown (c .before .before .before .before .before .before .before .before .before .before .before .before .before .before .before .pre .1) (c .before .before .before .before .before .before .before .before .before .before .before .before .before .before .before .pre .0 .row) (λ o. c .before .before .before .before .before .before .before .parent-of .ensures o (c .before .before .before .before .before .before .before .before .before .before .before .before .before .before .before .args .q .now)) (c .before .before .before .before .before .place-of .ensures) (c .before .above-of2 .ensures))
+write-class-requires c κs = (c .before .before .before .before .before .before .before .before .before .before .before .before .before .before .before .before .pre .0, fields-shown (c .before .before .before .before .before .before .before .before .before .before .before .before .before .before .before .before .pre .1) (c .before .before .before .before .before .before .before .before .before .before .before .before .before .before .before .before .pre .0 .row) (λ o. c .before .before .before .before .before .before .before .parent-of .ensures o (c .before .before .before .before .before .before .before .before .before .before .before .before .before .before .before .before .args .q .now)) (c .before .before .before .before .before .place-of .ensures) (c .before .before .before .above-of .ensures), methods-shown (c .before .before .before .before .before .before .before .before .before .before .before .before .before .before .before .before .pre .1) (c .before .before .before .before .before .before .before .before .before .before .before .before .before .before .before .before .pre .0 .row) (λ o. c .before .before .before .before .before .before .before .parent-of .ensures o (c .before .before .before .before .before .before .before .before .before .before .before .before .before .before .before .before .args .q .now)) (c .before .before .before .before .before .place-of .ensures) (c .before .above-of2 .ensures))
 
 same-length : tie.Need-same-length
 same-length c = search needs
@@ -42,7 +42,7 @@ same-length-2 : tie.Need-same-length-2
 same-length-2 c = search needs
 
 returns-2 : tie.Need-returns-2
-returns-2 c = (c .before .before .before .write-class .ensures, placed-kept (c .before .before .before .before .before .before .before .before .before .before .before .before .before .before .before .before .before .before .before .pre .1) _ (c .before .before .before .write-class .ensures (record { used = 0; calls = 0 })))
+returns-2 c = (c .before .before .before .write-class .ensures, placed-kept (c .before .before .before .before .before .before .before .before .before .before .before .before .before .before .before .before .before .before .before .before .pre .1) _ (c .before .before .before .write-class .ensures (record { used = 0; calls = 0 })))
 
 line-ends-requires : tie.Need-line-ends-requires
 line-ends-requires c κs = search needs
@@ -54,16 +54,16 @@ same-length-4 : tie.Need-same-length-4
 same-length-4 c = search needs
 
 returns-3 : tie.Need-returns-3
-returns-3 c = (c .before .before .before .before .before .write-class .ensures, placed-kept (c .before .before .before .before .before .before .before .before .before .before .before .before .before .before .before .before .before .before .before .before .before .pre .1) _ (c .before .before .before .before .before .write-class .ensures (record { used = 0; calls = 0 })))
+returns-3 c = (c .before .before .before .before .before .write-class .ensures, placed-kept (c .before .before .before .before .before .before .before .before .before .before .before .before .before .before .before .before .before .before .before .before .before .before .pre .1) _ (c .before .before .before .before .before .write-class .ensures (record { used = 0; calls = 0 })))
 
 add-places : tie.Need-add-places
-add-places c = omega (arith, c .before .before .before .before .before .before .before .before .before .before .before .before .before .before .if1 .left, c .before .before .before .before .before .before .before .before .before .before .before .before .before .before .before .before .before .before .before .before .before .good .1 .1 .1 .1 .1 .1 .1 .0)
+add-places c = omega (arith, c .before .before .before .before .before .before .before .before .before .before .before .before .before .before .if1 .left, c .before .before .before .before .before .before .before .before .before .before .before .before .before .before .before .before .before .before .before .before .before .before .good .1 .1 .1 .1 .1 .1 .1 .1 .0)
 
 mul-places : tie.Need-mul-places
-mul-places c = omega (arith, c .before .before .before .before .before .before .before .before .before .before .before .before .before .before .before .before .before .before .before .before .before .pre .0 .row, c .before .before .before .before .before .before .before .before .before .before .before .before .before .before .before .before .before .before .before .before .before .pre .0 .short)
+mul-places c = omega (arith, c .before .before .before .before .before .before .before .before .before .before .before .before .before .before .before .before .before .before .before .before .before .before .pre .0 .row, c .before .before .before .before .before .before .before .before .before .before .before .before .before .before .before .before .before .before .before .before .before .before .pre .0 .short)
 
 slice-write-places : tie.Need-slice-write-places
-slice-write-places c = omega (arith, c .before .before .before .before .before .before .before .before .before .before .before .before .before .before .before .before .before .before .before .before .before .pre .0 .row, c .before .before .before .before .before .before .before .before .before .before .before .before .before .before .before .before .before .before .before .before .before .pre .1 .room)
+slice-write-places c = omega (arith, c .before .before .before .before .before .before .before .before .before .before .before .before .before .before .before .before .before .before .before .before .before .before .pre .0 .row, c .before .before .before .before .before .before .before .before .before .before .before .before .before .before .before .before .before .before .before .before .before .before .pre .1 .room)
 
 same-length-5 : tie.Need-same-length-5
 same-length-5 c = search needs
@@ -72,12 +72,12 @@ same-length-6 : tie.Need-same-length-6
 same-length-6 c = search needs
 
 returns-4 : tie.Need-returns-4
-returns-4 c = let a = c .before .before .before .before .before .before .before .before .before .before .before .before .before .before .before .before .before .before .before .before .before .args in
-    let steady = line-steady (c .before .before .before .before .before .before .before .before .before .before .before .before .before .before .before .before .before .before .before .before .before .pre .1) (c .before .before .before .before .before .before .before .before .before .before .before .before .before .before .before .before .before .before .before .before .before .pre .0 .row) (λ o. c .before .before .before .before .before .before .before .before .before .before .before .before .before .parent-of .ensures o (a .q .now)) (c .before .before .before .before .before .before .before .before .before .before .before .place-of .ensures) (sym (not-false (c .before .line-ends .result) (c .if3 .left)) ∙ c .before .line-ends .ensures) in (
+returns-4 c = let a = c .before .before .before .before .before .before .before .before .before .before .before .before .before .before .before .before .before .before .before .before .before .before .args in
+    let steady = line-steady (c .before .before .before .before .before .before .before .before .before .before .before .before .before .before .before .before .before .before .before .before .before .before .pre .1) (c .before .before .before .before .before .before .before .before .before .before .before .before .before .before .before .before .before .before .before .before .before .before .pre .0 .row) (λ o. c .before .before .before .before .before .before .before .before .before .before .before .before .before .parent-of .ensures o (a .q .now)) (c .before .before .before .before .before .before .before .before .before .before .before .place-of .ensures) (sym (not-false (c .before .line-ends .result) (c .if3 .left)) ∙ c .before .line-ends .ensures) in (
       c .before .before .before .before .before .write-class .ensures,
-      placed-more (c .before .before .before .before .before .before .before .before .before .before .before .before .before .before .before .before .before .before .before .before .before .pre .1) _ (c .before .before .before .before .before .write-class .ensures (record { used = 0; calls = 0 }))
-          (λ o. stands-now core (a .s .now) (storeOf o (a .t .now) (a .q .now)) (a .out .now) (a .k) (a .r) (c .before .before .before .before .before .write-class .result) (c .before .before .before .before .before .write-class .ensures o) (omega (arith, c .before .before .if2 .left)) (omega (arith, c .before .before .before .before .before .write-class .kept)) (steady o .0) (steady o .1))
-          (omega (arith, c .before .before .before .before .before .before .before .before .before .before .before .before .before .before .before .before .before .before .before .before .before .pre .0 .row, c .before .before .before .before .before .before .before .before .before .before .before .before .before .before .before .before .before .before .before .before .before .pre .1 .room)),
+      placed-more (c .before .before .before .before .before .before .before .before .before .before .before .before .before .before .before .before .before .before .before .before .before .before .pre .1) _ (c .before .before .before .before .before .write-class .ensures (record { used = 0; calls = 0 }))
+          (λ o. stands-now (over (a .outside .now)) (a .s .now) (storeOf o (a .t .now) (a .q .now)) (a .out .now) (a .k) (a .r) (c .before .before .before .before .before .write-class .result) (c .before .before .before .before .before .write-class .ensures o) (omega (arith, c .before .before .if2 .left)) (omega (arith, c .before .before .before .before .before .write-class .kept)) (steady o .0) (steady o .1))
+          (omega (arith, c .before .before .before .before .before .before .before .before .before .before .before .before .before .before .before .before .before .before .before .before .before .before .pre .0 .row, c .before .before .before .before .before .before .before .before .before .before .before .before .before .before .before .before .before .before .before .before .before .before .pre .1 .room)),
     )
 
 pub emit-class-spec : {M : Type 1} → statement M
@@ -86,7 +86,7 @@ emit-class-spec =
     (tie.spec
     add-result
     returns
-    add-t18
+    add-t19
     parent-of-requires
     place-of-requires
     above-of-requires

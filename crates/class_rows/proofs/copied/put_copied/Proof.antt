@@ -3,7 +3,7 @@ use Prim.Native.Nat.{_+_}
 use mathlib.Core.Path.{_≡_, refl, _∙_}
 use Rattle.sink.specs.Sink.{sink}
 use Rattle.definition.specs.Basics.{from}
-use Rattle.definition.specs.Outside.{core}
+use Rattle.outside.specs.Words.{over}
 use Rattle.class_rows.specs.Put.{filled, copiedRow, putAll}
 use Rattle.class_rows.proofs.KeptLaws.{Kept}
 use Rattle.class_rows.proofs.LineLaws.{copied-end, copied-kept, copied-next}
@@ -11,19 +11,19 @@ use Rattle.class_rows.proofs.copied.put_copied.Statement.{statement}
 use Rattle.class_rows.proofs.copied.put_copied.Tie as tie
 
 abbrev Inv-loop : tie.InvT-loop
-Inv-loop s w i n out₀ done₀ at₀ left₀ out done at left = (putAll (copiedRow core s w out₀) (from at left) (filled done out) ≡ putAll (copiedRow core s w out₀) (from at₀ left₀) (filled done₀ out₀)) × (at + left ≡ at₀ + left₀) × (Kept (at₀ + left₀) (sink (done₀ .count) out₀) (sink (done .count) out))
+Inv-loop s outside w i n out₀ done₀ at₀ left₀ out done at left = (putAll (copiedRow (over outside) s w out₀) (from at left) (filled done out) ≡ putAll (copiedRow (over outside) s w out₀) (from at₀ left₀) (filled done₀ out₀)) × (at + left ≡ at₀ + left₀) × (Kept (at₀ + left₀) (sink (done₀ .count) out₀) (sink (done .count) out))
 
 abbrev μ-loop : tie.MeasureT-loop
-μ-loop s w i n out₀ done₀ at₀ left₀ out done at left = left
+μ-loop s outside w i n out₀ done₀ at₀ left₀ out done at left = left
 
 loop-holds : tie.Need-loop-holds Inv-loop μ-loop
-loop-holds c = (refl, refl, record { below = c .before .before .pre .0; lengths = refl; same = λ i h. refl })
+loop-holds c = (refl, refl, record { below = c .before .before .before .pre .0; lengths = refl; same = λ i h. refl })
 
 put-copy-requires : tie.Need-put-copy-requires Inv-loop μ-loop
-put-copy-requires c κs = omega (arith, c .before .before .loop .inv .1, c .before .before .loop .inv .2 .lengths, c .before .loop-test .taken, c .before .before .before .before .before .pre .1)
+put-copy-requires c κs = omega (arith, c .before .before .loop .inv .1, c .before .before .loop .inv .2 .lengths, c .before .loop-test .taken, c .before .before .before .before .before .before .pre .1)
 
 add-at : tie.Need-add-at Inv-loop μ-loop
-add-at c = omega (arith, c .before .before .before .before .before .loop .inv .1, c .before .before .before .before .loop-test .taken, c .before .before .before .before .before .before .before .before .pre .1)
+add-at c = omega (arith, c .before .before .before .before .before .loop .inv .1, c .before .before .before .before .loop-test .taken, c .before .before .before .before .before .before .before .before .before .pre .1)
 
 sub-left : tie.Need-sub-left Inv-loop μ-loop
 sub-left c = omega (arith, c .before .before .before .before .loop-test .taken)
@@ -32,13 +32,13 @@ loop-less : tie.Need-loop-less Inv-loop μ-loop
 loop-less c = omega (arith, c .before .before .before .before .loop-test .taken)
 
 loop-again : tie.Need-loop-again Inv-loop μ-loop
-loop-again c = (copied-next core (c .before .before .before .before .before .before .before .before .args .s .now) (c .before .before .before .before .before .before .before .before .args .w) (c .before .before .before .before .before .before .before .before .args .out .now) (c .before .before .before .before .before .loop .at) (c .before .before .before .before .before .loop .left) (filled (c .before .before .before .before .before .loop .done) (c .before .before .before .before .before .loop .out)) (c .before .before .before .before .loop-test .taken) (omega (arith, c .before .before .before .before .before .loop .inv .1)) (c .before .before .before .before .before .loop .inv .2) (c .before .before .put-copy .ensures) ∙ c .before .before .before .before .before .loop .inv .0, omega (arith, c .before .before .before .before .before .loop .inv .1, c .before .before .before .before .loop-test .taken), copied-kept core (c .before .before .before .before .before .before .before .before .args .s .now) (c .before .before .before .before .before .before .before .before .args .w) (c .before .before .before .before .before .before .before .before .args .out .now) (c .before .before .before .before .before .loop .at) (c .before .before .before .before .before .loop .left) (filled (c .before .before .before .before .before .loop .done) (c .before .before .before .before .before .loop .out)) (c .before .before .before .before .loop-test .taken) (omega (arith, c .before .before .before .before .before .loop .inv .1)) (c .before .before .before .before .before .loop .inv .2) (c .before .before .put-copy .ensures) (c .before .before .before .before .before .before .before .before .pre .1))
+loop-again c = (copied-next (over (c .before .before .before .before .before .before .before .before .before .args .outside .now)) (c .before .before .before .before .before .before .before .before .before .args .s .now) (c .before .before .before .before .before .before .before .before .before .args .w) (c .before .before .before .before .before .before .before .before .before .args .out .now) (c .before .before .before .before .before .loop .at) (c .before .before .before .before .before .loop .left) (filled (c .before .before .before .before .before .loop .done) (c .before .before .before .before .before .loop .out)) (c .before .before .before .before .loop-test .taken) (omega (arith, c .before .before .before .before .before .loop .inv .1)) (c .before .before .before .before .before .loop .inv .2) (c .before .before .put-copy .ensures) ∙ c .before .before .before .before .before .loop .inv .0, omega (arith, c .before .before .before .before .before .loop .inv .1, c .before .before .before .before .loop-test .taken), copied-kept (over (c .before .before .before .before .before .before .before .before .before .args .outside .now)) (c .before .before .before .before .before .before .before .before .before .args .s .now) (c .before .before .before .before .before .before .before .before .before .args .w) (c .before .before .before .before .before .before .before .before .before .args .out .now) (c .before .before .before .before .before .loop .at) (c .before .before .before .before .before .loop .left) (filled (c .before .before .before .before .before .loop .done) (c .before .before .before .before .before .loop .out)) (c .before .before .before .before .loop-test .taken) (omega (arith, c .before .before .before .before .before .loop .inv .1)) (c .before .before .before .before .before .loop .inv .2) (c .before .before .put-copy .ensures) (c .before .before .before .before .before .before .before .before .before .pre .1))
 
 same-length : tie.Need-same-length Inv-loop μ-loop
 same-length c = c .before .loop .inv .2 .lengths
 
 returns : tie.Need-returns Inv-loop μ-loop
-returns c = copied-end core (c .before .before .before .before .args .s .now) (c .before .before .before .before .args .w) (c .before .before .before .before .args .out .now) (c .before .loop .at) (c .before .loop .left) (filled (c .before .loop .done) (c .before .loop .out)) (c .loop-test .left) ∙ c .before .loop .inv .0
+returns c = copied-end (over (c .before .before .before .before .before .args .outside .now)) (c .before .before .before .before .before .args .s .now) (c .before .before .before .before .before .args .w) (c .before .before .before .before .before .args .out .now) (c .before .loop .at) (c .before .loop .left) (filled (c .before .loop .done) (c .before .loop .out)) (c .loop-test .left) ∙ c .before .loop .inv .0
 
 pub put-copied-spec : {M : Type 1} → statement M
 put-copied-spec =

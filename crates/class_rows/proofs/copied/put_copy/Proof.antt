@@ -3,7 +3,7 @@ use Rattle.class_rows.proofs.PutLaws.{put-one}
 use borrow.Author.Needs.{needs}
 use Rattle.class_rows.proofs.copied.put_copy.Statement.{statement}
 use Rattle.class_rows.proofs.copied.put_copy.Tie as tie
-use Rattle.definition.specs.Outside.{core}
+use Rattle.outside.specs.Words.{over}
 
 copied-row-requires : tie.Need-copied-row-requires
 copied-row-requires c κs = search needs
@@ -18,7 +18,7 @@ same-length : tie.Need-same-length
 same-length c = search needs
 
 returns : tie.Need-returns
-returns c = put-one (copiedRow core (c .before .before .before .before .before .before .before .before .before .args .s .now) (c .before .before .before .before .before .before .before .before .before .args .w) (c .before .before .before .before .before .before .before .before .before .args .out .now)) (c .before .before .before .before .before .before .before .before .before .args .at) (filled (c .before .before .before .before .before .before .before .before .before .args .k) (c .before .before .before .before .before .before .before .before .before .args .out .now)) (c .before .before .before .before .before .copied-row .ensures) (c .before .before .before .emit .ensures) (c .one-more .ensures)
+returns c = put-one (copiedRow (over (c .before .before .before .before .before .before .before .before .before .before .args .outside .now)) (c .before .before .before .before .before .before .before .before .before .before .args .s .now) (c .before .before .before .before .before .before .before .before .before .before .args .w) (c .before .before .before .before .before .before .before .before .before .before .args .out .now)) (c .before .before .before .before .before .before .before .before .before .before .args .at) (filled (c .before .before .before .before .before .before .before .before .before .before .args .k) (c .before .before .before .before .before .before .before .before .before .before .args .out .now)) (c .before .before .before .before .before .copied-row .ensures) (c .before .before .before .emit .ensures) (c .one-more .ensures)
 
 pub put-copy-spec : {M : Type 1} → statement M
 put-copy-spec =

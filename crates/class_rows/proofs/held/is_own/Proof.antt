@@ -1,31 +1,47 @@
-use mathlib.Core.Path.{sym, _∙_}
-use Rattle.definition.specs.Outside.{core}
-use Rattle.class_rows.proofs.NameLaws.{class-from, own-field, own-other, own-none}
+use Rattle.class_rows.proofs.NameLaws.{class-from, own-row, own-record}
 use Rattle.store.specs.Stored.{storeOf}
+use Rattle.outside.specs.Words.{over}
+use mathlib.Core.Path.{sym, _∙_}
 use borrow.Author.Needs.{needs}
 use Rattle.class_rows.proofs.held.is_own.Statement.{statement}
 use Rattle.class_rows.proofs.held.is_own.Tie as tie
+use Rattle.class_rows.proofs.held.is_own.Reads as reads
+use Rattle.class_rows.proofs.held.is_own.Lts as lts
+use Rattle.class_rows.proofs.held.is_recorded.Reads as is-recorded-reads
+use Rattle.class_rows.proofs.held.is_row_name.Reads as is-row-name-reads
+use Rattle.tree.proofs.lists.is_class_row.Reads as is-class-row-reads
 
-is-own-field-requires : tie.Need-is-own-field-requires
-is-own-field-requires c κs = search needs
-
-returns : tie.Need-returns
-returns c = λ o. let a = c .before .before .before .before .before .args in own-field core (a .s .now) (storeOf o (a .t .now) (a .q .now)) (a .kind) (a .c .0) (a .m) (c .before .if1 .taken) (c .is-own-field .ensures o)
-
+-- src/held.rt:52:8
 is-class-row-requires : tie.Need-is-class-row-requires
 is-class-row-requires c κs = search needs
 
-sub-has-named : tie.Need-sub-has-named
-sub-has-named c = let a = c .before .before .before .before .before .before .before .args in class-from (a .s .now) (a .c .0) (sym (c .before .if2 .taken) ∙ c .before .before .is-class-row .ensures)
+-- src/held.rt:53:43
+sub-is-row-name : tie.Need-sub-is-row-name
+sub-is-row-name c = class-from (c .before .before .before .before .before .before .before .args .s .now) (c .before .before .before .before .before .before .before .args .c .0) (sym (c .before .if1 .taken) ∙ c .before .before .is-class-row .ensures)
 
-has-named-requires : tie.Need-has-named-requires
-has-named-requires c κs = search needs
+-- src/held.rt:53:9
+is-row-name-requires : tie.Need-is-row-name-requires
+is-row-name-requires c κs = search needs
 
+-- src/held.rt:53:9
+returns : tie.Need-returns
+returns c = λ o. let a = c .before .before .before .before .before .before .before .before .args in own-row (over (a .outside .now)) (a .s .now) (storeOf o (a .t .now) (a .q .now)) (a .kind) (a .c .0) (a .m) (sym (c .before .before .if1 .taken) ∙ c .before .before .before .is-class-row .ensures) (c .is-row-name .ensures o)
+
+-- src/held.rt:55:5
+is-recorded-requires : tie.Need-is-recorded-requires
+is-recorded-requires c κs = search needs
+
+-- src/held.rt:41:1
 returns-2 : tie.Need-returns-2
-returns-2 c = λ o. let a = c .before .before .before .before .before .before .before .before .args in own-other core (a .s .now) (storeOf o (a .t .now) (a .q .now)) (a .kind) (a .c .0) (a .m) (c .before .before .before .before .if1 .left) (sym (c .before .before .if2 .taken) ∙ c .before .before .before .is-class-row .ensures) (c .has-named .ensures)
-
-returns-3 : tie.Need-returns-3
-returns-3 c = λ o. let a = c .before .before .before .before .before .before .args in own-none (a .s .now) (storeOf o (a .t .now) (a .q .now)) (a .kind) (a .c .0) (a .m) (c .before .before .if1 .left) (sym (c .if2 .left) ∙ c .before .is-class-row .ensures)
+returns-2 c = λ o. let a = c .before .before .before .before .before .before .before .args in own-record (over (a .outside .now)) (a .s .now) (storeOf o (a .t .now) (a .q .now)) (a .kind) (a .c .0) (a .m) (sym (c .before .if1 .left) ∙ c .before .before .is-class-row .ensures) (c .is-recorded .ensures)
 
 pub is-own-spec : {M : Type 1} → statement M
-is-own-spec = tie.close (tie.spec is-own-field-requires returns is-class-row-requires sub-has-named has-named-requires returns-2 returns-3)
+is-own-spec =
+    tie.close
+    (tie.spec
+    is-class-row-requires
+    sub-is-row-name
+    is-row-name-requires
+    returns
+    is-recorded-requires
+    returns-2)

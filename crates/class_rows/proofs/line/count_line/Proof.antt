@@ -5,7 +5,7 @@ use Rattle.class_rows.proofs.LineLaws.{line-counted}
 use borrow.Author.Needs.{needs}
 use Rattle.class_rows.proofs.line.count_line.Statement.{statement}
 use Rattle.class_rows.proofs.line.count_line.Tie as tie
-use Rattle.definition.specs.Outside.{core}
+use Rattle.outside.specs.Words.{over}
 
 count-names-requires : tie.Need-count-names-requires
 count-names-requires c κs = search needs
@@ -16,8 +16,8 @@ returns c = search needs
 parent-of-requires : tie.Need-parent-of-requires
 parent-of-requires c κs = search needs
 
-sub-t11 : tie.Need-sub-t11
-sub-t11 c = search needs
+sub-t12 : tie.Need-sub-t12
+sub-t12 c = search needs
 
 slice-aggregate-put-own : tie.Need-slice-aggregate-put-own
 slice-aggregate-put-own c = search needs
@@ -26,7 +26,7 @@ put-own-requires : tie.Need-put-own-requires
 put-own-requires c κs = search needs
 
 returns-2 : tie.Need-returns-2
-returns-2 c = λ o. let a = c .before .before .before .before .before .before .before .before .before .args in line-counted core (nameRow core (a .s .now) (storeOf o (a .t .now) (a .q .now)) (a .w)) (a .s .now) (storeOf o (a .t .now) (a .q .now)) (a .w .kind) (a .w .whole) _ (c .before .before .before .before .before .before .before .before .before .pre .0) (c .before .before .before .parent-of .ensures o (a .q .now)) (c .before .before .before .before .before .before .before .before .before .pre .1 (c .before .before .before .before .if1 .left) o .0) (omega arith) (c .before .before .before .before .before .before .before .before .before .pre .1 (c .before .before .before .before .if1 .left) o .1) (c .before .put-own .ensures o)
+returns-2 c = λ o. let a = c .before .before .before .before .before .before .before .before .before .before .args in line-counted _ (nameRow (over (a .outside .now)) (a .s .now) (storeOf o (a .t .now) (a .q .now)) (a .w)) (a .s .now) (storeOf o (a .t .now) (a .q .now)) (a .w .kind) (a .w .whole) _ (c .before .before .before .before .before .before .before .before .before .before .pre .0) (c .before .before .before .parent-of .ensures o (a .q .now)) (c .before .before .before .before .before .before .before .before .before .before .pre .1 (c .before .before .before .before .if1 .left) o .0) (omega arith) (c .before .before .before .before .before .before .before .before .before .before .pre .1 (c .before .before .before .before .if1 .left) o .1) (c .before .put-own .ensures o)
 
 pub count-line-spec : {M : Type 1} → statement M
 count-line-spec =
@@ -35,7 +35,7 @@ count-line-spec =
     count-names-requires
     returns
     parent-of-requires
-    sub-t11
+    sub-t12
     slice-aggregate-put-own
     put-own-requires
     returns-2)

@@ -13,24 +13,24 @@ use Rattle.class_rows.proofs.put.put_own.Reads as put-own-reads
 use Rattle.inherit.proofs.parent_of.Reads as parent-of-reads
 use Rattle.class_rows.proofs.put.+put_names.{statement}
 use Rattle.class_rows.proofs.put.+put_names.Tie.{close}
-use Rattle.definition.specs.Outside.{core}
+use Rattle.outside.specs.Words.{over}
 
-abbrev μ-put-names : Measures 4 put-names-kinds.ps ℕ
-μ-put-names κs a = a .1 .1 .1 .1 .0
+abbrev μ-put-names : Measures 5 put-names-kinds.ps ℕ
+μ-put-names κs a = a .1 .1 .1 .1 .1 .0
 
-abbrev put-names-at : ℕ → In 4 put-names-kinds.ps
-put-names-at t = and 4 put-names-kinds.ps (is 4 put-names-kinds.ps μ-put-names t) put-names.Pre
+abbrev put-names-at : ℕ → In 5 put-names-kinds.ps
+put-names-at t = and 5 put-names-kinds.ps (is 5 put-names-kinds.ps μ-put-names t) put-names.Pre
 
-abbrev put-names-below : ℕ → In 4 put-names-kinds.ps
+abbrev put-names-below : ℕ → In 5 put-names-kinds.ps
 put-names-below t =
-    and 4 put-names-kinds.ps (falls 4 put-names-kinds.ps _<_ μ-put-names t) put-names.Pre
+    and 5 put-names-kinds.ps (falls 5 put-names-kinds.ps _<_ μ-put-names t) put-names.Pre
 
 abbrev put-names-claims : ℕ → put-names-lts.Claims
 put-names-claims t =
     (parent-of-reads.Asked, parent-of-reads.Learnt, put-own-reads.Asked, put-own-reads.Learnt, put-names-below t, put-names.Post)
 
 put-names-returns : (t : ℕ) → put-names-lts.Need-returns (put-names-claims t) (put-names-at t) put-names.Post
-put-names-returns t c = λ o. let a = c .before .before .before .before .before .args in names-zero core (nameRow core (a .s .now) (storeOf o (a .t .now) (a .q .now)) (a .w)) (a .s .now) (storeOf o (a .t .now) (a .q .now)) (a .w .kind) (a .n) (a .c .0) (filled (a .k) (a .out .now)) (c .if1 .taken)
+put-names-returns t c = λ o. let a = c .before .before .before .before .before .before .args in names-zero _ (nameRow (over (a .outside .now)) (a .s .now) (storeOf o (a .t .now) (a .q .now)) (a .w)) (a .s .now) (storeOf o (a .t .now) (a .q .now)) (a .w .kind) (a .n) (a .c .0) (filled (a .k) (a .out .now)) (c .if1 .taken)
 
 put-names-parent-of-requires : (t : ℕ) → put-names-lts.Need-parent-of-requires (put-names-claims t) (put-names-at t) put-names.Post
 put-names-parent-of-requires t c κs = search needs
@@ -45,13 +45,13 @@ put-names-same-length : (t : ℕ) → put-names-lts.Need-same-length (put-names-
 put-names-same-length t c = search needs
 
 put-names-returns-2 : (t : ℕ) → put-names-lts.Need-returns-2 (put-names-claims t) (put-names-at t) put-names.Post
-put-names-returns-2 t c = λ o. let a = c .before .before .before .before .before .before .before .before .before .before .before .before .args in names-first core (nameRow core (a .s .now) (storeOf o (a .t .now) (a .q .now)) (a .w)) (a .s .now) (storeOf o (a .t .now) (a .q .now)) (a .w .kind) (a .n) (a .c .0) (filled (a .k) (a .out .now)) (c .before .before .before .before .before .before .before .if1 .left) (c .before .before .before .before .before .before .parent-of .ensures o (a .q .now)) (c .before .before .before .before .if2 .taken) (c .before .before .put-own .ensures o)
+put-names-returns-2 t c = λ o. let a = c .before .before .before .before .before .before .before .before .before .before .before .before .before .args in names-first _ (nameRow (over (a .outside .now)) (a .s .now) (storeOf o (a .t .now) (a .q .now)) (a .w)) (a .s .now) (storeOf o (a .t .now) (a .q .now)) (a .w .kind) (a .n) (a .c .0) (filled (a .k) (a .out .now)) (c .before .before .before .before .before .before .before .if1 .left) (c .before .before .before .before .before .before .parent-of .ensures o (a .q .now)) (c .before .before .before .before .if2 .taken) (c .before .before .put-own .ensures o)
 
 put-names-sub-put-names-2 : (t : ℕ) → put-names-lts.Need-sub-put-names-2 (put-names-claims t) (put-names-at t) put-names.Post
 put-names-sub-put-names-2 t c = omega (arith, c .before .before .before .if1 .left)
 
 put-names-put-names-requires : (t : ℕ) → put-names-lts.Need-put-names-requires (put-names-claims t) (put-names-at t) put-names.Post
-put-names-put-names-requires t c κs = (omega (arith, c .before .before .before .before .before .before .before .before .before .pre .0, c .before .before .before .before .if1 .left), tt)
+put-names-put-names-requires t c κs = (omega (arith, c .before .before .before .before .before .before .before .before .before .before .pre .0, c .before .before .before .before .if1 .left), tt)
 
 put-names-put-own-requires-2 : (t : ℕ) → put-names-lts.Need-put-own-requires-2 (put-names-claims t) (put-names-at t) put-names.Post
 put-names-put-own-requires-2 t c κs = search needs
@@ -60,7 +60,7 @@ put-names-same-length-2 : (t : ℕ) → put-names-lts.Need-same-length-2 (put-na
 put-names-same-length-2 t c = omega (arith, c .before .before .put-own2 .kept, c .before .before .before .before .before .before .put-names .kept)
 
 put-names-returns-3 : (t : ℕ) → put-names-lts.Need-returns-3 (put-names-claims t) (put-names-at t) put-names.Post
-put-names-returns-3 t c = λ o. let a = c .before .before .before .before .before .before .before .before .before .before .before .before .before .before .before .before .args in names-after core (nameRow core (a .s .now) (storeOf o (a .t .now) (a .q .now)) (a .w)) (a .s .now) (storeOf o (a .t .now) (a .q .now)) (a .w .kind) (a .n) (a .c .0) (filled (a .k) (a .out .now)) (c .before .before .before .before .before .before .before .before .before .before .before .if1 .left) (c .before .before .before .before .before .before .before .before .before .before .parent-of .ensures o (a .q .now)) (c .before .before .before .before .before .before .before .before .if2 .left) (c .before .before .before .before .before .before .put-names .ensures o) (c .before .before .put-own2 .ensures o)
+put-names-returns-3 t c = λ o. let a = c .before .before .before .before .before .before .before .before .before .before .before .before .before .before .before .before .before .args in names-after _ (nameRow (over (a .outside .now)) (a .s .now) (storeOf o (a .t .now) (a .q .now)) (a .w)) (a .s .now) (storeOf o (a .t .now) (a .q .now)) (a .w .kind) (a .n) (a .c .0) (filled (a .k) (a .out .now)) (c .before .before .before .before .before .before .before .before .before .before .before .if1 .left) (c .before .before .before .before .before .before .before .before .before .before .parent-of .ensures o (a .q .now)) (c .before .before .before .before .before .before .before .before .if2 .left) (c .before .before .before .before .before .before .put-names .ensures o) (c .before .before .put-own2 .ensures o)
 
 pub +put-names-spec : {M : Type 1} → statement M
 +put-names-spec = close μ-put-names λ t. put-names-lts.spec (put-names-claims t)

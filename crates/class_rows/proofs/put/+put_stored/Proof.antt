@@ -15,25 +15,25 @@ use Rattle.class_rows.proofs.put.put_new.Reads as put-new-reads
 use Rattle.store.proofs.nodes.node_word.Reads as node-word-reads
 use Rattle.class_rows.proofs.put.+put_stored.{statement}
 use Rattle.class_rows.proofs.put.+put_stored.Tie.{close}
-use Rattle.definition.specs.Outside.{core}
+use Rattle.outside.specs.Words.{over}
 
-abbrev μ-put-stored : Measures 4 put-stored-kinds.ps ℕ
-μ-put-stored κs a = a .1 .1 .1 .1 .1 .0
+abbrev μ-put-stored : Measures 5 put-stored-kinds.ps ℕ
+μ-put-stored κs a = a .1 .1 .1 .1 .1 .1 .0
 
-abbrev put-stored-at : ℕ → In 4 put-stored-kinds.ps
+abbrev put-stored-at : ℕ → In 5 put-stored-kinds.ps
 put-stored-at t =
-    and 4 put-stored-kinds.ps (is 4 put-stored-kinds.ps μ-put-stored t) put-stored.Pre
+    and 5 put-stored-kinds.ps (is 5 put-stored-kinds.ps μ-put-stored t) put-stored.Pre
 
-abbrev put-stored-below : ℕ → In 4 put-stored-kinds.ps
+abbrev put-stored-below : ℕ → In 5 put-stored-kinds.ps
 put-stored-below t =
-    and 4 put-stored-kinds.ps (falls 4 put-stored-kinds.ps _<_ μ-put-stored t) put-stored.Pre
+    and 5 put-stored-kinds.ps (falls 5 put-stored-kinds.ps _<_ μ-put-stored t) put-stored.Pre
 
 abbrev put-stored-claims : ℕ → put-stored-lts.Claims
 put-stored-claims t =
     (node-before-reads.Asked, node-before-reads.Learnt, put-stored-below t, put-stored.Post, node-word-reads.Asked, node-word-reads.Learnt, put-new-reads.Asked, put-new-reads.Learnt)
 
 put-stored-returns : (t : ℕ) → put-stored-lts.Need-returns (put-stored-claims t) (put-stored-at t) put-stored.Post
-put-stored-returns t c = λ o. let a = c .before .before .before .before .before .args in stored-none (nameRow core (a .s .now) (storeOf o (a .t .now) (a .q .now)) (a .w)) (inherited core (a .s .now) (storeOf o (a .t .now) (a .q .now)) (a .w .kind) (a .p .left) (a .p .class)) (a .q .now) (a .last) (filled (a .k) (a .out .now)) (c .if1 .taken)
+put-stored-returns t c = λ o. let a = c .before .before .before .before .before .before .args in stored-none (nameRow (over (a .outside .now)) (a .s .now) (storeOf o (a .t .now) (a .q .now)) (a .w)) (inherited (over (a .outside .now)) (a .s .now) (storeOf o (a .t .now) (a .q .now)) (a .w .kind) (a .p .left) (a .p .class)) (a .q .now) (a .last) (filled (a .k) (a .out .now)) (c .if1 .taken)
 
 put-stored-sub-i : (t : ℕ) → put-stored-lts.Need-sub-i (put-stored-claims t) (put-stored-at t) put-stored.Post
 put-stored-sub-i t c = omega (arith, c .if1 .left)
@@ -42,7 +42,7 @@ put-stored-node-before-requires : (t : ℕ) → put-stored-lts.Need-node-before-
 put-stored-node-before-requires t c κs = search needs
 
 put-stored-put-stored-requires : (t : ℕ) → put-stored-lts.Need-put-stored-requires (put-stored-claims t) (put-stored-at t) put-stored.Post
-put-stored-put-stored-requires t c κs = (omega (arith, c .before .before .before .before .before .before .before .pre .0, c .before .before .if1 .left, c .before .node-before .ensures), tt)
+put-stored-put-stored-requires t c κs = (omega (arith, c .before .before .before .before .before .before .before .before .pre .0, c .before .before .if1 .left, c .before .node-before .ensures), tt)
 
 put-stored-node-word-requires : (t : ℕ) → put-stored-lts.Need-node-word-requires (put-stored-claims t) (put-stored-at t) put-stored.Post
 put-stored-node-word-requires t c κs = search needs
@@ -54,7 +54,7 @@ put-stored-same-length : (t : ℕ) → put-stored-lts.Need-same-length (put-stor
 put-stored-same-length t c = omega (arith, c .before .before .put-new .kept, c .before .before .before .before .before .before .before .put-stored .kept)
 
 put-stored-returns-2 : (t : ℕ) → put-stored-lts.Need-returns-2 (put-stored-claims t) (put-stored-at t) put-stored.Post
-put-stored-returns-2 t c = λ o. let a = c .before .before .before .before .before .before .before .before .before .before .before .before .before .before .before .args in stored-last (nameRow core (a .s .now) (storeOf o (a .t .now) (a .q .now)) (a .w)) (inherited core (a .s .now) (storeOf o (a .t .now) (a .q .now)) (a .w .kind) (a .p .left) (a .p .class)) (a .q .now) (a .last) (filled (a .k) (a .out .now)) (c .before .before .before .before .before .before .before .before .before .before .if1 .left) (c .before .before .before .before .before .before .before .before .before .node-before .ensures) (c .before .before .before .before .node-word .ensures) (c .before .before .before .before .before .before .before .put-stored .ensures o) (c .before .before .put-new .ensures o)
+put-stored-returns-2 t c = λ o. let a = c .before .before .before .before .before .before .before .before .before .before .before .before .before .before .before .before .args in stored-last (nameRow (over (a .outside .now)) (a .s .now) (storeOf o (a .t .now) (a .q .now)) (a .w)) (inherited (over (a .outside .now)) (a .s .now) (storeOf o (a .t .now) (a .q .now)) (a .w .kind) (a .p .left) (a .p .class)) (a .q .now) (a .last) (filled (a .k) (a .out .now)) (c .before .before .before .before .before .before .before .before .before .before .if1 .left) (c .before .before .before .before .before .before .before .before .before .node-before .ensures) (c .before .before .before .before .node-word .ensures) (c .before .before .before .before .before .before .before .put-stored .ensures o) (c .before .before .put-new .ensures o)
 
 pub +put-stored-spec : {M : Type 1} → statement M
 +put-stored-spec = close μ-put-stored λ t. put-stored-lts.spec (put-stored-claims t)

@@ -1,61 +1,85 @@
-use Rattle.class_rows.proofs.PutLaws.{own-fields, own-outside, own-children, own-nothing}
+use Rattle.class_rows.proofs.PutLaws.{own-stored, own-listed, own-recorded}
 use Rattle.class_rows.proofs.NameLaws.{class-from}
 use Rattle.class_rows.specs.Put.{filled, nameRow}
 use Rattle.class_rows.specs.Names.{inherited}
 use Rattle.store.specs.Stored.{storeOf}
+use Rattle.outside.specs.Words.{over}
 use mathlib.Core.Path.{sym, _∙_}
 use borrow.Author.Needs.{needs}
 use Rattle.class_rows.proofs.put.put_own.Statement.{statement}
 use Rattle.class_rows.proofs.put.put_own.Tie as tie
-use Rattle.definition.specs.Outside.{core}
+use Rattle.class_rows.proofs.put.put_own.Reads as reads
+use Rattle.class_rows.proofs.put.put_own.Lts as lts
+use Rattle.class_rows.proofs.put.put_listed.Reads as put-listed-reads
+use Rattle.class_rows.proofs.put.put_recorded.Reads as put-recorded-reads
+use Rattle.class_rows.proofs.put.put_stored.Reads as put-stored-reads
+use Rattle.outside.proofs.records.recorded_names.Reads as recorded-names-reads
+use Rattle.tree.proofs.lists.is_class_row.Reads as is-class-row-reads
+use Rattle.tree.proofs.words.word.Reads as word-reads
 
+-- src/put.rt:210:8
 is-class-row-requires : tie.Need-is-class-row-requires
 is-class-row-requires c κs = search needs
 
+-- src/put.rt:211:17
 sub-r : tie.Need-sub-r
-sub-r c = let a = c .before .before .before .before .before .before .before .before .before .args in class-from (a .s .now) (a .c .0) (sym (c .before .if2 .taken) ∙ c .before .before .is-class-row .ensures)
+sub-r c = class-from (c .before .before .before .before .before .before .before .before .args .s .now) (c .before .before .before .before .before .before .before .before .args .c .0) (sym (c .before .if1 .taken) ∙ c .before .before .is-class-row .ensures)
 
+-- src/put.rt:212:13
 put-listed-requires : tie.Need-put-listed-requires
 put-listed-requires c κs = search needs
 
+-- src/put.rt:214:55
 word-requires : tie.Need-word-requires
 word-requires c κs = search needs
 
+-- src/put.rt:214:13
 put-stored-requires : tie.Need-put-stored-requires
 put-stored-requires c κs = search needs
 
+-- src/put.rt:214:13
 same-length : tie.Need-same-length
 same-length c = search needs
 
+-- src/put.rt:214:13
 returns : tie.Need-returns
-returns c = λ o. let a = c .before .before .before .before .before .before .before .before .before .before .before .before .before .before .before .before .before .before .args in own-fields (nameRow core (a .s .now) (storeOf o (a .t .now) (a .q .now)) (a .w)) (inherited core (a .s .now) (storeOf o (a .t .now) (a .q .now)) (a .w .kind) (a .p .left) (a .p .class)) (a .c .0) (filled (a .k) (a .out .now)) (a .s .now) (storeOf o (a .t .now) (a .q .now)) (a .w .kind) (c .before .before .before .before .before .before .before .before .before .before .before .before .if1 .taken) (sym (c .before .before .before .before .before .before .before .before .before .before .if2 .taken) ∙ c .before .before .before .before .before .before .before .before .before .before .before .is-class-row .ensures) (c .before .before .before .before .before .before .before .put-listed .ensures o) (c .before .before .before .before .word .ensures) (c .before .before .put-stored .ensures o)
+returns c = λ o. let a = c .before .before .before .before .before .before .before .before .before .before .before .before .before .before .before .before .before .before .before .args in
+    let O = over (a .outside .now) in
+    let st = storeOf o (a .t .now) (a .q .now) in
+    own-stored O (nameRow O (a .s .now) st (a .w)) (inherited O (a .s .now) st (a .w .kind) (a .p .left) (a .p .class)) (a .s .now) st (a .w .kind) (a .c .0) (filled (a .k) (a .out .now))
+    (sym (c .before .before .before .before .before .before .before .before .before .before .before .before .if1 .taken) ∙ c .before .before .before .before .before .before .before .before .before .before .before .before .before .is-class-row .ensures) (c .before .before .before .before .before .before .before .before .before .put-listed .ensures o) (c .before .before .before .before .before .if2 .taken) (c .before .before .before .before .word .ensures) (c .before .before .put-stored .ensures o)
 
-put-outside-requires : tie.Need-put-outside-requires
-put-outside-requires c κs = search needs
-
+-- src/put.rt:216:9
 same-length-2 : tie.Need-same-length-2
 same-length-2 c = search needs
 
+-- src/put.rt:216:9
 returns-2 : tie.Need-returns-2
-returns-2 c = λ o. let a = c .before .before .before .before .before .before .before .before .before .before .before .before .args in own-outside (nameRow core (a .s .now) (storeOf o (a .t .now) (a .q .now)) (a .w)) (inherited core (a .s .now) (storeOf o (a .t .now) (a .q .now)) (a .w .kind) (a .p .left) (a .p .class)) (a .c .0) (filled (a .k) (a .out .now)) (a .s .now) (storeOf o (a .t .now) (a .q .now)) (a .w .kind) (c .before .before .before .before .before .before .if1 .taken) (sym (c .before .before .before .before .if2 .left) ∙ c .before .before .before .before .before .is-class-row .ensures) (c .before .before .put-outside .ensures o)
+returns-2 c = λ o. let a = c .before .before .before .before .before .before .before .before .before .before .before .before .before .before .args in
+    let O = over (a .outside .now) in
+    let st = storeOf o (a .t .now) (a .q .now) in
+    own-listed O (nameRow O (a .s .now) st (a .w)) (inherited O (a .s .now) st (a .w .kind) (a .p .left) (a .p .class)) (a .s .now) st (a .w .kind) (a .c .0) (filled (a .k) (a .out .now))
+    (sym (c .before .before .before .before .before .before .before .if1 .taken) ∙ c .before .before .before .before .before .before .before .before .is-class-row .ensures) (c .before .before .before .before .put-listed .ensures o) (c .if2 .left)
 
-is-class-row-requires-2 : tie.Need-is-class-row-requires-2
-is-class-row-requires-2 c κs = search needs
+-- src/put.rt:218:9
+recorded-names-requires : tie.Need-recorded-names-requires
+recorded-names-requires c κs = search needs
 
-sub-put-listed : tie.Need-sub-put-listed
-sub-put-listed c = let a = c .before .before .before .before .before .before .before .before .before .args in class-from (a .s .now) (a .c .0) (sym (c .before .if3 .taken) ∙ c .before .before .is-class-row2 .ensures)
+-- src/put.rt:219:5
+put-recorded-requires : tie.Need-put-recorded-requires
+put-recorded-requires c κs = search needs
 
-put-listed-requires-2 : tie.Need-put-listed-requires-2
-put-listed-requires-2 c κs = search needs
-
+-- src/put.rt:197:1
 same-length-3 : tie.Need-same-length-3
 same-length-3 c = search needs
 
+-- src/put.rt:197:1
 returns-3 : tie.Need-returns-3
-returns-3 c = λ o. let a = c .before .before .before .before .before .before .before .before .before .before .before .before .before .args in own-children (nameRow core (a .s .now) (storeOf o (a .t .now) (a .q .now)) (a .w)) (inherited core (a .s .now) (storeOf o (a .t .now) (a .q .now)) (a .w .kind) (a .p .left) (a .p .class)) (a .c .0) (filled (a .k) (a .out .now)) (a .s .now) (storeOf o (a .t .now) (a .q .now)) (a .w .kind) (c .before .before .before .before .before .before .before .if1 .left) (sym (c .before .before .before .before .before .if3 .taken) ∙ c .before .before .before .before .before .before .is-class-row2 .ensures) (c .before .before .put-listed2 .ensures o)
-
-returns-4 : tie.Need-returns-4
-returns-4 c = λ o. let a = c .before .before .before .before .before .before .before .before .args in own-nothing (nameRow core (a .s .now) (storeOf o (a .t .now) (a .q .now)) (a .w)) (inherited core (a .s .now) (storeOf o (a .t .now) (a .q .now)) (a .w .kind) (a .p .left) (a .p .class)) (a .c .0) (filled (a .k) (a .out .now)) (a .s .now) (storeOf o (a .t .now) (a .q .now)) (a .w .kind) (c .before .before .if1 .left) (sym (c .if3 .left) ∙ c .before .is-class-row2 .ensures)
+returns-3 c = λ o. let a = c .before .before .before .before .before .before .before .before .before .before .before .before .args in
+    let O = over (a .outside .now) in
+    let st = storeOf o (a .t .now) (a .q .now) in
+    own-recorded O (nameRow O (a .s .now) st (a .w)) (inherited O (a .s .now) st (a .w .kind) (a .p .left) (a .p .class)) (a .s .now) st (a .w .kind) (a .c .0) (filled (a .k) (a .out .now))
+    (sym (c .before .before .before .before .before .if1 .left) ∙ c .before .before .before .before .before .before .is-class-row .ensures) (c .before .before .before .before .recorded-names .ensures) (c .before .before .put-recorded .ensures o)
 
 pub put-own-spec : {M : Type 1} → statement M
 put-own-spec =
@@ -68,12 +92,9 @@ put-own-spec =
     put-stored-requires
     same-length
     returns
-    put-outside-requires
     same-length-2
     returns-2
-    is-class-row-requires-2
-    sub-put-listed
-    put-listed-requires-2
+    recorded-names-requires
+    put-recorded-requires
     same-length-3
-    returns-3
-    returns-4)
+    returns-3)
