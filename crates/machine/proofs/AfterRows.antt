@@ -139,7 +139,8 @@ module _ (s : Sheet) (r K : ℕ) (hr : is s K r ≡ true) (nz : r ≡ 0 → ⊥)
       and-right false y e = absurd (true≢false (sym e))
   rest-false k st n₄ n₅₄ false true ec em =
       kinds-apart s (child s k) r 54 K
-      (receiver-member (is s 54 (child s k)) (is s 50 (child s (child s k))) (classNumber (lookup (a s (child s (child s k))) st)) (and-right (is s 59 k) (not (eqb (receiver s k (openOn s st)) 0)) em)) hr n₅₄
+      (receiver-member (is s 54 (child s k)) (is s 50 (child s (child s k))) (classNumber (lookup (a s (child s (child s k))) st))
+      (and-right (is s 59 k) (not (eqb (receiver s k (openOn s st)) 0)) em)) hr n₅₄
     where
       and-right : (x y : Bool) → (x && y) ≡ true → y ≡ true
       and-right true y e = e
@@ -308,7 +309,8 @@ target-class s hd r hr nz (visit k) st =
         zero-apart r nz ∙ sym (when-false (is s 4 (a s k)) (eqb (a s k) r) (λ q. ap (is s 4) (eqb-true (a s k) r q) ∙ hr) ed)
     go false ev false ec d ed true em =
         kinds-apart s (child s k) r 54 4
-        (receiver-member (is s 54 (child s k)) (is s 50 (child s (child s k))) (classNumber (lookup (a s (child s (child s k))) st)) (both (is s 59 k) (not (eqb (receiver s k (openOn s st)) 0)) em)) hr refl
+        (receiver-member (is s 54 (child s k)) (is s 50 (child s (child s k))) (classNumber (lookup (a s (child s (child s k))) st))
+        (both (is s 59 k) (not (eqb (receiver s k (openOn s st)) 0)) em)) hr refl
       where
         both : (x y : Bool) → (x && y) ≡ true → y ≡ true
         both true y e = e
