@@ -48,14 +48,7 @@ pub fn put_line(
 }
 
 // How many names the wanted class has, or the largest number of a word.
-pub fn count_line(
-    s: &[u32],
-    outside: &[u32],
-    t: &[u32],
-    q: &[u32],
-    w: Wanted,
-    a: Above,
-) -> u32
+pub fn count_line(s: &[u32], outside: &[u32], t: &[u32], q: &[u32], w: Wanted, a: Above) -> u32
     requires { ⌜ (0 < rows (now s)) × (Counted (over (now outside)) (now s) (now t) (now q) (w .kind) (w .whole) a) ⌝ }
     ensures { λ x. ⌜ ((o : Store) → x ≡ min (length (namesIn (over (now (outside .entry))) (now (s .entry)) (storeOf o (now (t .entry)) (now (q .entry))) (w .kind) (rows (now (s .entry))) (w .whole))) 4294967295) ⌝ }
 {

@@ -8,3 +8,4 @@ pub mod Following
 pub mod Sources
 pub mod Declarations
 pub mod Demand
+pub mod Raised

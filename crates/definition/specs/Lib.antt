@@ -21,9 +21,10 @@ pub mod Classes
 pub mod Question
 pub mod Answer
 pub mod Outcome
--- The samples S1 to S12, and points easily read otherwise, computed.
+-- The samples S1 to S12, points easily read otherwise, and a sheet over another outside than the core's, computed.
 pub mod Samples
 pub mod Readings
+pub mod Entered
 -- Demand 3, and how long a walk is, as statements; proofs/ has their proofs.
 pub mod Claims
 pub mod Bounds

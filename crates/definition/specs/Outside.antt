@@ -1,6 +1,11 @@
--- What stands outside the sheet: the names of the outermost scope, the classes that have a record there, and how far numbers
--- of functions and classes of the sheet are raised in answer rows. Within the walk numbers go by rows: a function of the sheet is
--- its row, a class 256 + its row. A function or class of an earlier entry is told 2,048 higher than its number, past all rows.
+-- What stands outside a sheet: the names of the outermost scope, the classes that have a record there, and a base.
+--
+-- Numbers. A function's number in answer rows is its row + base, a class's 256 + its row + base; a plain sheet has base 0. Within the walk,
+-- that is in names, scopes, records and all definitions up to the answer rows, the base does not count: a function of the sheet is
+-- its row, a class of it 256 + its row. What an earlier entry of a session declared has numbers too, and must not be taken for a
+-- row of this sheet. So names and records here tell its functions and classes 2,048 higher than their numbers: past all rows, since
+-- a sheet has at most 2,048. Where answer rows are made (`raised` in Answer) the sheet's own numbers gain the base, and those of earlier
+-- entries lose the 2,048 again. The core's classes 3 to 102 are below 256 and stay as they are.
 use mathlib.Core.Bool.{Bool, true, false, not}
 use mathlib.Core.List.{List, [], _∷_, map}
 use Prim.Native.Nat.{ℕ, _≤_}
@@ -22,7 +27,7 @@ pub record ClassRecord : Type 0 where
   pub fields : List ℕ
   pub methods : List Method
 
--- What stands outside a sheet.
+-- What stands outside a sheet: names with what they mean, records, and how far numbers of the sheet are raised in answer rows.
 pub record Outside : Type 0 where
   pub names : List Named
   pub records : List ClassRecord
@@ -43,6 +48,10 @@ core =
           ∷ [];
       base = 0;
     }
+
+-- the same with another base
+abbrev pub based : Outside → ℕ → Outside
+based O n = record { names = O .names; records = O .records; base = n }
 
 -- has class c a record outside the sheet? Of the core's, 3 to 9 have none
 abbrev pub isRecorded : Outside → ℕ → Bool

@@ -171,7 +171,13 @@ fn check_ctor_calls(s: &[u32], outside: &[u32], t: &[u32], q: &[u32], calls: u32
     let mut i = calls;
     while 0 < i {
         i -= 1;
-        let y = check_call(s, outside, t, node_word(q, i, 1), ClassId(node_word(q, i, 2)));
+        let y = check_call(
+            s,
+            outside,
+            t,
+            node_word(q, i, 1),
+            ClassId(node_word(q, i, 2)),
+        );
         i = node_before(q, i);
         if y.number != 0 {
             x = y;

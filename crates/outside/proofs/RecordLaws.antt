@@ -134,6 +134,13 @@ unfolding spacedAt methodsAt
 method-names w p zero = refl
 method-names w p (suc n) = ap (λ (l : List ℕ). getD w p 0 ∷ l) (method-names w (p + 3) n)
 
+-- what is told of one list of methods is told of another that has the same one
+pub tells-as : (n : ℕ) {ms ks : List Held} {m : Method} → Tells n ms m → methodOf n ms ≡ methodOf n ks → Tells n ks m
+tells-as n t e = record { funIs = t .funIs ∙ ap (λ (y : Held). y .fun) e; paramsAre = t .paramsAre ∙ ap (λ (y : Held). y .params) e }
+
+pub tells-none : (n : ℕ) {ms : List Held} → noMethod ≡ methodOf n ms → Tells n ms (record { fun = record { 0 = 0 }; params = 0 })
+tells-none n e = record { funIs = ap (λ (y : Held). y .fun) e; paramsAre = ap (λ (y : Held). y .params) e }
+
 -- A class by its rows or by its record: x says whether row c is a class row, and r tells its record.
 module _ (s : Sheet) (w : List ℕ) (c : ℕ) {x : Bool} (e : x ≡ ofSheet s c) where
   pub has-own : x ≡ true → true ≡ hasRecord (over w) s c
@@ -148,13 +155,8 @@ module _ (s : Sheet) (w : List ℕ) (c : ℕ) {x : Bool} (e : x ≡ ofSheet s c)
   pub own-listed : x ≡ true → {n f : ℕ} {m : Method} → f ≡ head (filter (λ k. eqb (a s k) n) (kidsOf s 6 (c - 256))) → m .fun .0 ≡ f → m .params ≡ (if eqb f 0 then 0 else arity s f)
       → Tells n (ownMethods (over w) s c) m
   own-listed h {n} {f} i j k =
-      record {
-        funIs = j ∙ method-function s n (c - 256) f i ∙ ap (λ (y : Held). y .fun) whole;
-        paramsAre = k ∙ method-params s n (c - 256) f i ∙ ap (λ (y : Held). y .params) whole;
-      }
-    where
-      whole : methodOf n (map (methodAt s) (kidsOf s 6 (c - 256))) ≡ methodOf n (ownMethods (over w) s c)
-      whole = sym (ap (λ (t : Bool). methodOf n (if t then map (methodAt s) (kidsOf s 6 (c - 256)) else recordOf (over w) c .methods)) (sym e ∙ h))
+      tells-as n {ms = map (methodAt s) (kidsOf s 6 (c - 256))} (record { funIs = j ∙ method-function s n (c - 256) f i; paramsAre = k ∙ method-params s n (c - 256) f i })
+      (sym (ap (λ (t : Bool). methodOf n (if t then map (methodAt s) (kidsOf s 6 (c - 256)) else recordOf (over w) c .methods)) (sym e ∙ h)))
 
   module _ (h : x ≡ false) {r : Recorded} (k : Records w c r) where
     pub has-record : r .some ≡ hasRecord (over w) s c
@@ -165,13 +167,5 @@ module _ (s : Sheet) (w : List ℕ) (c : ℕ) {x : Bool} (e : x ≡ ofSheet s c)
 
     pub own-recorded : {n : ℕ} {m : Method} → Tells n (methodsAt w (r .method) (r .methods)) m → Tells n (ownMethods (over w) s c) m
     own-recorded {n} t =
-        let whole : methodOf n (methodsAt w (r .method) (r .methods)) ≡ methodOf n (ownMethods (over w) s c) =
-            ap (methodOf n) (k .methodsAre) ∙ sym (ap (λ (t : Bool). methodOf n (if t then map (methodAt s) (kidsOf s 6 (c - 256)) else recordOf (over w) c .methods)) (sym e ∙ h)) in
-        record { funIs = t .funIs ∙ ap (λ (y : Held). y .fun) whole; paramsAre = t .paramsAre ∙ ap (λ (y : Held). y .params) whole }
-
--- what is told of one list of methods is told of another that has the same one
-pub tells-as : (n : ℕ) {ms ks : List Held} {m : Method} → Tells n ms m → methodOf n ms ≡ methodOf n ks → Tells n ks m
-tells-as n t e = record { funIs = t .funIs ∙ ap (λ (y : Held). y .fun) e; paramsAre = t .paramsAre ∙ ap (λ (y : Held). y .params) e }
-
-pub tells-none : (n : ℕ) {ms : List Held} → noMethod ≡ methodOf n ms → Tells n ms (record { fun = record { 0 = 0 }; params = 0 })
-tells-none n e = record { funIs = ap (λ (y : Held). y .fun) e; paramsAre = ap (λ (y : Held). y .params) e }
+        tells-as n t
+        (ap (methodOf n) (k .methodsAre) ∙ sym (ap (λ (t : Bool). methodOf n (if t then map (methodAt s) (kidsOf s 6 (c - 256)) else recordOf (over w) c .methods)) (sym e ∙ h)))

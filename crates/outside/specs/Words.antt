@@ -1,6 +1,6 @@
--- What stands outside a sheet as lent words, rows of eight. Row 0 tells the row of the first class record, the row after the last, and
--- the base. The rows from 1 to the first record are names; the records follow; places in them, counted in words, lead to fields and
--- methods. A program's own layout: the contracts above speak of `over`, the outside that the words hold.
+-- What stands outside a sheet as lent words, rows of eight: a layout of the program's own. Row 0 tells the row of the first class record and
+-- the row after the last. The rows from 1 to the first record are names; the records follow; places in them, counted in words, lead to
+-- fields and methods. Contracts of other crates speak of `over`, the outside that the words hold.
 use mathlib.Core.List.{List, [], _∷_, map}
 use Prim.Native.Nat.{ℕ, zero, suc, _+_, _-_}
 use lib.ListN.{getD}
@@ -37,11 +37,11 @@ abbrev pub recordAt : List ℕ → ℕ → ClassRecord
 recordAt w i =
     record { number = word w i 0; name = word w i 1; fields = spacedAt w 1 (word w i 2) (word w i 3); methods = methodsAt w (word w i 4) (word w i 5) }
 
--- the outside that words hold
+-- the outside that words hold, with the numbers of the walk: base 0
 unfoldable pub over : List ℕ → Outside
 over w =
     record {
       names = map (nameAt w) (from 1 (word w 0 0 - 1));
       records = map (recordAt w) (from (word w 0 0) (word w 0 1 - word w 0 0));
-      base = word w 0 2;
+      base = 0;
     }

@@ -5,7 +5,7 @@ use Prim.Native.Nat.{ℕ, zero, suc, _+_, _*_, _/_, _<_, _≤_}
 use native.Mathlib.Omega.{arith}
 use lib.ListN.{length, getD, replicate, length-replicate}
 use Rattle.definition.specs.Sheet.{Sheet, rows}
-use Rattle.definition.specs.Outside.{core}
+use Rattle.definition.specs.Outside.{Outside}
 use Rattle.machine.specs.Reads.{PastFour}
 use Rattle.machine.proofs.Theorems.{rows-few}
 use Rattle.classes.specs.Table.{Clear}
@@ -25,9 +25,9 @@ clear-zeros n = record { zeros = zero-at n }
 zeros-long : (n : ℕ) → length {A = ℕ} (replicate n 0) ≡ n
 zeros-long n = length-replicate {A = ℕ} n 0
 
--- room for a sheet of at most m rows
-pub lent-zeros : (s : Sheet) (m a b c d : ℕ) → rows s ≤ m → m ≤ a → 1059 + 3 * m < b / 5 → m ≤ c / 8 → 21 * m ≤ d / 4 → Lent s (replicate a 0) (replicate b 0) (replicate c 0) (replicate d 0)
-lent-zeros s m a b c d few la lb lc ld = record {
+-- room for a sheet of at most m rows, with nine names outside it
+pub lent-zeros : (O : Outside) (s : Sheet) (m a b c d : ℕ) → length (O .names) ≤ 9 → rows s ≤ m → m ≤ a → 1059 + 3 * m < b / 5 → m ≤ c / 8 → 21 * m ≤ d / 4 → Lent O s (replicate a 0) (replicate b 0) (replicate c 0) (replicate d 0)
+lent-zeros O s m a b c d nine few la lb lc ld = record {
   for-classes = omega (arith, zeros-long a);
   for-entries = rw (zeros-long b) (omega arith);
   for-rows = rw (zeros-long c) (omega arith);
@@ -48,15 +48,15 @@ scratch-zeros s n few = record {
 }
 
 -- a sheet past question 1 is not long
-pub rows-most : (s : Sheet) → PastFour core s → rows s ≤ 2048
+pub rows-most : {O : Outside} (s : Sheet) → PastFour O s → rows s ≤ 2048
 rows-most s ok = rows-few s (ok .whole)
 
 pub rows-small : (s : Sheet) → length s ≤ 2560 → rows s ≤ 320
 rows-small s l = omega arith
 
 -- no class has a place yet
-pub places-zeros : (s t q : List ℕ) (n : ℕ) (ps w : List ℕ) → length s ≤ 16384 → 2048 ≤ n → ps ≡ replicate n 0 → Placed core s t q ps w 0 0
-places-zeros s t q n ps w l b e = record {
+pub places-zeros : (O : Outside) (s t q : List ℕ) (n : ℕ) (ps w : List ℕ) → length s ≤ 16384 → 2048 ≤ n → ps ≡ replicate n 0 → Placed O s t q ps w 0 0
+places-zeros O s t q n ps w l b e = record {
   room = omega (arith, ap length e ∙ zeros-long n);
   told = λ j p g. absurd (omega (arith, g, ap (λ (z : List ℕ). getD z j 0) e ∙ zero-at n j));
 }

@@ -55,14 +55,7 @@ fn receiver_class(s: &[u32], r: u32, e: Env, v: &[u32]) -> ClassId
 }
 
 // Question 12: has a class called as a constructor a record? The call is kept: 20 and 21 are asked after the walk.
-fn construct(
-    s: &[u32],
-    outside: &[u32],
-    r: u32,
-    class: ClassId,
-    w: Walk,
-    q: &mut [u32],
-) -> Walk
+fn construct(s: &[u32], outside: &[u32], r: u32, class: ClassId, w: Walk, q: &mut [u32]) -> Walk
     requires { ⌜ (kind (now s) r ≡ 59) × (class .0 ≡ 0 → ⊥) ⌝ }
     ensures { λ x. ⌜ ((v t : List ℕ) → class .0 ≡ constructedClass (now (s .entry)) r (scopesOf (w .env) v)
         → stateOf x v t (now (q .exit)) ≡ stepState (over (now (outside .entry))) (now (s .entry)) (visit r) (stateOf w v t (now (q .entry)))) ⌝ }
@@ -109,14 +102,7 @@ fn method_question(s: &[u32], outside: &[u32], r: u32, class: ClassId, m: Method
 }
 
 // A method called on a class: its questions; then the callee means the method, and its base gives no answer row.
-fn call_method(
-    s: &[u32],
-    outside: &[u32],
-    r: u32,
-    class: ClassId,
-    w: Walk,
-    t: &mut [u32],
-) -> Walk
+fn call_method(s: &[u32], outside: &[u32], r: u32, class: ClassId, w: Walk, t: &mut [u32]) -> Walk
     requires { ⌜ (kind (now s) r ≡ 59) × (class .0 ≡ 0 → ⊥) ⌝ }
     ensures { λ x. ⌜ ((v q : List ℕ) → class .0 ≡ receiverClass (now (s .entry)) r (scopesOf (w .env) v)
         → stateOf x v (now (t .exit)) q ≡ stepState (over (now (outside .entry))) (now (s .entry)) (visit r) (stateOf w v (now (t .entry)) q)) ⌝ }

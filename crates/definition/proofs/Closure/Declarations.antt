@@ -9,7 +9,7 @@ use lib.ListN.{length, getD, take}
 use lib.Dec.{eqb, T}
 use Rattle.definition.specs.Basics.{filter, final, place, head}
 use Rattle.definition.specs.Sheet.{Sheet, a, b, rows, is, kidsOf, functionOf}
-use Rattle.definition.specs.Outside.{Outside, core}
+use Rattle.definition.specs.Outside.{Outside, core, based}
 use Rattle.definition.specs.Meaning.{Meaning, rowOf, ownerOf, isVariable}
 use Rattle.definition.specs.Scope.{Stack, Moment, find, lookup, history, declares, declared, declaration, within, visited, visits}
 use Rattle.definition.specs.Slots.{isLocal, openLocals, localCount, code}
@@ -27,7 +27,7 @@ use Rattle.definition.proofs.Closure.Following.{rows-for, not-kind}
 
 -- the same outside, with numbers as the walk tells them
 abbrev pub relative : Outside → Outside
-relative O = record { names = O .names; records = O .records; base = 0 }
+relative O = based O 0
 
 pub no-base : (n : ℕ) → n + relative core .base ≡ n
 no-base n = omega arith

@@ -1,3 +1,4 @@
+use Rattle.outside.proofs.CoreLaws.{over-base}
 use Rattle.resolver.proofs.AnswerLaws.{walk-no}
 use Rattle.resolver.proofs.OutcomeLaws.{files-small}
 use Rattle.walk.specs.WalkState.{stateOf}
@@ -28,13 +29,13 @@ same-length-5 : tie.Need-same-length-5
 same-length-5 c = search needs
 
 returns : tie.Need-returns
-returns c = walk-no {x = stateOf _ _ _ _} (c .before .before .before .before .before .before .before .before .before .before .before .before .before .before .resolve-units .ensures) (c .before .before .before .before .if1 .taken) _ _ _ (c .before .before .refuse-at .ensures .0) (c .before .before .refuse-at .ensures .1)
+returns c = walk-no (over-base (c .args .outside .now)) {x = stateOf _ _ _ _} (c .before .before .before .before .before .before .before .before .before .before .before .before .before .before .resolve-units .ensures) (c .before .before .before .before .if1 .taken) _ _ _ (c .before .before .refuse-at .ensures .0) (c .before .before .refuse-at .ensures .1)
 
 finish-requires : tie.Need-finish-requires
 finish-requires c κs = (c .before .before .before .before .before .before .before .before .before .before .before .before .before .before .before .before .before .before .before .before .before .before .before .before .before .before .before .before .before .before .before .before .before .pre .0, c .before .before .before .before .before .before .before .before .before .before .before .before .before .before .before .before .before .before .resolve-units .ensures, c .before .before .before .before .before .before .before .before .if1 .left, c .before .before .before .before .before .before .before .before .before .before .before .before .before .before .before .before .before .before .before .before .before .before .before .before .before .before .before .before .before .before .before .before .before .pre .2)
 
 same-length-6 : tie.Need-same-length-6
-same-length-6 c = omega (arith, c .before .before .before .before .before .before .before .before .before .before .before .before .before .before .before .before .before .before .before .before .before .before .before .before .before .before .before .before .before .resolve-units .kept .1 .0)
+same-length-6 c = omega (arith, c .before .before .before .before .before .before .before .before .before .before .before .before .before .before .before .before .before .before .before .before .before .before .before .before .before .before .before .before .before .resolve-units .kept .1 .1 .0)
 
 same-length-7 : tie.Need-same-length-7
 same-length-7 c = search needs
