@@ -1,6 +1,7 @@
 -- Demand 3, the closure claim, as statements on a sheet, what stands outside it, and its answer rows. They speak of the walk's scopes, of the rows
 -- of the sheet and of the answer rows alone, and not of the slots, captures and source lists of the definitions: an answer
--- that gets one of these wrong does not meet them, however it was made.
+-- that gets one of these wrong does not meet them, however it was made. The last two, `slots` and `counts`, say besides that slots
+-- and counts are those of `Slots`.
 use mathlib.Core.Path.{_≡_}
 use mathlib.Core.Logic.{_⊎_, _↔_}
 use mathlib.Core.List.{List, [], _∷_, map, List·Memᴰ as Mem}
@@ -13,6 +14,7 @@ use Rattle.definition.specs.Sheet.{Sheet, a, b, rows, is, kidsOf, holder
 use Rattle.definition.specs.Meaning.{isVariable, rowOf}
 use Rattle.definition.specs.Outside.{Outside}
 use Rattle.definition.specs.Scope.{Moment, Stack, scope, looping, bound, lookup, history, visited, declares}
+use Rattle.definition.specs.Slots.{openLocals, localCount}
 use Rattle.definition.specs.Answer.{eight}
 
 -- An answer row: sheet row, code, values.
@@ -117,3 +119,8 @@ pub record Demand3 (O : Outside) (s : Sheet) (out : List Row) : Type 0 where
   -- "Locals of one function open at the same point of the walk have different slots": those of different functions too.
   pub slots-apart : (m : Moment) → Mem m (history O s) → (d e : ℕ) → Mem d (openRows (m .stack)) → Mem e (openRows (m .stack))
       → T (is s 29 d) → T (is s 29 e) → getD (firstFor out d) 2 0 ≡ getD (firstFor out e) 2 0 → d ≡ e
+  -- "slots and count being document 01's": a local was declared once, and its slot is the next one there, as many as locals were open;
+  -- a function's count is document 01's.
+  pub slots : (m : Moment) → Mem m (history O s) → (d : ℕ) → Mem d (openRows (m .stack)) → T (is s 29 d)
+      → (k : Moment) × (filter (λ y. eqb (declares (y .event)) d) (history O s) ≡ k ∷ []) × (getD (firstFor out d) 2 0 ≡ openLocals s (k .stack))
+  pub counts : (f : ℕ) → f < rows s → T (is s 6 f) → getD (firstFor out f) 2 0 ≡ localCount s (history O s) f

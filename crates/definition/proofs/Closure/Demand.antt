@@ -306,6 +306,21 @@ module _ {O : Outside} {s : Sheet} (ok : Fits O s) where
       (sym (slot-word m q d i t) ∙ w ∙ slot-word m q e j u) in
       sym (x .row-is) ∙ ap rowOf (same-open (m .stack) (x .at) (y .at) (x .name) (y .name) (x .means) (y .means) (x .before) (y .before) (x .is-open) (y .is-open) p) ∙ y .row-is
 
+  -- the slot of an open let is the next one where it was declared
+  slot-there : (m : Moment) → Mem m (history O s) → (d : ℕ) → Mem d (openRows (m .stack)) → T (is s 29 d)
+      → (k : Moment) × (filter (λ y. eqb (declares (y .event)) d) (history O s) ≡ k ∷ []) × (getD (firstFor (answers O s (history O s)) d) 2 0 ≡ openLocals s (k .stack))
+  slot-there m q d i t =
+      let o : OpenRow (m .stack) d = open-row (m .stack) d i in
+      let c = declared-once ok m q (o .at) (o .name) (o .means) (o .before) (o .is-open) (o .is-variable) in (
+        c .0,
+        subst (λ (r : ℕ). filter (λ y. eqb (declares (y .event)) r) (history O s) ≡ c .0 ∷ []) (o .row-is) (c .1),
+        slot-word m q d i t ∙ sym (ap (openLocals s) (c .2)),
+      )
+
+  -- the local count in a function's first row
+  count-there : (f : ℕ) → f < rows s → T (is s 6 f) → getD (firstFor (answers O s (history O s)) f) 2 0 ≡ localCount s (history O s) f
+  count-there f l t = ap (λ (rs : List Row). getD (getD rs 0 []) 2 0) (function-rows O s (history O s) f l t)
+
 -- Demand 3 of every sheet that fits.
 pub demand-3 : {O : Outside} {s : Sheet} → Fits O s → Demand3 (relative O) s (answers O s (history O s))
 demand-3 {s = s} ok =
@@ -316,4 +331,6 @@ demand-3 {s = s} ok =
       opened = λ m q d i. opened ok m q d i;
       locals = λ m q d i t. (openLocals s (open-row (m .stack) d i .before), local-row ok m q d (open-row (m .stack) d i) t, counted ok m q d i t);
       slots-apart = slots ok;
+      slots = slot-there ok;
+      counts = count-there ok;
     }

@@ -170,6 +170,12 @@ module _ {O : Outside} {s : Sheet} (ok : Fits O s) {out : List Row} (claim : Dem
   abbrev higher : List Row
   higher = map (raisedRow n) out
 
+  -- the local count in a function's first row
+  function-kept : (f : ℕ) → f < rows s → T (is s 6 f) → getD (firstFor higher f) 2 0 ≡ getD (firstFor out f) 2 0
+  function-kept f l t =
+      let c = claim .functions f l t .counted in
+      ap (λ (x : Row). getD x 2 0) (first-raised n out f) ∙ ap (λ (x : Row). getD (raisedRow n x) 2 0) (c .2) ∙ sym (ap (λ (x : Row). getD x 2 0) (c .2))
+
   -- what is open at a moment
   module _ (m : Moment) (q : Mem m (history O s)) (d : ℕ) (i : Mem d (openRows (m .stack))) where
     shape : Shape (declaredAs (based O 0) s out d)
@@ -194,10 +200,7 @@ module _ {O : Outside} {s : Sheet} (ok : Fits O s) {out : List Row} (claim : Dem
         ap (λ (x : Row). getD x 2 0) (first-raised n out d) ∙ ap (λ (rs : List Row). getD (raisedRow n (getD rs 0 [])) 2 0) (l .1) ∙ sym (ap (λ (rs : List Row). getD (getD rs 0 []) 2 0) (l .1))
 
     count-kept : T (is s 29 d) → getD (firstFor higher (functionOf s d)) 2 0 ≡ getD (firstFor out (functionOf s d)) 2 0
-    count-kept t =
-        let g = own-function ok m q d i t in
-        let c = claim .functions (functionOf s d) (g .0) (g .1) .counted in
-        ap (λ (x : Row). getD x 2 0) (first-raised n out (functionOf s d)) ∙ ap (λ (x : Row). getD (raisedRow n x) 2 0) (c .2) ∙ sym (ap (λ (x : Row). getD x 2 0) (c .2))
+    count-kept t = let g = own-function ok m q d i t in function-kept (functionOf s d) (g .0) (g .1)
 
     local-raised : T (is s 29 d)
         → (k : ℕ) × (rowsFor higher d ≡ eight (d ∷ 5 ∷ k ∷ (functionOf s d + n) ∷ b s d ∷ []) ∷ []) × (k < getD (firstFor higher (functionOf s d)) 2 0)
@@ -263,6 +266,8 @@ module _ {O : Outside} {s : Sheet} (ok : Fits O s) {out : List Row} (claim : Dem
         opened = claim .opened;
         locals = λ m q d i t. local-raised m q d i t;
         slots-apart = λ m q d e i j t u w. claim .slots-apart m q d e i j t u (sym (slot-kept m q d i t) ∙ w ∙ slot-kept m q e j u);
+        slots = λ m q d i t. let x = claim .slots m q d i t in (x .0, x .1, slot-kept m q d i t ∙ x .2);
+        counts = λ f l t. function-kept f l t ∙ claim .counts f l t;
       }
 
 -- Demand 3 of every sheet that fits, over what stands outside, with its functions and classes raised by the base.
