@@ -8,10 +8,10 @@ use Rattle.resolver.proofs.resolve_in.Statement.{statement}
 use Rattle.resolver.proofs.resolve_in.Tie as tie
 
 resolve-units-requires : tie.Need-resolve-units-requires
-resolve-units-requires c κs = (c .before .before .before .before .before .before .before .before .before .before .before .before .before .before .pre .0, c .before .before .before .before .before .before .before .before .before .before .before .before .before .before .pre .1)
+resolve-units-requires c κs = (c .before .before .before .before .before .before .before .before .before .before .before .before .before .before .before .pre .0, c .before .before .before .before .before .before .before .before .before .before .before .before .before .before .before .pre .1)
 
 refuse-at-requires : tie.Need-refuse-at-requires
-refuse-at-requires c κs = files-small (c .before .before .before .before .before .before .before .before .before .before .before .before .before .before .before .before .before .before .before .before .before .before .before .before .before .before .args .s .now) _ (c .before .before .before .before .before .before .before .before .before .before .before .before .before .before .before .before .before .before .before .before .before .before .before .before .before .before .pre .0)
+refuse-at-requires c κs = files-small (c .before .before .before .before .before .before .before .before .before .before .before .before .before .before .before .before .before .before .before .before .before .before .before .before .before .before .before .args .s .now) _ (c .before .before .before .before .before .before .before .before .before .before .before .before .before .before .before .before .before .before .before .before .before .before .before .before .before .before .before .pre .0)
 
 same-length : tie.Need-same-length
 same-length c = search needs
@@ -29,16 +29,16 @@ same-length-5 : tie.Need-same-length-5
 same-length-5 c = search needs
 
 returns : tie.Need-returns
-returns c = walk-no (over-base (c .args .outside .now)) {x = stateOf _ _ _ _} (c .before .before .before .before .before .before .before .before .before .before .before .before .before .before .resolve-units .ensures) (c .before .before .before .before .if1 .taken) _ _ _ (c .before .before .refuse-at .ensures .0) (c .before .before .refuse-at .ensures .1)
+returns c = walk-no (over-base (c .before .before .before .before .before .before .before .before .before .before .before .before .before .before .before .before .before .before .before .before .before .before .before .before .before .before .before .before .before .before .args .outside .now)) {x = stateOf _ _ _ _} (c .before .before .before .before .before .before .before .before .before .before .before .before .before .before .resolve-units .ensures) (c .before .before .before .before .if1 .taken) _ _ _ (c .before .before .refuse-at .ensures .0) (c .before .before .refuse-at .ensures .1)
 
 finish-requires : tie.Need-finish-requires
-finish-requires c κs = (c .before .before .before .before .before .before .before .before .before .before .before .before .before .before .before .before .before .before .before .before .before .before .before .before .before .before .before .before .before .before .before .before .before .pre .0, c .before .before .before .before .before .before .before .before .before .before .before .before .before .before .before .before .before .before .resolve-units .ensures, c .before .before .before .before .before .before .before .before .if1 .left, c .before .before .before .before .before .before .before .before .before .before .before .before .before .before .before .before .before .before .before .before .before .before .before .before .before .before .before .before .before .before .before .before .before .pre .2)
+finish-requires c κs = (c .before .before .before .before .before .before .before .before .before .before .before .before .before .before .before .before .before .before .before .before .before .before .before .before .before .before .before .before .before .before .before .before .before .before .pre .0, c .before .before .before .before .before .before .before .before .before .before .before .before .before .before .before .before .before .before .resolve-units .ensures, c .before .before .before .before .before .before .before .before .if1 .left, c .before .before .before .before .before .before .before .before .before .before .before .before .before .before .before .before .before .before .before .before .before .before .before .before .before .before .before .before .before .before .before .before .before .before .pre .2)
 
 same-length-6 : tie.Need-same-length-6
 same-length-6 c = omega (arith, c .before .before .before .before .before .before .before .before .before .before .before .before .before .before .before .before .before .before .before .before .before .before .before .before .before .before .before .before .before .resolve-units .kept .1 .1 .0)
 
 same-length-7 : tie.Need-same-length-7
-same-length-7 c = search needs
+same-length-7 c = omega (arith, c .before .before .before .before .before .before .before .before .before .before .before .before .before .before .before .before .before .before .before .before .before .before .before .before .before .before .before .before .before .resolve-units .kept .1 .1 .1 .0)
 
 same-length-8 : tie.Need-same-length-8
 same-length-8 c = search needs

@@ -17,7 +17,7 @@ slice-aggregate-resolve-with-4 : tie.Need-slice-aggregate-resolve-with-4
 slice-aggregate-resolve-with-4 c = search needs
 
 resolve-with-requires : tie.Need-resolve-with-requires
-resolve-with-requires c κs = (c .pre .0, lent-zeros _ _ 2048 2048 36020 16384 172032 (c .pre .1) (rows-most _ (c .pre .0)) (omega arith) (omega arith) (omega arith) (omega arith))
+resolve-with-requires c κs = (c .before .before .before .before .before .before .before .before .pre .0, lent-zeros _ _ 2048 2048 36020 16384 172032 (c .before .before .before .before .before .before .before .before .pre .1) (rows-most _ (c .before .before .before .before .before .before .before .before .pre .0)) (omega arith) (omega arith) (omega arith) (omega arith))
 
 same-length : tie.Need-same-length
 same-length c = search needs

@@ -17,7 +17,7 @@ slice-aggregate-resolve-with-4 : tie.Need-slice-aggregate-resolve-with-4
 slice-aggregate-resolve-with-4 c = search needs
 
 resolve-with-requires : tie.Need-resolve-with-requires
-resolve-with-requires c κs = (c .pre .0, lent-zeros _ _ 320 320 10100 2560 26880 (c .pre .1) (rows-small (c .args .s .now) (c .pre .2)) (omega arith) (omega arith) (omega arith) (omega arith))
+resolve-with-requires c κs = (c .before .before .before .before .before .before .before .before .pre .0, lent-zeros _ _ 320 320 10100 2560 26880 (c .before .before .before .before .before .before .before .before .pre .1) (rows-small (c .before .before .before .before .before .before .before .before .args .s .now) (c .before .before .before .before .before .before .before .before .pre .2)) (omega arith) (omega arith) (omega arith) (omega arith))
 
 same-length : tie.Need-same-length
 same-length c = search needs

@@ -16,7 +16,7 @@ slice-aggregate-resolve-in-4 : tie.Need-slice-aggregate-resolve-in-4
 slice-aggregate-resolve-in-4 c = search needs
 
 resolve-in-requires : tie.Need-resolve-in-requires
-resolve-in-requires c κs = (c .before .before .before .before .before .before .before .before .before .before .before .before .before .before .before .pre .0, c .before .before .before .before .before .before .before .before .before .before .before .before .before .before .before .pre .1, scratch-zeros _ 2048 (rows-most _ (c .before .before .before .before .before .before .before .before .before .before .before .before .before .before .before .pre .0)))
+resolve-in-requires c κs = (c .before .before .before .before .before .before .before .before .before .before .before .before .before .before .before .before .pre .0, c .before .before .before .before .before .before .before .before .before .before .before .before .before .before .before .before .pre .1, scratch-zeros _ 2048 (rows-most _ (c .before .before .before .before .before .before .before .before .before .before .before .before .before .before .before .before .pre .0)))
 
 same-length : tie.Need-same-length
 same-length c = search needs
