@@ -174,8 +174,8 @@ shown-counted {j = j} {w = w} {a = a} h f o = (h f o .parent, sym (column-length
 
 -- The same of what is wanted of the class of row r.
 module _ (O : Outside) (s t q : List ℕ) {r j : ℕ} {u : Wanted} (h : Wants r j u) where
-  pub shown-wanted : {w : List ℕ} {k : ℕ} {a : Above} → Shown O s t q j (256 + r) w k a → Shown O s t q (u .kind) (u .whole) w k a
-  shown-wanted g = rw (h .kindIs, h .wholeIs) g
+  pub shown-wanted : {w : List ℕ} {k : ℕ} {a : Above} → Shown O s t q j (256 + r) w k a → Shown O s t q (u .kind) (u .class .0) w k a
+  shown-wanted g = rw (h .kindIs, h .classIs) g
 
-  pub counted-wanted : {a : Above} → Counted O s t q j (256 + r) a → Counted O s t q (u .kind) (u .whole) a
-  counted-wanted g = rw (h .kindIs, h .wholeIs) g
+  pub counted-wanted : {a : Above} → Counted O s t q j (256 + r) a → Counted O s t q (u .kind) (u .class .0) a
+  counted-wanted g = rw (h .kindIs, h .classIs) g

@@ -36,11 +36,11 @@ pub names-counted : (f : ℕ → ℕ → List ℕ) (ms : List ℕ) (k : Filled) 
 names-counted f ms k z e = ap (λ (y : Filled). y .slot) e ∙ slot-counts f ms k (omega arith) ∙ omega arith
 
 -- The names that are wanted.
-wanted-fields : (O : Outside) (s : Sheet) (o : Stored) {r : ℕ} {w : Wanted} → Wants r 10 w → namesIn O s o (w .kind) (rows s) (w .whole) ≡ fieldsIn O s o (rows s) (256 + r)
-wanted-fields O s o {r} h = rw (h .kindIs, h .wholeIs) (names-fields O s o (rows s) (256 + r))
+wanted-fields : (O : Outside) (s : Sheet) (o : Stored) {r : ℕ} {w : Wanted} → Wants r 10 w → namesIn O s o (w .kind) (rows s) (w .class .0) ≡ fieldsIn O s o (rows s) (256 + r)
+wanted-fields O s o {r} h = rw (h .kindIs, h .classIs) (names-fields O s o (rows s) (256 + r))
 
-wanted-methods : (O : Outside) (s : Sheet) (o : Stored) {r : ℕ} {w : Wanted} → Wants r 6 w → namesIn O s o (w .kind) (rows s) (w .whole) ≡ methodNamesIn O s o (rows s) (256 + r)
-wanted-methods O s o {r} h = rw (h .kindIs, h .wholeIs) (names-methods O s o (rows s) (256 + r))
+wanted-methods : (O : Outside) (s : Sheet) (o : Stored) {r : ℕ} {w : Wanted} → Wants r 6 w → namesIn O s o (w .kind) (rows s) (w .class .0) ≡ methodNamesIn O s o (rows s) (256 + r)
+wanted-methods O s o {r} h = rw (h .kindIs, h .classIs) (names-methods O s o (rows s) (256 + r))
 
 -- The first row.
 module _ (O : Outside) (s t q marks : List ℕ) (r : ℕ) (h : ClassReady O s t q marks r) (o : Store) where
@@ -48,8 +48,8 @@ module _ (O : Outside) (s t q marks : List ℕ) (r : ℕ) (h : ClassReady O s t 
   st = storeOf o t q
 
   pub head-row : {p b f m : ℕ} {u v : Wanted} → p ≡ parentIn s st (256 + r) → b ≡ bit (not (eqb (getD marks r 0) 0))
-      → Wants r 10 u → f ≡ min (length (namesIn O s st (u .kind) (rows s) (u .whole))) 4294967295
-      → Wants r 6 v → m ≡ min (length (namesIn O s st (v .kind) (rows s) (v .whole))) 4294967295
+      → Wants r 10 u → f ≡ min (length (namesIn O s st (u .kind) (rows s) (u .class .0))) 4294967295
+      → Wants r 6 v → m ≡ min (length (namesIn O s st (v .kind) (rows s) (v .class .0))) 4294967295
       → r ∷ 22 ∷ p ∷ b ∷ f ∷ m ∷ 0 ∷ 0 ∷ [] ≡ eight (r ∷ headWords O s st r)
   unfolding headWords
   head-row {p} {b} {f} {m} {u} {v} d e x g y i = rw (d, e ∙ ap bit (h .marked .told o q r (h .row)), fields-equal, methods-equal)
@@ -85,17 +85,17 @@ module _ (O : Outside) (s : Sheet) (o : Stored) (r : ℕ) (w : Wanted) (k : Fill
 
   method-row : Wants r 6 w → (m i : ℕ) → nameRow O s o w m i ≡ eight (r ∷ 24 ∷ m ∷ methodNamed m (methodsIn O s o (rows s) (256 + r)) ∷ [])
   unfolding nameRow
-  method-row h m i = rw (h .kindIs, h .rowIs, h .wholeIs)
+  method-row h m i = rw (h .kindIs, h .rowIs, h .classIs)
 
   pub fields-told : {x : Filled} → Wants r 10 w → length (fieldsIn O s o (rows s) (256 + r)) ≤ 4294967295 → k .slot ≡ 0
-      → x ≡ putAll (nameRow O s o w) (namesIn O s o (w .kind) (rows s) (w .whole)) k
+      → x ≡ putAll (nameRow O s o w) (namesIn O s o (w .kind) (rows s) (w .class .0)) k
       → x .done ≡ emitAll (map (λ vs. eight (r ∷ vs)) (numbered 0 (fieldsIn O s o (rows s) (256 + r)))) (k .done)
   fields-told h l z e =
       ap (λ (y : Filled). y .done) (e ∙ ap (λ (ms : List ℕ). putAll (nameRow O s o w) ms k) (wanted-fields O s o h))
       ∙ field-rows (nameRow O s o w) r (field-row h) (fieldsIn O s o (rows s) (256 + r)) k (omega arith)
       ∙ ap (λ (i : ℕ). emitAll (map (λ vs. eight (r ∷ vs)) (numbered i (fieldsIn O s o (rows s) (256 + r)))) (k .done)) z
 
-  pub methods-told : {x : Filled} → Wants r 6 w → x ≡ putAll (nameRow O s o w) (namesIn O s o (w .kind) (rows s) (w .whole)) k
+  pub methods-told : {x : Filled} → Wants r 6 w → x ≡ putAll (nameRow O s o w) (namesIn O s o (w .kind) (rows s) (w .class .0)) k
       → x .done ≡ emitAll (map (λ vs. eight (r ∷ vs)) (map (λ n. 24 ∷ n ∷ methodNamed n (methodsIn O s o (rows s) (256 + r)) ∷ []) (methodNamesIn O s o (rows s) (256 + r)))) (k .done)
   methods-told h e =
       ap (λ (y : Filled). y .done) (e ∙ ap (λ (ms : List ℕ). putAll (nameRow O s o w) ms k) (wanted-methods O s o h))

@@ -30,7 +30,7 @@ module _ (O : Outside) (s : Sheet) (w : Wanted) (v : List ℕ) (i k : ℕ) where
   copied-field e = rw (eq-eqb (w .kind) 10 e)
 
   pub copied-method : (x : ℕ) → (w .kind ≡ 10 → ⊥)
-      → x ≡ (if eqb (methodNamed (getD v (8 * i + 2) 0) (ownMethods O s (w .whole))) 0 then getD v (8 * i + 3) 0 else methodNamed (getD v (8 * i + 2) 0) (ownMethods O s (w .whole)))
+      → x ≡ (if eqb (methodNamed (getD v (8 * i + 2) 0) (ownMethods O s (w .class .0))) 0 then getD v (8 * i + 3) 0 else methodNamed (getD v (8 * i + 2) 0) (ownMethods O s (w .class .0)))
       → w .row ∷ 24 ∷ getD v (8 * i + 2) 0 ∷ x ∷ 0 ∷ 0 ∷ 0 ∷ 0 ∷ [] ≡ copiedRow O s w v i k
   unfolding copiedRow
   copied-method x f e = rw (ne-eqb (w .kind) 10 f, e)
@@ -64,19 +64,19 @@ module _ (O : Outside) (s : Sheet) (w : Wanted) where
           ∙ sym (ap (λ (a : ℕ). putAll (copiedRow O s w v) (from i a) k) d)
 
 -- A copied row is the row that tells the name, if it tells the function that the parent has.
-module _ (O : Outside) (s : Sheet) (o : Stored) (w : Wanted) (l : 0 < rows s) (g : parentIn s o (w .whole) ≡ 0 → ⊥) where
-  own-else : (m : ℕ) {f : ℕ} → f ≡ functionIn O s o (rows s - 1) (parentIn s o (w .whole)) m
-      → (if eqb (methodNamed m (ownMethods O s (w .whole))) 0 then f else methodNamed m (ownMethods O s (w .whole))) ≡ functionIn O s o (rows s) (w .whole) m
+module _ (O : Outside) (s : Sheet) (o : Stored) (w : Wanted) (l : 0 < rows s) (g : parentIn s o (w .class .0) ≡ 0 → ⊥) where
+  own-else : (m : ℕ) {f : ℕ} → f ≡ functionIn O s o (rows s - 1) (parentIn s o (w .class .0)) m
+      → (if eqb (methodNamed m (ownMethods O s (w .class .0))) 0 then f else methodNamed m (ownMethods O s (w .class .0))) ≡ functionIn O s o (rows s) (w .class .0) m
   own-else m {f} e = go (eqb own 0) refl
     where
       own : ℕ
-      own = methodNamed m (ownMethods O s (w .whole))
+      own = methodNamed m (ownMethods O s (w .class .0))
 
-      go : (t : Bool) → eqb own 0 ≡ t → (if t then f else own) ≡ functionIn O s o (rows s) (w .whole) m
-      go true h = e ∙ ap (λ (y : Method). y .fun) (method-up O s o m (rows s) (w .whole) l refl (eqb-true own 0 h) refl g)
-      go false h = ap (λ (y : Method). y .fun) (method-here O s o m (rows s) (w .whole) l refl (eqb-false own 0 h))
+      go : (t : Bool) → eqb own 0 ≡ t → (if t then f else own) ≡ functionIn O s o (rows s) (w .class .0) m
+      go true h = e ∙ ap (λ (y : Method). y .fun) (method-up O s o m (rows s) (w .class .0) l refl (eqb-true own 0 h) refl g)
+      go false h = ap (λ (y : Method). y .fun) (method-here O s o m (rows s) (w .class .0) l refl (eqb-false own 0 h))
 
-  copied-row : (v : List ℕ) (i m k : ℕ) → getD v (8 * i + nameColumn (w .kind)) 0 ≡ m → ((w .kind ≡ 10 → ⊥) → getD v (8 * i + 3) 0 ≡ functionIn O s o (rows s - 1) (parentIn s o (w .whole)) m)
+  copied-row : (v : List ℕ) (i m k : ℕ) → getD v (8 * i + nameColumn (w .kind)) 0 ≡ m → ((w .kind ≡ 10 → ⊥) → getD v (8 * i + 3) 0 ≡ functionIn O s o (rows s - 1) (parentIn s o (w .class .0)) m)
       → copiedRow O s w v i k ≡ nameRow O s o w m k
   unfolding copiedRow nameRow
   copied-row v i m k e f = go (eqb (w .kind) 10) refl e
@@ -86,7 +86,7 @@ module _ (O : Outside) (s : Sheet) (o : Stored) (w : Wanted) (l : 0 < rows s) (g
       go false h d = rw (h, d, own-else m (f (eqb-false (w .kind) 10 h)))
 
   pub copied-all : (v ms : List ℕ) (i n : ℕ) (k : Filled) → column v (nameColumn (w .kind)) i n ≡ ms
-      → ((w .kind ≡ 10 → ⊥) → column v 3 i n ≡ map (functionIn O s o (rows s - 1) (parentIn s o (w .whole))) ms) → putAll (copiedRow O s w v) (from i n) k ≡ putAll (nameRow O s o w) ms k
+      → ((w .kind ≡ 10 → ⊥) → column v 3 i n ≡ map (functionIn O s o (rows s - 1) (parentIn s o (w .class .0))) ms) → putAll (copiedRow O s w v) (from i n) k ≡ putAll (nameRow O s o w) ms k
   unfolding putAll put
   copied-all v [] i zero k e f = refl
   copied-all v (m ∷ ms) i zero k e f = absurd (omega (arith, ap length e))

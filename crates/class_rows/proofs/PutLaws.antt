@@ -34,7 +34,7 @@ pub row-field : (O : Outside) (s : Sheet) (o : Store) (w : Wanted) (m i : ℕ) �
 unfolding nameRow
 row-field O s o w m i e = rw (eq-eqb (w .kind) 10 e)
 
-pub row-method : (O : Outside) (s : Sheet) (o : Store) (w : Wanted) (m i x : ℕ) → (w .kind ≡ 10 → ⊥) → x ≡ methodNamed m (methodsIn O s o (rows s) (w .whole))
+pub row-method : (O : Outside) (s : Sheet) (o : Store) (w : Wanted) (m i x : ℕ) → (w .kind ≡ 10 → ⊥) → x ≡ methodNamed m (methodsIn O s o (rows s) (w .class .0))
     → w .row ∷ 24 ∷ m ∷ x ∷ 0 ∷ 0 ∷ 0 ∷ 0 ∷ [] ≡ nameRow O s o w m i
 unfolding nameRow
 row-method O s o w m i x f e = rw (ne-eqb (w .kind) 10 f, e)

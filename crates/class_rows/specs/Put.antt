@@ -21,7 +21,7 @@ use Rattle.class_rows.specs.declared.put.Written.{Written}
 pub record Wants (r j : ℕ) (w : Wanted) : Type 0 where
   pub kindIs : w .kind ≡ j
   pub rowIs : w .row ≡ r
-  pub wholeIs : w .whole ≡ 256 + r
+  pub classIs : w .class .0 ≡ 256 + r
 
 -- The rows written, and the next slot.
 pub record Filled : Type 0 where
@@ -39,7 +39,7 @@ wordsOf x = x .row ∷ x .code ∷ x .one ∷ x .two ∷ x .three ∷ x .four �
 unfoldable pub nameRow : Outside → Sheet → Stored → Wanted → ℕ → ℕ → List ℕ
 nameRow O s o w m i =
     if eqb (w .kind) 10 then w .row ∷ 23 ∷ i ∷ m ∷ 0 ∷ 0 ∷ 0 ∷ 0 ∷ []
-    else w .row ∷ 24 ∷ m ∷ methodNamed m (methodsIn O s o (rows s) (w .whole)) ∷ 0 ∷ 0 ∷ 0 ∷ 0 ∷ []
+    else w .row ∷ 24 ∷ m ∷ methodNamed m (methodsIn O s o (rows s) (w .class .0)) ∷ 0 ∷ 0 ∷ 0 ∷ 0 ∷ []
 
 -- one name more, and the names of a list, by the row f that tells a name at a slot
 unfoldable pub put : (ℕ → ℕ → List ℕ) → ℕ → Filled → Filled
@@ -51,12 +51,12 @@ putAll f (m ∷ ms) k = putAll f ms (put f m k)
 
 -- the names of a list that are not inherited from the parent p
 abbrev pub putNew : Outside → Sheet → Stored → Wanted → Passed → List ℕ → Filled → Filled
-putNew O s o w p ms k = putAll (nameRow O s o w) (newOf (inherited O s o (w .kind) (p .left) (p .class)) ms) k
+putNew O s o w p ms k = putAll (nameRow O s o w) (newOf (inherited O s o (w .kind) (p .left) (p .class .0)) ms) k
 
 -- the row that tells the name of row i of the words v, at slot k: a method by the own function of that name, else by that of row i
 unfoldable pub copiedRow : Outside → Sheet → Wanted → List ℕ → ℕ → ℕ → List ℕ
 copiedRow O s w v i k =
     let m : ℕ = getD v (8 * i + 2) 0 in
     let f : ℕ = getD v (8 * i + 3) 0 in
-    let own : ℕ = methodNamed m (ownMethods O s (w .whole)) in
+    let own : ℕ = methodNamed m (ownMethods O s (w .class .0)) in
     if eqb (w .kind) 10 then w .row ∷ 23 ∷ k ∷ f ∷ 0 ∷ 0 ∷ 0 ∷ 0 ∷ [] else w .row ∷ 24 ∷ m ∷ (if eqb own 0 then f else own) ∷ 0 ∷ 0 ∷ 0 ∷ 0 ∷ []

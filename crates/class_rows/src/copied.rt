@@ -10,17 +10,18 @@ ghost use Rattle.class_rows.specs.Put.{filled, wordsOf, copiedRow, put, 
 use crate::put::Wanted;
 use crate::put::Written;
 use ast::ClassId;
+use ast::FunId;
 use outside::records::own_method;
 use sink::AnswerRow;
 use sink::emit;
 use symbols::decl::one_more;
 
 // The own method of name `m` of a class, else function `f`.
-fn own_or(s: &[u32], outside: &[u32], c: ClassId, m: u32, f: u32) -> u32
-    ensures { λ x. ⌜ x ≡ (if eqb (methodNamed m (ownMethods (over (now (outside .entry))) (now (s .entry)) (c .0))) 0 then f else methodNamed m (ownMethods (over (now (outside .entry))) (now (s .entry)) (c .0))) ⌝ }
+fn own_or(s: &[u32], outside: &[u32], c: ClassId, m: u32, f: FunId) -> FunId
+    ensures { λ x. ⌜ x .0 ≡ (if eqb (methodNamed m (ownMethods (over (now (outside .entry))) (now (s .entry)) (c .0))) 0 then f .0 else methodNamed m (ownMethods (over (now (outside .entry))) (now (s .entry)) (c .0))) ⌝ }
 {
     let own = own_method(s, outside, c, m).fun;
-    if own.0 == 0 { f } else { own.0 }
+    if own.0 == 0 { f } else { own }
 }
 
 // The name that row `at` tells, told of the wanted class at slot `i`.
@@ -40,12 +41,12 @@ fn copied_row(s: &[u32], outside: &[u32], out: &[u32], w: Wanted, at: usize, i: 
         };
     }
     let m = out[8 * at + 2];
-    let fun = own_or(s, outside, ClassId(w.whole), m, last);
+    let fun = own_or(s, outside, w.class, m, FunId(last));
     AnswerRow {
         row: w.row,
         code: 24,
         one: m,
-        two: fun,
+        two: fun.0,
         three: 0,
         four: 0,
     }

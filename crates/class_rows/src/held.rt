@@ -41,7 +41,7 @@ fn is_row_name(s: &[u32], t: &[u32], q: &[u32], kind: u32, r: u32, m: u32) -> bo
 fn is_own(s: &[u32], outside: &[u32], t: &[u32], q: &[u32], kind: u32, c: ClassId, m: u32) -> bool
     ensures { λ x. ⌜ ((o : Store) → x ≡ (m ∈? ownIn (over (now (outside .entry))) (now (s .entry)) (storeOf o (now (t .entry)) (now (q .entry))) kind (c .0))) ⌝ }
 {
-    if is_class_row(s, c.0) {
+    if is_class_row(s, c) {
         return is_row_name(s, t, q, kind, c.0 - FIRST_CLASS, m);
     }
     is_recorded(outside, kind, c, m)

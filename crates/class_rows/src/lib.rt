@@ -57,7 +57,7 @@ fn wanted(r: u32, kind: u32) -> Wanted
     Wanted {
         kind: kind,
         row: r,
-        whole: FIRST_CLASS + r,
+        class: ClassId(FIRST_CLASS + r),
     }
 }
 
@@ -138,7 +138,7 @@ pub fn emit_class(
     if room <= k {
         return room + 1;
     }
-    let parent = parent_of(s, t, ClassId(FIRST_CLASS + r)).0;
+    let parent = parent_of(s, t, ClassId(FIRST_CLASS + r));
     let at = place_of(places, parent);
     let fields = above_of(out, at, 10);
     let methods = above_of(out, at, 6);

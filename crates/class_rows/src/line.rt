@@ -17,7 +17,6 @@ use crate::put::Written;
 use crate::put::count_names;
 use crate::put::put_names;
 use crate::put::put_own;
-use ast::ClassId;
 use inherit::parent_of;
 
 // The names of the wanted class.
@@ -31,16 +30,16 @@ pub fn put_line(
     k: Written,
     out: &mut [u32],
 ) -> Written
-    requires { ⌜ (0 < rows (now s)) × (Shown (over (now outside)) (now s) (now t) (now q) (w .kind) (w .whole) (now out) (k .count) a) ⌝ }
-    ensures { λ x. ⌜ ((o : Store) → filled x (now (out .exit)) ≡ putAll (nameRow (over (now (outside .entry))) (now (s .entry)) (storeOf o (now (t .entry)) (now (q .entry))) w) (namesIn (over (now (outside .entry))) (now (s .entry)) (storeOf o (now (t .entry)) (now (q .entry))) (w .kind) (rows (now (s .entry))) (w .whole)) (filled k (now (out .entry)))) ⌝ }
+    requires { ⌜ (0 < rows (now s)) × (Shown (over (now outside)) (now s) (now t) (now q) (w .kind) (w .class .0) (now out) (k .count) a) ⌝ }
+    ensures { λ x. ⌜ ((o : Store) → filled x (now (out .exit)) ≡ putAll (nameRow (over (now (outside .entry))) (now (s .entry)) (storeOf o (now (t .entry)) (now (q .entry))) w) (namesIn (over (now (outside .entry))) (now (s .entry)) (storeOf o (now (t .entry)) (now (q .entry))) (w .kind) (rows (now (s .entry))) (w .class .0)) (filled k (now (out .entry)))) ⌝ }
 {
     let n = s.len() / 8;
-    let c = ClassId(w.whole);
+    let c = w.class;
     if a.row == 0 {
         return put_names(s, outside, t, q, w, n, c, k, out);
     }
     let p = Passed {
-        class: parent_of(s, t, c).0,
+        class: parent_of(s, t, c),
         left: n - 1,
     };
     let done = put_copied(s, outside, w, a.row, a.count, k, out);
@@ -49,11 +48,11 @@ pub fn put_line(
 
 // How many names the wanted class has, or the largest number of a word.
 pub fn count_line(s: &[u32], outside: &[u32], t: &[u32], q: &[u32], w: Wanted, a: Above) -> u32
-    requires { ⌜ (0 < rows (now s)) × (Counted (over (now outside)) (now s) (now t) (now q) (w .kind) (w .whole) a) ⌝ }
-    ensures { λ x. ⌜ ((o : Store) → x ≡ min (length (namesIn (over (now (outside .entry))) (now (s .entry)) (storeOf o (now (t .entry)) (now (q .entry))) (w .kind) (rows (now (s .entry))) (w .whole))) 4294967295) ⌝ }
+    requires { ⌜ (0 < rows (now s)) × (Counted (over (now outside)) (now s) (now t) (now q) (w .kind) (w .class .0) a) ⌝ }
+    ensures { λ x. ⌜ ((o : Store) → x ≡ min (length (namesIn (over (now (outside .entry))) (now (s .entry)) (storeOf o (now (t .entry)) (now (q .entry))) (w .kind) (rows (now (s .entry))) (w .class .0))) 4294967295) ⌝ }
 {
     let n = s.len() / 8;
-    let c = ClassId(w.whole);
+    let c = w.class;
     if a.row == 0 {
         return count_names(s, outside, t, q, w, n, c);
     }
@@ -63,7 +62,7 @@ pub fn count_line(s: &[u32], outside: &[u32], t: &[u32], q: &[u32], w: Wanted, a
         slot: a.count,
     };
     let p = Passed {
-        class: parent_of(s, t, c).0,
+        class: parent_of(s, t, c),
         left: n - 1,
     };
     put_own(s, outside, t, q, w, p, c, start, &mut none).slot

@@ -6,6 +6,7 @@ ghost use lib.Dec.{eqb, ltb};
 ghost use lib.ListN.{length};
 ghost use Rattle.definition.specs.Classes.{ofSheet};
 ghost use Rattle.class_rows.specs.Places.{placeOf, aboveOf};
+use ast::ClassId;
 use ast::FIRST_CLASS;
 use tree::lists::is_class_row;
 
@@ -16,11 +17,11 @@ pub struct Above {
 }
 
 // The entry of class `c`: one more than the answer row where it begins, or 0.
-pub fn place_of(places: &[usize], c: u32) -> usize
-    ensures { λ x. ⌜ x ≡ placeOf (now (places .entry)) c ⌝ }
+pub fn place_of(places: &[usize], c: ClassId) -> usize
+    ensures { λ x. ⌜ x ≡ placeOf (now (places .entry)) (c .0) ⌝ }
 {
-    if c >= FIRST_CLASS {
-        let i = (c - FIRST_CLASS) as usize;
+    if c.0 >= FIRST_CLASS {
+        let i = (c.0 - FIRST_CLASS) as usize;
         if i < places.len() {
             return places[i];
         }
@@ -52,8 +53,8 @@ pub fn above_of(out: &[u32], at: usize, kind: u32) -> Above
 
 // Is it known that the line of parents of the class of row `r` ends within `r + 1` classes? Its parent `c` has the entry `at`, or is
 // none of the sheet and has no parent.
-pub fn line_ends(s: &[u32], at: usize, c: u32, r: u32) -> bool
-    ensures { λ x. ⌜ x ≡ (not (eqb at 0) || (not (ofSheet (now (s .entry)) c) && ltb 0 r)) ⌝ }
+pub fn line_ends(s: &[u32], at: usize, c: ClassId, r: u32) -> bool
+    ensures { λ x. ⌜ x ≡ (not (eqb at 0) || (not (ofSheet (now (s .entry)) (c .0)) && ltb 0 r)) ⌝ }
 {
     if at != 0 {
         return true;

@@ -28,11 +28,11 @@ use symbols::decl::one_more;
 use tree::lists::is_class_row;
 use tree::words::word;
 
-// Whose names are written, and which: the kind of their rows, the class's row, the class's number.
+// Whose names are written, and which: the kind of their rows, the class's row, the class.
 pub struct Wanted {
     pub kind: u32,
     pub row: u32,
-    pub whole: u32,
+    pub class: ClassId,
 }
 
 // Rows written so far, and the next slot.
@@ -43,7 +43,7 @@ pub struct Written {
 
 // The parent whose names are passed over, and how far they are climbed for.
 pub struct Passed {
-    pub class: u32,
+    pub class: ClassId,
     pub left: usize,
 }
 
@@ -61,7 +61,7 @@ fn name_row(s: &[u32], outside: &[u32], t: &[u32], w: Wanted, m: u32, i: u32) ->
             four: 0,
         };
     }
-    let fun = find_method(s, outside, t, ClassId(w.whole), m).fun;
+    let fun = find_method(s, outside, t, w.class, m).fun;
     AnswerRow {
         row: w.row,
         code: 24,
@@ -107,7 +107,7 @@ fn put_new(
 ) -> Written
     ensures { λ x. ⌜ ((o : Store) → filled x (now (out .exit)) ≡ putNew (over (now (outside .entry))) (now (s .entry)) (storeOf o (now (t .entry)) (now (q .entry))) w p (m ∷ []) (filled k (now (out .entry)))) ⌝ }
 {
-    if is_inherited(s, outside, t, q, w.kind, p.left, ClassId(p.class), m) {
+    if is_inherited(s, outside, t, q, w.kind, p.left, p.class, m) {
         return k;
     }
     put_name(s, outside, t, w, m, k, out)
@@ -207,7 +207,7 @@ pub fn put_own(
 ) -> Written
     ensures { λ x. ⌜ ((o : Store) → filled x (now (out .exit)) ≡ putNew (over (now (outside .entry))) (now (s .entry)) (storeOf o (now (t .entry)) (now (q .entry))) w p (ownIn (over (now (outside .entry))) (now (s .entry)) (storeOf o (now (t .entry)) (now (q .entry))) (w .kind) (c .0)) (filled k (now (out .entry)))) ⌝ }
 {
-    if is_class_row(s, c.0) {
+    if is_class_row(s, c) {
         let r = c.0 - FIRST_CLASS;
         let done = put_listed(s, outside, t, q, w, p, r, k, out);
         if w.kind == 10 {
@@ -238,10 +238,10 @@ pub fn put_names(
     }
     let up = parent_of(s, t, c);
     let p = Passed {
-        class: up.0,
+        class: up,
         left: n - 1,
     };
-    if p.class == 0 {
+    if up.0 == 0 {
         return put_own(s, outside, t, q, w, p, c, k, out);
     }
     let done = put_names(s, outside, t, q, w, n - 1, up, k, out);

@@ -45,7 +45,7 @@ const NO_REFUSAL: Refusal = Refusal {
 pub fn parent_of(s: &[u32], t: &[u32], c: ClassId) -> ClassId
     ensures { λ x. ⌜ ((o : Store) (q : List ℕ) → x .0 ≡ parentIn (now (s .entry)) (storeOf o (now (t .entry)) q) (c .0)) ⌝ }
 {
-    if is_class_row(s, c.0) {
+    if is_class_row(s, c) {
         return ClassId(word(t, c.0 - FIRST_CLASS, 1));
     }
     ClassId(0)
@@ -79,7 +79,7 @@ fn climb(s: &[u32], outside: &[u32], t: &[u32], marks: &mut [u32], r: u32) -> Re
     ensures { λ x. ⌜ ((o : Store) (q : List ℕ) → refusalOf x ≡ climbIn (over (now (outside .entry))) (now (s .entry)) (storeOf o (now (t .entry)) q) (suc (rows (now (s .entry)))) [] (256 + r)) × (Marked (r + 1) (now (marks .exit))) × (x .number ≡ 0 → (o : Store) (q : List ℕ) → Climbed (over (now (outside .entry))) (now (s .entry)) (storeOf o (now (t .entry)) q) (now (marks .exit))) ⌝ }
 {
     let mut c = FIRST_CLASS + r;
-    while is_class_row(s, c) {
+    while is_class_row(s, ClassId(c)) {
         let row = c - FIRST_CLASS;
         let mark = marks[row as usize];
         if mark == r + 1 {

@@ -91,7 +91,7 @@ pub fn find_record(outside: &[u32], c: ClassId) -> Recorded
 pub fn has_record(s: &[u32], outside: &[u32], c: ClassId) -> bool
     ensures { λ x. ⌜ x ≡ hasRecord (over (now (outside .entry))) (now (s .entry)) (c .0) ⌝ }
 {
-    if is_class_row(s, c.0) {
+    if is_class_row(s, c) {
         return true;
     }
     find_record(outside, c).some
@@ -101,7 +101,7 @@ pub fn has_record(s: &[u32], outside: &[u32], c: ClassId) -> bool
 pub fn class_name(s: &[u32], outside: &[u32], c: ClassId) -> u32
     ensures { λ x. ⌜ x ≡ className (over (now (outside .entry))) (now (s .entry)) (c .0) ⌝ }
 {
-    if is_class_row(s, c.0) {
+    if is_class_row(s, c) {
         return word(s, c.0 - FIRST_CLASS, 6);
     }
     find_record(outside, c).name
@@ -143,7 +143,7 @@ fn listed_method(s: &[u32], f: FunId) -> Method
 pub fn own_method(s: &[u32], outside: &[u32], c: ClassId, n: u32) -> Method
     ensures { λ x. ⌜ Tells n (ownMethods (over (now (outside .entry))) (now (s .entry)) (c .0)) x ⌝ }
 {
-    if is_class_row(s, c.0) {
+    if is_class_row(s, c) {
         return listed_method(s, FunId(first_named(s, c.0 - FIRST_CLASS, 6, n)));
     }
     let x = find_record(outside, c);

@@ -17,8 +17,8 @@ add-result c = search needs
 returns : tie.Need-returns
 returns c = let a = c .before .before .before .before .before .before .before .before .args in let o : Store = record { used = 0; calls = 0 } in (λ o. class-full (over (a .outside .now)) (a .s .now) (storeOf o (a .t .now) (a .q .now)) (a .r) (a .k) (a .out .now) (c .if1 .taken), placed-kept (c .before .before .before .before .before .before .before .before .pre .1) _ (class-full (over (a .outside .now)) (a .s .now) (storeOf o (a .t .now) (a .q .now)) (a .r) (a .k) (a .out .now) (c .if1 .taken)))
 
-add-t19 : tie.Need-add-t19
-add-t19 c = search needs
+add-t18 : tie.Need-add-t18
+add-t18 c = search needs
 
 parent-of-requires : tie.Need-parent-of-requires
 parent-of-requires c κs = search needs
@@ -86,7 +86,7 @@ emit-class-spec =
     (tie.spec
     add-result
     returns
-    add-t19
+    add-t18
     parent-of-requires
     place-of-requires
     above-of-requires

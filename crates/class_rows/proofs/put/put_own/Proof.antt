@@ -46,7 +46,7 @@ returns : tie.Need-returns
 returns c = λ o. let a = c .before .before .before .before .before .before .before .before .before .before .before .before .before .before .before .before .before .before .before .args in
     let O = over (a .outside .now) in
     let st = storeOf o (a .t .now) (a .q .now) in
-    own-stored O (nameRow O (a .s .now) st (a .w)) (inherited O (a .s .now) st (a .w .kind) (a .p .left) (a .p .class)) (a .s .now) st (a .w .kind) (a .c .0) (filled (a .k) (a .out .now))
+    own-stored O (nameRow O (a .s .now) st (a .w)) (inherited O (a .s .now) st (a .w .kind) (a .p .left) (a .p .class .0)) (a .s .now) st (a .w .kind) (a .c .0) (filled (a .k) (a .out .now))
     (sym (c .before .before .before .before .before .before .before .before .before .before .before .before .if1 .taken) ∙ c .before .before .before .before .before .before .before .before .before .before .before .before .before .is-class-row .ensures) (c .before .before .before .before .before .before .before .before .before .put-listed .ensures o) (c .before .before .before .before .before .if2 .taken) (c .before .before .before .before .word .ensures) (c .before .before .put-stored .ensures o)
 
 -- src/put.rt:216:9
@@ -58,7 +58,7 @@ returns-2 : tie.Need-returns-2
 returns-2 c = λ o. let a = c .before .before .before .before .before .before .before .before .before .before .before .before .before .before .args in
     let O = over (a .outside .now) in
     let st = storeOf o (a .t .now) (a .q .now) in
-    own-listed O (nameRow O (a .s .now) st (a .w)) (inherited O (a .s .now) st (a .w .kind) (a .p .left) (a .p .class)) (a .s .now) st (a .w .kind) (a .c .0) (filled (a .k) (a .out .now))
+    own-listed O (nameRow O (a .s .now) st (a .w)) (inherited O (a .s .now) st (a .w .kind) (a .p .left) (a .p .class .0)) (a .s .now) st (a .w .kind) (a .c .0) (filled (a .k) (a .out .now))
     (sym (c .before .before .before .before .before .before .before .if1 .taken) ∙ c .before .before .before .before .before .before .before .before .is-class-row .ensures) (c .before .before .before .before .put-listed .ensures o) (c .if2 .left)
 
 -- src/put.rt:218:9
@@ -78,7 +78,7 @@ returns-3 : tie.Need-returns-3
 returns-3 c = λ o. let a = c .before .before .before .before .before .before .before .before .before .before .before .before .args in
     let O = over (a .outside .now) in
     let st = storeOf o (a .t .now) (a .q .now) in
-    own-recorded O (nameRow O (a .s .now) st (a .w)) (inherited O (a .s .now) st (a .w .kind) (a .p .left) (a .p .class)) (a .s .now) st (a .w .kind) (a .c .0) (filled (a .k) (a .out .now))
+    own-recorded O (nameRow O (a .s .now) st (a .w)) (inherited O (a .s .now) st (a .w .kind) (a .p .left) (a .p .class .0)) (a .s .now) st (a .w .kind) (a .c .0) (filled (a .k) (a .out .now))
     (sym (c .before .before .before .before .before .if1 .left) ∙ c .before .before .before .before .before .before .is-class-row .ensures) (c .before .before .before .before .recorded-names .ensures) (c .before .before .put-recorded .ensures o)
 
 pub put-own-spec : {M : Type 1} → statement M
