@@ -48,7 +48,7 @@ fn is_own(s: &[u32], outside: &[u32], t: &[u32], q: &[u32], kind: u32, c: ClassI
 }
 
 // Is `m` a name of class `c` after inheritance? It climbs at most `n` classes.
-pub fn has_name(
+fn has_name(
     s: &[u32],
     outside: &[u32],
     t: &[u32],

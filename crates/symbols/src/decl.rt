@@ -161,7 +161,7 @@ pub fn declared_by(s: &[u32], r: u32, e: Env) -> OpenDecl
     if kind == 4 {
         return OpenDecl {
             tag: 4,
-            first: 256 + r,
+            first: FIRST_CLASS + r,
             second: 0,
             slot: slot,
         };
@@ -195,7 +195,8 @@ fn global_after(d: OpenDecl, n: u32) -> u32
     if d.tag == 7 { one_more(n) } else { n }
 }
 
-// Declares name `m` as `d`.
+// Declares name `m` as `d`, which must be what the next entry of the open scopes holds of some meaning (`entryFor`: its slot is the next
+// one, a let of a unit has the next global number). Of any other `d` the contract says nothing.
 pub fn define(s: &[u32], m: u32, d: OpenDecl, e: Env, v: &mut [u32]) -> Env
     ensures { λ x. ⌜ ((k : Meaning) → d ≡ entryFor k (scopesOf e (now (v .entry)))
         → scopesOf x (now (v .exit)) ≡ pushName (now (s .entry)) m k (scopesOf e (now (v .entry)))) ⌝ }

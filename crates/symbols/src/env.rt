@@ -84,7 +84,7 @@ pub fn in_loop(s: &[u32], v: &[u32], n: u32) -> bool
 }
 
 // The place of the innermost scope's mark, or 0.
-pub fn last_mark(v: &[u32], n: u32) -> u32
+fn last_mark(v: &[u32], n: u32) -> u32
     ensures { λ x. ⌜ x ≡ lastMark (now (v .entry)) n ⌝ }
 {
     let mut i = n;

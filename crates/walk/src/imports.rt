@@ -16,6 +16,7 @@ ghost use Rattle.symbols.specs.OpenDecls.{entryFor};
 ghost use Rattle.walk.specs.WalkState.{stateOf};
 use crate::state::Walk;
 use crate::state::refuse;
+use ast::FIRST_CLASS;
 use symbols::decl::OpenDecl;
 use symbols::decl::define;
 use symbols::decl::is_declared;
@@ -49,7 +50,7 @@ fn exported(s: &[u32], x: u32, e: Env) -> OpenDecl
         return decl_of(3, word(s, x, 7), e.slot);
     }
     if kind == 4 {
-        return decl_of(4, 256 + x, e.slot);
+        return decl_of(4, FIRST_CLASS + x, e.slot);
     }
     if kind == 8 {
         return decl_of(5, word(s, x, 7), e.slot);
