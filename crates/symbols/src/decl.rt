@@ -15,6 +15,7 @@ use crate::env::entry_word;
 use crate::env::find_name;
 use crate::env::push_entry;
 use ast::ClassId;
+use ast::FIRST_CLASS;
 use tree::words::word;
 
 // A declaration as an open entry holds it. Tags: 2 none, 3 function, 4 class, 5 global known before the walk (its number; 1 if
