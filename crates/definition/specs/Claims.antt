@@ -1,7 +1,6 @@
--- Demand 3, the closure claim, as statements on a sheet, what stands outside it, and its answer rows. They speak of the walk's scopes, of the rows
--- of the sheet and of the answer rows alone, and not of the slots, captures and source lists of the definitions: an answer
--- that gets one of these wrong does not meet them, however it was made. The last two, `slots` and `counts`, say besides that slots
--- and counts are those of `Slots`.
+-- Demand 3, the closure claim, as statements on a sheet, what stands outside it, and its answer rows. They speak of the walk's scopes, of the
+-- rows of the sheet and of the answer rows alone, and not of the slots, local counts, captures and source lists of the definitions: an
+-- answer that gets one of these wrong does not meet them, however it was made.
 use mathlib.Core.Path.{_≡_}
 use mathlib.Core.Logic.{_⊎_, _↔_}
 use mathlib.Core.List.{List, [], _∷_, map, List·Memᴰ as Mem}
@@ -9,12 +8,12 @@ use mathlib.Core.Bool.{Bool, not, _&&_}
 use Prim.Native.Nat.{ℕ, suc, _+_, _<_}
 use lib.ListN.{length, getD, take, drop}
 use lib.Dec.{eqb, T}
-use Rattle.definition.specs.Basics.{if_then_else_, filter, count, place, _∈?_}
+use Rattle.definition.specs.Basics.{if_then_else_, filter, count, place, largest, _∈?_}
 use Rattle.definition.specs.Sheet.{Sheet, a, b, rows, is, kidsOf, holder, functionsOf, functionOf}
 use Rattle.definition.specs.Meaning.{isVariable, rowOf}
 use Rattle.definition.specs.Outside.{Outside}
-use Rattle.definition.specs.Scope.{Moment, Stack, scope, looping, bound, lookup, history, visited, declares}
-use Rattle.definition.specs.Slots.{openLocals, localCount}
+use Rattle.definition.specs.Scope.{Moment, Stack, scope, looping, bound, lookup, history, visited, declares, declarings, declaration, within}
+use Rattle.definition.specs.Slots.{isLocal}
 use Rattle.definition.specs.Answer.{eight}
 
 -- An answer row: sheet row, code, values.
@@ -46,6 +45,14 @@ openRows [] = []
 openRows (scope r ∷ st) = openRows st
 openRows (looping ∷ st) = openRows st
 openRows (bound n d ∷ st) = if isVariable d then rowOf d ∷ openRows st else openRows st
+
+-- how many locals are open: the slot of the next one
+abbrev pub openLets : Sheet → Stack → ℕ
+openLets s st = count (is s 29) (openRows st)
+
+-- the largest slot that a local of function f takes, plus 1, or 0
+abbrev pub slotsUsed : Sheet → List Moment → ℕ → ℕ
+slotsUsed s h f = largest (map (λ m. suc (openLets s (m .stack))) (filter (λ m. isLocal s (declaration s m) && eqb (within s m) f) (declarings s h 29)))
 
 -- code and values of the local or argument of row d: an argument's are 4, its index, its function (its row, raised by the base); a
 -- local's stand in the answer row of its let
@@ -119,8 +126,8 @@ pub record Demand3 (O : Outside) (s : Sheet) (out : List Row) : Type 0 where
   -- "Locals of one function open at the same point of the walk have different slots": those of different functions too.
   pub slots-apart : (m : Moment) → Mem m (history O s) → (d e : ℕ) → Mem d (openRows (m .stack)) → Mem e (openRows (m .stack))
       → T (is s 29 d) → T (is s 29 e) → getD (firstFor out d) 2 0 ≡ getD (firstFor out e) 2 0 → d ≡ e
-  -- "slots and count being document 01's": a local was declared once, and its slot is the next one there, as many as locals were open;
-  -- a function's count is document 01's.
+  -- "slots and count being document 01's": a local was declared once, in the next slot, as many as locals were open there; a function's
+  -- count is its largest slot plus 1, or 0.
   pub slots : (m : Moment) → Mem m (history O s) → (d : ℕ) → Mem d (openRows (m .stack)) → T (is s 29 d)
-      → (k : Moment) × (filter (λ y. eqb (declares (y .event)) d) (history O s) ≡ k ∷ []) × (getD (firstFor out d) 2 0 ≡ openLocals s (k .stack))
-  pub counts : (f : ℕ) → f < rows s → T (is s 6 f) → getD (firstFor out f) 2 0 ≡ localCount s (history O s) f
+      → (k : Moment) × (filter (λ y. eqb (declares (y .event)) d) (history O s) ≡ k ∷ []) × (getD (firstFor out d) 2 0 ≡ openLets s (k .stack))
+  pub counts : (f : ℕ) → f < rows s → T (is s 6 f) → getD (firstFor out f) 2 0 ≡ slotsUsed s (history O s) f

@@ -1,21 +1,21 @@
 -- Demand 3 of the definitions: what `Claims` states, of every sheet that fits and its answer rows.
-use mathlib.Core.Path.{_≡_, refl, sym, ap, _∙_, subst}
+use mathlib.Core.Path.{_≡_, refl, sym, ap, _∙_, subst, fun-ext}
 use mathlib.Core.Logic.{_⊎_, inl, inr}
 use mathlib.Core.List.{List, [], _∷_, _++_, map, List·Memᴰ as Mem, Memᴰ·cast}
-use mathlib.Core.Bool.{_&&_}
+use mathlib.Core.Bool.{Bool, true, false, _&&_}
 use Prim.Native.Nat.{ℕ, suc, _<_}
 use native.Mathlib.Omega.{arith}
 use lib.ListN.{length, getD, take, drop, length-map}
 use lib.Dec.{eqb, T, eqb→eq}
-use Rattle.definition.specs.Basics.{filter, place, count, _∈?_}
+use Rattle.definition.specs.Basics.{if_then_else_, filter, place, count, bit, largest, _∈?_}
 use Rattle.definition.specs.Sheet.{Sheet, a, child, rows, is, kids, holder, functionsOf, functionOf}
 use Rattle.definition.specs.Outside.{Outside}
 use Rattle.definition.specs.Meaning.{rowOf, ownerOf, isVariable}
-use Rattle.definition.specs.Scope.{Moment, find, lookup, around, history, declares, visited, visits}
+use Rattle.definition.specs.Scope.{Moment, Stack, scope, looping, bound, find, lookup, around, history, declares, declarings, declaration, within, visited, visits}
 use Rattle.definition.specs.Slots.{topSlot, isLocal, openLocals, localCount, code}
 use Rattle.definition.specs.Capture.{Use, useAt, uses, captures, escaping, isOuter, same, beyond}
 use Rattle.definition.specs.Answer.{eight, answers}
-use Rattle.definition.specs.Claims.{Row, rowsFor, firstFor, told, declaredAs, openRows, between, usedIn, Follows, ends, steps, Followed, Captures, Demand3}
+use Rattle.definition.specs.Claims.{Row, rowsFor, firstFor, told, declaredAs, openRows, openLets, slotsUsed, between, usedIn, Follows, ends, steps, Followed, Captures, Demand3}
 use Rattle.definition.proofs.Lists.Tests.{and-left, and-right, and-both, eqb-of}
 use Rattle.definition.proofs.Lists.Members.{drop-mem, getD-drop-is, mem-map, map-mem, mem-filter, filter-mem, mem-test, test-mem, nodup-apart, distinct-nodup, drop-some, drop-map, count-filter, take-front, map-same, map-map, place-order}
 use Rattle.definition.proofs.Format.Links.{held}
@@ -42,6 +42,24 @@ follows-same (ends (inr p)) (steps q i g) = absurd (omega arith)
 follows-same (steps p h f) (ends (inl q)) = absurd (omega arith)
 follows-same (steps p h f) (ends (inr q)) = absurd (omega arith)
 follows-same (steps p h f) (steps q i g) = let e = follows-same f g in (ap suc (e .0), e .1)
+
+-- the open locals are the open lets
+lets-open : (s : Sheet) (st : Stack) → openLocals s st ≡ openLets s st
+lets-open s [] = refl
+lets-open s (scope r ∷ st) = lets-open s st
+lets-open s (looping ∷ st) = lets-open s st
+lets-open s (bound n d ∷ st) = go (isVariable d) (is s 29 (rowOf d)) refl (lets-open s st)
+  where
+    go : (t u : Bool) → is s 29 (rowOf d) ≡ u → openLocals s st ≡ openLets s st
+        → (if t && u then suc (openLocals s st) else openLocals s st) ≡ count (is s 29) (if t then rowOf d ∷ openRows st else openRows st)
+    go true true h e = omega (arith, e, ap bit h)
+    go true false h e = omega (arith, e, ap bit h)
+    go false u h e = e
+
+-- so a function's count is its largest slot plus 1
+slots-used : (s : Sheet) (h : List Moment) (f : ℕ) → localCount s h f ≡ slotsUsed s h f
+slots-used s h f =
+    ap (λ (g : Moment → ℕ). largest (map g (filter (λ m. isLocal s (declaration s m) && eqb (within s m) f) (declarings s h 29)))) (fun-ext (λ m. ap suc (lets-open s (m .stack))))
 
 module _ {O : Outside} {s : Sheet} (ok : Fits O s) where
   -- an identifier at its visit
@@ -306,20 +324,20 @@ module _ {O : Outside} {s : Sheet} (ok : Fits O s) where
       (sym (slot-word m q d i t) ∙ w ∙ slot-word m q e j u) in
       sym (x .row-is) ∙ ap rowOf (same-open (m .stack) (x .at) (y .at) (x .name) (y .name) (x .means) (y .means) (x .before) (y .before) (x .is-open) (y .is-open) p) ∙ y .row-is
 
-  -- the slot of an open let is the next one where it was declared
+  -- the slot of an open let is the next one where it was declared: as many as lets are open
   slot-there : (m : Moment) → Mem m (history O s) → (d : ℕ) → Mem d (openRows (m .stack)) → T (is s 29 d)
-      → (k : Moment) × (filter (λ y. eqb (declares (y .event)) d) (history O s) ≡ k ∷ []) × (getD (firstFor (answers O s (history O s)) d) 2 0 ≡ openLocals s (k .stack))
+      → (k : Moment) × (filter (λ y. eqb (declares (y .event)) d) (history O s) ≡ k ∷ []) × (getD (firstFor (answers O s (history O s)) d) 2 0 ≡ openLets s (k .stack))
   slot-there m q d i t =
       let o : OpenRow (m .stack) d = open-row (m .stack) d i in
       let c = declared-once ok m q (o .at) (o .name) (o .means) (o .before) (o .is-open) (o .is-variable) in (
         c .0,
         subst (λ (r : ℕ). filter (λ y. eqb (declares (y .event)) r) (history O s) ≡ c .0 ∷ []) (o .row-is) (c .1),
-        slot-word m q d i t ∙ sym (ap (openLocals s) (c .2)),
+        slot-word m q d i t ∙ sym (ap (openLocals s) (c .2)) ∙ lets-open s (c .0 .stack),
       )
 
   -- the local count in a function's first row
-  count-there : (f : ℕ) → f < rows s → T (is s 6 f) → getD (firstFor (answers O s (history O s)) f) 2 0 ≡ localCount s (history O s) f
-  count-there f l t = ap (λ (rs : List Row). getD (getD rs 0 []) 2 0) (function-rows O s (history O s) f l t)
+  count-there : (f : ℕ) → f < rows s → T (is s 6 f) → getD (firstFor (answers O s (history O s)) f) 2 0 ≡ slotsUsed s (history O s) f
+  count-there f l t = ap (λ (rs : List Row). getD (getD rs 0 []) 2 0) (function-rows O s (history O s) f l t) ∙ slots-used s (history O s) f
 
 -- Demand 3 of every sheet that fits.
 pub demand-3 : {O : Outside} {s : Sheet} → Fits O s → Demand3 (relative O) s (answers O s (history O s))
