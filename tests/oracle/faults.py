@@ -797,7 +797,8 @@ def column_faults():
     for kind, name in KIND_NAMES.items():
         if kind in (0, 43, 44, 45, 46, 49, 56, 57):
             continue
-        for column in "ab":
+        # the others are asked by the demands on functions and class declarations
+        for column in "a" if kind == 6 else "b" if kind == 30 else "ab":
             found.append((f"{name}: column {column} is not asked", RULE,
                           f'rule = "any" if kind == {kind} and rules is COLUMN_{column.upper()} else rules.get(kind, "zero")'))
     for kind in (45, 46, 49, 56, 57):
