@@ -103,8 +103,9 @@ def planted(recorded, word):
     ]
     for program, file, group, notices in groups:
         for what, *changes in group:
-            if word in what:
-                yield notices(altered(file, changes)), f"{program}: {what}"
+            line = f"{program}: {what}"
+            if word in line:
+                yield notices(altered(file, changes)), line
 
 
 def main():
