@@ -1,7 +1,7 @@
 """Small programs for points that random sheets meet seldom: the order of checks, scopes, captures, classes, imports.
 
-`programs()` gives what each shows, and its tree. The oracle says what comes of them. `later_programs()` gives those that were
-added for faults of planted.py, with pairs of nodes: the row of the first must stand before that of the second.
+`programs()` gives what each shows, and its tree. The oracle says what comes of them. `later_programs()` gives those that
+were added for faults of planted.py, with pairs of nodes: the row of the first must stand before that of the second.
 """
 from sheets import INIT, MAIN_UNIT, NULL
 from tree import Node
@@ -371,10 +371,12 @@ def rows_against_the_walk():
     yield "captures of an inner literal", in_function(
         var(b), give(lit([], block(do(inner), do(second)))), params=[p]), [(second, first)]
     first, second = use(b), use(a)
+    deep = lit([], give(lit([], give(first))))
     yield "captures by literals of two depths", in_function(
-        var(a), var(b), give(lit([], block(do(lit([], give(lit([], give(first))))), do(lit([], give(second))))))), [(second, first)]
+        var(a), var(b), give(lit([], block(do(deep), do(lit([], give(second))))))), [(second, first)]
     first, second = use(A), use(B)
-    yield "constructor calls, 20", sheet(unit(do(call(first)), do(call(second)), classes=[record(A), record(B)])), [(second, first)]
+    yield "constructor calls, 20", sheet(
+        unit(do(call(first)), do(call(second)), classes=[record(A), record(B)])), [(second, first)]
     first, second = use(A), use(A)
     yield "constructor calls, 21", sheet(unit(
         do(call(first, nil())), do(call(second)), classes=[record(A, 0, (), [method(INIT)])])), [(second, first)]
@@ -386,9 +388,11 @@ def rows_against_the_walk():
     far = unit(classes=[second])
     yield "classes of two units, inherited", sheet(unit(imports=[bring(far, B)], classes=[first]), far), [(second, first)]
     one, two = record(A, STRING), record(B, DICT)
-    yield "classes against their declarations", sheet(unit(declare(two), declare(one), classes=[one, two], declared=False)), []
+    yield "classes against their declarations", sheet(
+        unit(declare(two), declare(one), classes=[one, two], declared=False)), []
     one, two = record(A, A), record(B, B)
-    yield "circles against their declarations", sheet(unit(declare(two), declare(one), classes=[one, two], declared=False)), []
+    yield "circles against their declarations", sheet(
+        unit(declare(two), declare(one), classes=[one, two], declared=False)), []
     one = record(A, 0, [q, p])
     declared = declare(one)
     yield "fields after the class declaration", sheet(unit(declared, let(a), classes=[one], declared=False)), [
@@ -410,7 +414,8 @@ def later_order():
 
 def later_scopes():
     yield "a constant let takes no slot", in_function(let(a, nil(), 4), let(b), do(array(use(a), use(b)))), []
-    yield "a constant let between two", in_function(var(a), let(b, nil(), 2), let(c), do(lit([], give(array(use(b), use(c)))))), []
+    yield "a constant let between two", in_function(
+        var(a), let(b, nil(), 2), let(c), do(lit([], give(array(use(b), use(c)))))), []
     yield "a constant let takes no global", sheet(unit(let(a), let(b, nil(), 3), var(c), do(use(b)))), []
     yield "two functions hoisted in a unit", sheet(unit(let(a, lit([], nil_body())), let(a, lit([], nil_body())))), []
     yield "a class of an earlier unit", sheet(unit(classes=[record(A)]), unit(do(use(A)))), []
@@ -438,7 +443,8 @@ def later_loops():
 
 def later_classes():
     def three():
-        return [record(C, B, [c], [method(q)]), record(B, A, [b], [method(n)]), record(A, 0, [a], [method(m), method(INIT, params=[p])])]
+        return [record(C, B, [c], [method(q)]), record(B, A, [b], [method(n)]),
+                record(A, 0, [a], [method(m), method(INIT, params=[p])])]
     yield "a grandparent's methods and fields", sheet(unit(do(call(use(C))), classes=three())), []
     yield "a grandparent's methods, from above", sheet(unit(do(call(use(C))), classes=three()[::-1])), []
     yield "a grandparent's init, arguments", sheet(unit(do(call(use(C), nil())), classes=three())), []
@@ -459,8 +465,8 @@ def later_imports():
     other = unit()
 
     def offers(functions=(), classes=(), consts=()):
-        return unit(exports=[Node(7, name, other.kids[-1]) for name in functions], classes=[record(name) for name in classes],
-                    consts=[Node(8, name, 1) for name in consts])
+        return unit(exports=[Node(7, name, other.kids[-1]) for name in functions],
+                    classes=[record(name) for name in classes], consts=[Node(8, name, 1) for name in consts])
 
     rich = offers([a], [a])
     yield "all before an unknown name", sheet(unit(imports=[bring(rich, b, everything=1)]), rich, other), []
@@ -471,10 +477,13 @@ def later_imports():
             other, unit(imports=[bring(rich, *names), bring(far, everything=1)]), rich, far), []
     for sort in ("functions", "classes", "consts"):
         rich, far = offers(**{sort: [a, b]}), offers(**{sort: [b, a]})
-        yield f"all, {sort} in their order", sheet(other, unit(imports=[bring(rich, a, b), bring(far, everything=1)]), rich, far), []
+        yield f"all, {sort} in their order", sheet(
+            other, unit(imports=[bring(rich, a, b), bring(far, everything=1)]), rich, far), []
     rich = offers([a], [B], [g])
-    yield "an unknown name, then one that is there", sheet(other, unit(imports=[bring(rich, a), bring(rich, b, a)]), rich), []
-    yield "one that is there, then an unknown name", sheet(other, unit(imports=[bring(rich, a), bring(rich, a, b)]), rich), []
+    yield "an unknown name, then one that is there", sheet(
+        other, unit(imports=[bring(rich, a), bring(rich, b, a)]), rich), []
+    yield "one that is there, then an unknown name", sheet(
+        other, unit(imports=[bring(rich, a), bring(rich, a, b)]), rich), []
     rich = offers(classes=[A, B])
     yield "two classes that are imported", sheet(unit(imports=[bring(rich, B, A)], classes=[record(A), record(B)]), rich), []
     yield "two classes that are imported, the other way", sheet(

@@ -1,6 +1,7 @@
 """Faults to plant: what each is, then pairs of a text that occurs once in the file and what stands in its place.
 
-RESOLVER is of second.py, FORMAT and TEXT of format_check.py. `format_faults(source)` adds to FORMAT those that can be listed by
+RESOLVER is of second.py, FORMAT and TEXT of format_check.py. `format_faults(source)` adds to FORMAT those that can be "
+     "listed by
 rule: each demand left out, each child list a little too wide or too narrow, kinds taken for statements or expressions.
 """
 import re
@@ -54,7 +55,8 @@ CAPTURE_FAULTS = [
     ("a literal's sources in the order of the function it stands in", "for decl in self.captures(inner)]",
      "for decl in sorted(self.captures(inner), key=lambda decl: self.seen(decl, outer)[1])]"),
     ("captures of an inner literal come after all others", CAPTURES,
-     "return sorted(function.captured, key=lambda decl: not any(each == (decl, function) for each in self.answers.values()))"),
+     "return sorted(function.captured, key=lambda decl: not any(each == (decl, function) for each in "
+     "self.answers.values()))"),
     ("a captured variable is not mutable", ".index(decl), 0, decl.mutable)", ".index(decl), 0, 0)"),
     ("a captured variable is always mutable", ".index(decl), 0, decl.mutable)", ".index(decl), 0, 1)"),
     ("a captured variable cannot be assigned", IMMUTABLE,
@@ -65,7 +67,8 @@ CAPTURE_FAULTS = [
     ("arguments escape", ESCAPES, "if decl.code != LOCAL or decl.mutable and decl.function == self.function.row:"),
     ("locals of outer functions escape", ESCAPES, "if decl.code == LOCAL and decl.mutable:"),
     ("only assigned locals escape", "            raise No(6, row, self.a(left))\n",
-     "            raise No(6, row, self.a(left))\n        self.put = getattr(self, 'put', set()) | {self.answers.get(left)[:1]"
+     "            raise No(6, row, self.a(left))\n        self.put = getattr(self, 'put', set()) | "
+     "{self.answers.get(left)[:1]"
      " if self.kind(left) == 50 else 0}\n",
      "escaping = sorted(function.escaping)",
      "escaping = sorted(each for each in function.escaping if (each,) in getattr(self, 'put', ()))"),
@@ -121,11 +124,13 @@ SLOT_FAULTS = [
      "        if self.function.is_unit and len(self.scopes) == 4:\n"),
     ("a block's globals are given back", "            self.statement(row)\n        self.close_scope()\n",
      "            self.statement(row)\n        if self.function.is_unit and len(self.scopes) > 4:\n"
-     "            self.globals -= sum(each.code == GLOBAL for each in self.scopes[-1].values())\n        self.close_scope()\n"),
+     "            self.globals -= sum(each.code == GLOBAL for each in self.scopes[-1].values())\n"
+     "        self.close_scope()\n"),
     ("globals numbered in the order of rows", "Decl(GLOBAL, self.globals, 0, mutable)",
      "Decl(GLOBAL, self.a(0) + self.ranks.index(row) if row in self.ranks else self.globals, 0, mutable)",
      "        self.slots = [0]\n", "        self.slots = [0]\n        self.ranks = []\n",
-     "    resolver = Resolver(rows)\n", "    first, resolver = Resolver(rows), Resolver(rows)\n    try:\n        first.walk()\n"
+     "    resolver = Resolver(rows)\n", "    first, resolver = Resolver(rows), Resolver(rows)\n    try:\n"
+     "        first.walk()\n"
      "    except No:\n        pass\n    resolver.ranks = sorted(row for row, (decl, _) in first.answers.items()"
      " if first.kind(row) == 29 and first.b(row) < 2 and decl.code == GLOBAL)\n"),
     ("globals are not mutable", "Decl(GLOBAL, self.globals, 0, mutable)", "Decl(GLOBAL, self.globals, 0, 0)"),
@@ -166,10 +171,12 @@ SCOPE_FAULTS = [
      "if self.a(row) in self.scopes[-1] or self.a(row) in self.scopes[1]:"),
     ("a let must not hide a core name", IN_SCOPE, "if self.a(row) in self.scopes[-1] or self.a(row) < 25:"),
     ("a let is open in its value", "    def let(self, row, value):\n        self.expression(value)\n",
-     "    def let(self, row, value):\n        if self.kind(value) == 52 or self.a(row) in self.scopes[-1] or self.b(row) >= 2:\n"
+     "    def let(self, row, value):\n        if self.kind(value) == 52 or self.a(row) in self.scopes[-1] or self.b(row) "
+     ">= 2:\n"
      "            self.expression(value)\n        else:\n            self.answer(row, self.declare_let(row))\n"
      "            self.expression(value)\n            return\n"),
-    ("a for opens no scope", "        self.open_scope()\n" + LOOP_HEAD, LOOP_HEAD, "        self.loops -= 1\n        self.close_scope()\n",
+    ("a for opens no scope", "        self.open_scope()\n" + LOOP_HEAD, LOOP_HEAD, "        self.loops -= 1\n"
+     "        self.close_scope()\n",
      "        self.loops -= 1\n"),
     ("a for's body has its own scope", "        self.statement(step)\n        self.statement(body)\n",
      "        self.statement(step)\n        self.open_scope()\n        self.statement(body)\n        self.close_scope()\n"),
@@ -179,12 +186,14 @@ SCOPE_FAULTS = [
     ("an else is not walked", "for part in kids[1:]:", "for part in kids[1:2]:"),
     ("an else is walked before the then", "for part in kids[1:]:", "for part in kids[:0:-1]:"),
     ("a bare body opens a scope", "        self.statement(body)\n        self.open_functions.pop()\n",
-     "        self.open_scope()\n        self.statement(body)\n        self.close_scope()\n        self.open_functions.pop()\n"),
+     "        self.open_scope()\n        self.statement(body)\n        self.close_scope()\n"
+     "        self.open_functions.pop()\n"),
     ("a block body shares the parameters' scope", "        self.statement(body)\n        self.open_functions.pop()\n",
      "        if self.kind(body) == 25 and not function.is_unit:\n            for row in self.kids[body]:\n"
      "                if self.kind(row) == 29 and self.kind(self.kids[row][0]) == 52:\n"
      "                    self.hoist(row, self.kids[row][0])\n            for row in self.kids[body]:\n"
-     "                self.statement(row)\n        else:\n            self.statement(body)\n        self.open_functions.pop()\n"),
+     "                self.statement(row)\n        else:\n            self.statement(body)\n"
+     "        self.open_functions.pop()\n"),
     ("the outermost declaration counts", "for scope in reversed(self.scopes):", "for scope in self.scopes:"),
     ("the core counts first", "for scope in reversed(self.scopes):", "for scope in self.scopes[:1] + self.scopes[:0:-1]:"),
     ("a unit's names stay for the next", "        self.walk_function(self.kids[unit][-1], 0)\n        self.close_scope()\n",
@@ -217,7 +226,8 @@ ORDER_FAULTS = [
      "    def let(self, row, value):\n        if self.kind(value) != 52 and self.a(row) in self.scopes[-1]:\n"
      "            raise No(7, row, self.a(row))\n"),
     ("an assignment is asked before its right side",
-     "        if self.kind(left) == 50 and not self.lookup(self.a(left)).mutable:\n            raise No(6, row, self.a(left))\n",
+     "        if self.kind(left) == 50 and not self.lookup(self.a(left)).mutable:\n"
+     "            raise No(6, row, self.a(left))\n",
      "", SIDES,
      "        self.expression(left)\n        if self.kind(left) == 50 and not self.lookup(self.a(left)).mutable:\n"
      "            raise No(6, row, self.a(left))\n        self.expression(right)\n"),
@@ -254,7 +264,8 @@ ORDER_FAULTS = [
     ("calls before classes", "        resolver.inherit_all()\n        resolver.check_calls()\n",
      "        resolver.check_calls()\n        resolver.inherit_all()\n"),
     ("a unit's classes and calls before the next unit", "            self.walk_unit(unit)\n",
-     "            self.walk_unit(unit)\n            if any(self.parents.get(256 + row) == 256 + row for row in self.of_kind(unit, 4)):\n"
+     "            self.walk_unit(unit)\n            if any(self.parents.get(256 + row) == 256 + row for row in "
+     "self.of_kind(unit, 4)):\n"
      "                self.inherit_all()\n"),
     ("22 before the calls", "        resolver.check_calls()\n",
      "        if 8 * len(resolver.answer_rows()) > lent:\n            return [[22, 0, 0, 0, 0, 0, 0, 0]]\n"
@@ -322,7 +333,8 @@ CLASS_FAULTS = [
     ("every base loses its row", "            base = self.kids[callee][0]\n",
      "            base = self.kids[callee][0]\n            if self.answers.get(base, (Decl(CLASS),))[0].code != CLASS:\n"
      "                del self.answers[base]\n"),
-    ("a method's row stands at the base", "        self.answer(callee, Decl(FUNCTION, method))\n        del self.answers[base]\n",
+    ("a method's row stands at the base", "        self.answer(callee, Decl(FUNCTION, method))\n"
+     "        del self.answers[base]\n",
      "        self.answer(base, Decl(FUNCTION, method))\n"),
     ("classes in the order of units", "        for row in self.classes:\n            self.inherit(",
      "        for row in [row for unit in self.kids[0] for row in self.of_kind(unit, 4)]:\n            self.inherit("),
@@ -333,7 +345,8 @@ CLASS_FAULTS = [
      "        for row in self.classes[::-1]:\n            self.inherit("),
     ("19 of all classes before any 18", "        done = set(CORE_FIELDS)\n",
      "        done = set(CORE_FIELDS)\n        for row in self.classes:\n"
-     "            if self.parents.get(256 + row, 100) not in self.methods:\n                raise No(19, row, self.a(row))\n"),
+     "            if self.parents.get(256 + row, 100) not in self.methods:\n"
+     "                raise No(19, row, self.a(row))\n"),
     ("18 of all classes before any 19", "                raise No(19, row, self.a(row))\n",
      "                for each in self.classes:\n                    met, at = [], 256 + each\n"
      "                    while at in self.parents and at not in met:\n                        met.append(at)\n"
@@ -353,7 +366,8 @@ CLASS_FAULTS = [
     ("a parent's own methods and fields only, where it is not yet through",
      "                self.inherit(parent, done, below + [record])\n",
      "                saved = dict(self.methods), dict(self.fields)\n"
-     "                self.inherit(parent, set(done), below + [record])\n                self.methods, self.fields = saved\n"),
+     "                self.inherit(parent, set(done), below + [record])\n"
+     "                self.methods, self.fields = saved\n"),
     ("a grandparent's methods are lost", PARENT_METHODS,
      "{**(self.named(parent - 256, 6) if parent > 255 else {}), **self.methods[record]}"),
     ("a grandparent's fields are lost", "            above = self.fields[parent]\n",
@@ -363,9 +377,11 @@ CLASS_FAULTS = [
      "self.methods[parent].items() if name not in self.methods[record]}}"),
     ("own methods replaced out of place", PARENT_METHODS, "{**{name: method for name, method in "
      "self.methods[parent].items() if name not in self.methods[record]}, **self.methods[record]}"),
-    ("own methods do not replace", PARENT_METHODS, "{**self.methods[parent], **self.methods[record], **self.methods[parent]}"),
+    ("own methods do not replace", PARENT_METHODS, "{**self.methods[parent], **self.methods[record], "
+     "**self.methods[parent]}"),
     ("methods are not inherited", PARENT_METHODS, "self.methods[record]"),
-    ("own fields first", PARENT_FIELDS, "self.fields[record] + [field for field in above if field not in self.fields[record]]"),
+    ("own fields first", PARENT_FIELDS, "self.fields[record] + [field for field in above if field not in "
+     "self.fields[record]]"),
     ("own fields replaced out of place", PARENT_FIELDS,
      "[field for field in above if field not in self.fields[record]] + self.fields[record]"),
     ("fields of a name twice", PARENT_FIELDS, "above + self.fields[record]"),
@@ -387,7 +403,8 @@ CLASS_FAULTS = [
 FIELD_FAULTS = [
     ("fields are registered after inheritance", "            fields.append(field)\n",
      "            self.late = getattr(self, 'late', []) + [(self.function.record, field)]\n",
-     "        resolver.check_calls()\n", "        resolver.check_calls()\n        for record, field in getattr(resolver, 'late', []):\n"
+     "        resolver.check_calls()\n", "        resolver.check_calls()\n"
+     "        for record, field in getattr(resolver, 'late', []):\n"
      "            if field not in resolver.fields[record]:\n                resolver.fields[record].append(field)\n"),
     ("a literal without class has that of its function", "256 + self.a(row) if self.a(row) else 0",
      "256 + self.a(row) if self.a(row) else self.function.record"),
@@ -400,7 +417,8 @@ FIELD_FAULTS = [
      "            for kid in kids:\n                self.expression(kid)\n            if kind == 54:\n"
      "                self.register(self.a(row))\n"),
     ("a member under an assigned index is registered", "        if self.kind(left) == 54:\n",
-     "        if self.kind(left) == 53 and self.kind(self.kids[left][0]) == 54:\n            self.register(self.a(self.kids[left][0]))\n"
+     "        if self.kind(left) == 53 and self.kind(self.kids[left][0]) == 54:\n"
+     "            self.register(self.a(self.kids[left][0]))\n"
      "        if self.kind(left) == 54:\n"),
     ("only a member of an identifier is registered", "        if self.kind(left) == 54:\n",
      "        if self.kind(left) == 54 and self.kind(self.kids[left][0]) == 50:\n"),
@@ -408,7 +426,8 @@ FIELD_FAULTS = [
      "self.fields.get(next((each.record for each in self.open_functions if each.record), 0))"),
     ("fields are registered in the order of rows", "self.register(self.a(left))", "self.register(self.a(left), row)",
      "def register(self, field):", "def register(self, field, row):",
-     "            fields.append(field)\n", "            self.late = getattr(self, 'late', []) + [(row, self.function.record, field)]\n",
+     "            fields.append(field)\n", "            self.late = getattr(self, 'late', []) + [(row, "
+     "self.function.record, field)]\n",
      "        done = set(CORE_FIELDS)\n", "        done = set(CORE_FIELDS)\n"
      "        for row, record, field in sorted(getattr(self, 'late', [])):\n"
      "            if field not in self.fields[record]:\n                self.fields[record].append(field)\n"),
@@ -433,22 +452,26 @@ NAME_FAULTS = [
     ("instanceof takes any declared name", "        if decl.code != CLASS:\n            raise No(10",
      "        if decl.code == NONE:\n            raise No(10"),
     ("instanceof sees a hidden class", "        decl = self.lookup(self.a(row))\n        if decl.code != CLASS:\n",
-     "        decl = next((scope[self.a(row)] for scope in self.scopes[::-1] if scope.get(self.a(row), Decl()).code == CLASS), Decl())\n"
+     "        decl = next((scope[self.a(row)] for scope in self.scopes[::-1] if scope.get(self.a(row), Decl(NONE)).code == "
+     "CLASS), Decl(NONE))\n"
      "        if decl.code != CLASS:\n"),
     ("a parent sees a hidden class", "parent = self.lookup(self.b(record))",
-     "parent = next((scope[self.b(record)] for scope in self.scopes[::-1] if scope.get(self.b(record), Decl()).code == CLASS), Decl())"),
+     "parent = next((scope[self.b(record)] for scope in self.scopes[::-1] if scope.get(self.b(record), Decl(NONE)).code == "
+     "CLASS), Decl(NONE))"),
     ("a parent is looked for where the unit begins", "parent = self.lookup(self.b(record))",
-     "parent = self.scopes[1].get(self.b(record)) or self.scopes[0].get(self.b(record), Decl())"),
+     "parent = self.scopes[1].get(self.b(record)) or self.scopes[0].get(self.b(record), Decl(NONE))"),
     ("a parent is looked for in the unit and core first", "parent = self.lookup(self.b(record))",
      "parent = self.scopes[0].get(self.b(record)) or self.lookup(self.b(record))"),
     ("11 stands at the class", "raise No(11, row, self.b(record))", "raise No(11, record, self.b(record))"),
     ("11 names the class", "raise No(11, row, self.b(record))", "raise No(11, row, self.a(record))"),
-    ("a called name that hides a class", "            self.constructor_call(callee, self.lookup(self.a(callee)), len(args))\n",
-     "            self.constructor_call(callee, next((scope[self.a(callee)] for scope in self.scopes if self.a(callee) in scope), "
-     "Decl()), len(args))\n"),
+    ("a called name that hides a class", "            self.constructor_call(callee, self.lookup(self.a(callee)), "
+     "len(args))\n",
+     "            self.constructor_call(callee, next((scope[self.a(callee)] for scope in self.scopes if self.a(callee) in "
+     "scope), "
+     "Decl(NONE)), len(args))\n"),
     ("a method of a hidden class", "if self.kind(base) == 50 and self.lookup(self.a(base)).code == CLASS:\n"
      "                self.method_call(callee, base, self.lookup(self.a(base)).index, len(args))\n",
-     "seen = next((scope[self.a(base)] for scope in self.scopes[:2] if self.a(base) in scope), Decl())\n"
+     "seen = next((scope[self.a(base)] for scope in self.scopes[:2] if self.a(base) in scope), Decl(NONE))\n"
      "            if self.kind(base) == 50 and seen.code == CLASS:\n"
      "                self.method_call(callee, base, seen.index, len(args))\n"),
     *[(f"an assigned {what} passes", IMMUTABLE, f"{IMMUTABLE} and self.lookup(self.a(left)).code != {code}")
@@ -465,11 +488,13 @@ NAME_FAULTS = [
      "        if self.kind(left) == 54:\n"),
     ("7 stands at the value", "raise No(7, row, self.a(row))", "raise No(7, value, self.a(row))"),
     ("7 stands at the first let", "raise No(7, row, self.a(row))",
-     "raise No(7, next((each for each in self.answers if self.kind(each) == 29 and self.a(each) == self.a(row)), row), self.a(row))"),
+     "raise No(7, next((each for each in self.answers if self.kind(each) == 29 and self.a(each) == self.a(row)), row), "
+     "self.a(row))"),
     ("16 for a parameter stands at the function", "self.declare(param, self.a(param), Decl(ARGUMENT, index, row))",
      "self.declare(row, self.a(param), Decl(ARGUMENT, index, row))"),
     ("16 for a parameter stands at the first", "self.declare(param, self.a(param), Decl(ARGUMENT, index, row))",
-     "self.declare(next(each for each in params if self.a(each) == self.a(param)), self.a(param), Decl(ARGUMENT, index, row))"),
+     "self.declare(next(each for each in params if self.a(each) == self.a(param)), self.a(param), Decl(ARGUMENT, index, "
+     "row))"),
     ("16 is not asked of parameters", "self.declare(param, self.a(param), Decl(ARGUMENT, index, row))",
      "self.scopes[-1][self.a(param)] = Decl(ARGUMENT, index, row)"),
     ("16 for a class stands at its unit", "self.declare(row, self.a(row), Decl(CLASS, 256 + row))",
@@ -480,10 +505,12 @@ NAME_FAULTS = [
     ("16 is not asked of mutable hoisted lets", HOIST_CALL,
      "                if self.b(row) == 1:\n                    self.scopes[-1].pop(self.a(row), 0)\n" + HOIST_CALL),
     ("16 is not asked of hoisted functions of a unit", HOIST_CALL,
-     "                if self.function.is_unit and self.b(row) == 0:\n                    self.scopes[-1].pop(self.a(row), 0)\n"
+     "                if self.function.is_unit and self.b(row) == 0:\n                    "
+     "self.scopes[-1].pop(self.a(row), 0)\n"
      + HOIST_CALL),
     ("16 for a class with a core name", "        for row in self.of_kind(unit, 4):\n",
-     "        for row in self.of_kind(unit, 4):\n            if self.a(row) in CORE:\n                raise No(16, row, self.a(row))\n"),
+     "        for row in self.of_kind(unit, 4):\n            if self.a(row) in CORE:\n"
+     "                raise No(16, row, self.a(row))\n"),
     ("15 stands at the name", "raise No(15, row, self.a(kid))", "raise No(15, kid, self.a(kid))"),
     ("15 stands at the imported unit", "raise No(15, row, self.a(kid))", "raise No(15, self.a(row), self.a(kid))"),
     ("16 for a listed name stands at the name", "self.declare(row, self.a(kid), found[0])",
@@ -491,7 +518,8 @@ NAME_FAULTS = [
     ("16 for import-all stands at what is imported", "                self.declare(row, name, decl)\n",
      "                self.declare(self.a(row), name, decl)\n"),
     ("17 for a host constant without its name", "raise No(17, row, self.a(row))", "raise No(17, row, 0)"),
-    ("17 for a host constant stands above it", "raise No(17, row, self.a(row))", f"raise No(17, {above('row')}, self.a(row))"),
+    ("17 for a host constant stands above it", "raise No(17, row, self.a(row))", f"raise No(17, {above('row')}, "
+     "self.a(row))"),
     ("MAIN_UNIT is true inside the main function's literals", "self.function.row == self.b(0)",
      "self.open_functions[0].row == self.b(0) and not self.function.record"),
     ("MAIN_UNIT is true inside the main unit's methods", "self.function.row == self.b(0)",
@@ -517,7 +545,8 @@ IMPORT_FAULTS = [
     ("listed names are dropped where all is imported", LISTED_HEAD, LISTED_HEAD
      + "        if self.b(row) == 1:\n            return\n"),
     ("15 is not asked where all is imported", "                raise No(15, row, self.a(kid))\n",
-     "                if self.b(row) == 1:\n                    continue\n                raise No(15, row, self.a(kid))\n"),
+     "                if self.b(row) == 1:\n                    continue\n                raise No(15, row, self.a(kid))\n"
+     ""),
     ("16 is not asked of a listed name where all is imported", "            self.declare(row, self.a(kid), found[0])\n",
      "            if self.b(row) == 1:\n                self.scopes[-1].pop(self.a(kid), 0)\n"
      "            self.declare(row, self.a(kid), found[0])\n"),
@@ -527,10 +556,12 @@ IMPORT_FAULTS = [
     ("16 of all names before any 15", LISTED_HEAD, LISTED_HEAD
      + "        for kid in self.kids[row]:\n            if self.a(kid) in self.scopes[-1]:\n"
      "                raise No(16, row, self.a(kid))\n"),
-    *[(f"import-all brings {what}", ALL_HEAD, ALL_HEAD + f"        tables = [tables[i] for i in {order}] if tables else []\n")
+    *[(f"import-all brings {what}", ALL_HEAD, ALL_HEAD + f"        tables = [tables[i] for i in {order}] if tables else "
+     "[]\n")
       for what, order in ORDERS.items()],
     *[(f"a listed name is looked for among {what}", LISTED_HEAD,
-       LISTED_HEAD + f"        tables = [tables[i] for i in {order}] if tables else []\n") for what, order in ORDERS.items()],
+       LISTED_HEAD + f"        tables = [tables[i] for i in {order}] if tables else []\n"
+     "") for what, order in ORDERS.items()],
     ("import-all brings each table backwards", "            for name, decl in table.items():\n",
      "            for name, decl in list(table.items())[::-1]:\n"),
     ("import-all brings each table by name", "            for name, decl in table.items():\n",
@@ -561,7 +592,8 @@ IMPORT_FAULTS = [
      "        for row in self.of_kind(unit, 3)[::-1]:\n            self.walk_import"),
     ("classes of a unit backwards", "        for row in self.of_kind(unit, 4):\n            self.declare(",
      "        for row in self.of_kind(unit, 4)[::-1]:\n            self.declare("),
-    ("a class is imported with its imports", "            {name: Decl(CLASS, 256 + row) for name, row in self.named(unit, 4).items()},\n",
+    ("a class is imported with its imports", "            {name: Decl(CLASS, 256 + row) for name, row in self.named(unit, "
+     "4).items()},\n",
      "            {name: Decl(CLASS, 256 + row) for name, row in [*self.named(unit, 4).items(), *[(name, row) for each in "
      "self.of_kind(unit, 3) if self.b(each) for name, row in self.named(self.a(each), 4).items()]]},\n"),
 ]
@@ -571,7 +603,8 @@ ROOM_FAULTS = [
     ("22 a row late", "8 * len(out) > lent", "8 * len(out) > lent + 8"),
     ("22 counts the printed head too", "8 * len(out) > lent", "8 * len(out) + 8 > lent"),
     ("22 counts sheet rows", "8 * len(out) > lent", "8 * len(rows) > lent"),
-    ("22 has the place of the last row", "[[22, 0, 0, 0, 0, 0, 0, 0]]", "[[22, *resolver.position(out[-1][0]), 0, 0, 0, 0]]"),
+    ("22 has the place of the last row", "[[22, 0, 0, 0, 0, 0, 0, 0]]", "[[22, *resolver.position(out[-1][0]), 0, 0, 0, "
+     "0]]"),
     ("22 has the count of rows", "[[22, 0, 0, 0, 0, 0, 0, 0]]", "[[22, 0, 0, 0, 0, len(out), 0, 0]]"),
     ("22 has the globals", "[[22, 0, 0, 0, 0, 0, 0, 0]]", "[[22, 0, 0, 0, 0, 0, resolver.globals, 0]]"),
 ]
@@ -596,7 +629,8 @@ TEXT = [
      "[int(field.replace(b'/', b'0')) for", "int(field) <= MAX_WORD", "True"),
     ("the byte after 9 is a digit", "48 <= byte <= 57", "48 <= byte <= 58", "[int(field) for",
      "[int(field.replace(b':', b'9')) for", "int(field) <= MAX_WORD", "True"),
-    ("a number ends at another byte", "all(48 <= byte <= 57 for byte in field)", "48 <= field[0] <= 57", "int(field) <= MAX_WORD",
+    ("a number ends at another byte", "all(48 <= byte <= 57 for byte in field)", "48 <= field[0] <= 57", "int(field) <= "
+     "MAX_WORD",
      "True", "[int(field) for", "[int(re.match(rb'[0-9]*', field)[0]) for", "FIXED = (", "import re\nFIXED = ("),
     ("leading zeros are refused", 'return field != b""', 'return field != b"" and (field == b"0" or field[0] != 48)'),
     ("ten digits are refused", 'return field != b""', 'return field != b"" and len(field) < 10'),
@@ -606,7 +640,8 @@ TEXT = [
      "        line = text[start:start + 81]\n        line += b'\\n' * (len(line) == 80)\n"),
     ("what stands after the last whole line is dropped", "    for start in range(0, len(text), 81):\n",
      "    for start in range(0, len(text) // 81 * 81, 81):\n"),
-    ("an empty line at the end is dropped", "    words = []\n", "    words = []\n    text = text.rstrip(b'\\n') + b'\\n'\n"),
+    ("an empty line at the end is dropped", "    words = []\n", "    words = []\n    text = text.rstrip(b'\\n') + b'\\n'\n"
+     ""),
     ("2,047 rows at most", "MAX_ROWS = 2048", "MAX_ROWS = 2047"),
     ("1,023 names at most", "len(all_names) > 1024", "len(all_names) > 1023"),
     ("1,025 names at most", "len(all_names) > 1024", "len(all_names) > 1025"),
@@ -629,14 +664,18 @@ APART = "kinds = {2: (4, 7, 8), 4: (10, 6)}.get(self.kind(row), ())"
 LET = 'return value < 2 or not literal and self.column_fits(row, value - 2, "global")'
 IN_UNIT = "        need(function == self.kids_of_kind(unit, 6)[0], "
 AFTER_METHODS = "        for method in self.kids_of_kind(class_row, 6):\n"
+ANY_HOLDER = ("function == self.kids_of_kind(unit, 6)[0]", "function in self.kids_of_kind(unit, 6) or self.kind(unit) != 2")
 RULE = 'rule = rules.get(kind, "zero")'
+DEPTH = "depth[row] = depth[self.parent[row]] + 1"
+ANY_DEPTH = "depth[row] = depth.get(self.parent.get(row), 0) + 1"
+KIDS_END = ("            while kid != 0:", "            while kid != 0 and kid < len(self.rows):")
 FIRST_NO = "    if not rows_fit(words):\n        return 1\n    if not names_fit(names):\n        return 2\n"
 CHECKED = "    try:\n        sheet.check()\n    except Unfit:\n        return 3\n"
 
 FORMAT = [
     ("2,047 rows at most", "MAX_ROWS = 2048", "MAX_ROWS = 2047"),
     ("2,049 rows at most", "MAX_ROWS = 2048", "MAX_ROWS = 2049"),
-    ("no rows pass question 1", "1 <= len(words) // 8", "0 <= len(words) // 8"),
+    ("no rows pass", "    if not rows_fit(words):\n", "    if not words:\n        return 0\n    if not rows_fit(words):\n"),
     ("rows need not be whole", "len(words) % 8 == 0 and ", ""),
     ("1,023 names at most", "len(all_names) > 1024", "len(all_names) > 1023"),
     ("1,025 names at most", "len(all_names) > 1024", "len(all_names) > 1025"),
@@ -663,38 +702,40 @@ FORMAT = [
     ("names are compared by four bytes", ALL_APART, "len(set(name[:4] for name in all_names)) == len(all_names)"),
     ("names are compared by their length's first bytes", ALL_APART,
      "not any(x != y and x.startswith(y) for x in all_names for y in FIXED) and " + ALL_APART),
-    ("names before rows", FIRST_NO, "    if not names_fit(names):\n        return 2\n    if not rows_fit(words):\n        return 1\n"),
+    ("names before rows", FIRST_NO, "    if not names_fit(names):\n        return 2\n    if not rows_fit(words):\n"
+     "        return 1\n"),
     ("rows before names", FIRST_NO, "    if not rows_fit(words):\n        return 1\n", CHECKED, CHECKED
      + "    if not names_fit(names):\n        return 2\n"),
-    ("depth before rows", CHECKED, "    try:\n        sheet.check_links()\n        sheet.find_tree()\n        if not sheet.depths_fit():\n"
+    ("depth before rows", CHECKED, "    try:\n        sheet.check_links()\n        sheet.find_tree()\n"
+     "        if not sheet.depths_fit():\n"
      "            return 4\n        sheet.check()\n    except Unfit:\n        return 3\n"),
     ("depths of at most 63", "MAX_DEPTH = 64", "MAX_DEPTH = 63"),
     ("depths of at most 65", "MAX_DEPTH = 64", "MAX_DEPTH = 65"),
     ("the first unit's depth only", "return max(depth.values()) <= MAX_DEPTH",
      "return max(depth[row] for row in [0] + self.subtree(self.rows[0][2] or 0)) <= MAX_DEPTH"),
-    ("a link to the row itself", "row < link < len(self.rows)", "row <= link < len(self.rows)"),
+    ("a link to the row itself", "row < link < len(self.rows)", "row <= link < len(self.rows)", DEPTH, ANY_DEPTH),
     ("a next link to the row itself", "row < link < len(self.rows)",
-     "(row < link or row == link == self.rows[row][1]) and link < len(self.rows)"),
+     "(row < link or row == link == self.rows[row][1]) and link < len(self.rows)", DEPTH, ANY_DEPTH),
     ("a child link to the row itself", "row < link < len(self.rows)",
-     "(row < link or row == link == self.rows[row][2]) and link < len(self.rows)"),
-    ("a falling link", "row < link < len(self.rows)", "row != link < len(self.rows)"),
+     "(row < link or row == link == self.rows[row][2]) and link < len(self.rows)", DEPTH, ANY_DEPTH),
+    ("a falling link", "row < link < len(self.rows)", "row != link < len(self.rows)", DEPTH, ANY_DEPTH),
     ("a falling next link", "row < link < len(self.rows)",
-     "(row < link or row > link == self.rows[row][1]) and link < len(self.rows)"),
+     "(row < link or row > link == self.rows[row][1]) and link < len(self.rows)", DEPTH, ANY_DEPTH),
     ("a falling child link", "row < link < len(self.rows)",
-     "(row < link or row > link == self.rows[row][2]) and link < len(self.rows)"),
+     "(row < link or row > link == self.rows[row][2]) and link < len(self.rows)", DEPTH, ANY_DEPTH),
     ("a link past the last row", RISE, RISE.replace("< len", "<= len"), ONCE,
-     "sorted(link for _, link in links if link < len(self.rows)) == list(range(1, len(self.rows)))"),
+     "sorted(link for _, link in links if link < len(self.rows)) == list(range(1, len(self.rows)))", *KIDS_END),
     ("any link past the last row is none", RISE, RISE.replace(" < len(self.rows)", ""), ONCE,
-     "sorted(link for _, link in links if link < len(self.rows)) == list(range(1, len(self.rows)))",
-     "            while kid != 0:", "            while kid != 0 and kid < len(self.rows):"),
+     "sorted(link for _, link in links if link < len(self.rows)) == list(range(1, len(self.rows)))", *KIDS_END),
     ("a row linked twice", ONCE, "set(link for _, link in links) == set(range(1, len(self.rows)))"),
-    ("a row linked never", ONCE, "len(set(link for _, link in links)) == len(links)"),
+    ("a row linked never", ONCE, "len(set(link for _, link in links)) == len(links)", DEPTH, ANY_DEPTH),
     ("any header kind", "kind == 0 and following == 0", "following == 0"),
-    ("a header with a next", "kind == 0 and following == 0", "kind == 0"),
+    ("a header with a next", "kind == 0 and following == 0", "kind == 0", DEPTH, ANY_DEPTH),
     ("999,999 starting globals at most", "MAX_GLOBALS = 1_000_000", "MAX_GLOBALS = 999_999"),
     ("1,000,001 starting globals at most", "MAX_GLOBALS = 1_000_000", "MAX_GLOBALS = 1_000_001"),
     ("a main function of any sort", " and self.b(main) == 1", ""),
-    ("a main row of any sort", "self.is_row_of(main, 6) and self.b(main) == 1", "main < len(self.rows) and self.b(main) == 1"),
+    ("a main row of any sort", "self.is_row_of(main, 6) and self.b(main) == 1", "main < len(self.rows) and self.b(main) "
+     "== 1"),
     ("the main function is the first unit's", "self.is_row_of(main, 6) and self.b(main) == 1",
      "main == self.kids[self.kids[0][0]][-1]"),
     ("there is a main function", "need(main == 0 or ", "need("),
@@ -703,15 +744,18 @@ FORMAT = [
     ("the header's file is free", "need(self.rows[row][3] < MAX_FILES", "need(row == 0 or self.rows[row][3] < MAX_FILES"),
     ("the last row's file is free", "need(self.rows[row][3] < MAX_FILES",
      "need(row == len(self.rows) - 1 or self.rows[row][3] < MAX_FILES"),
-    ("lines below 2^31", "need(self.rows[row][3] < MAX_FILES", "need(self.rows[row][4] < 2**31 and self.rows[row][3] < MAX_FILES"),
-    ("columns up to 16,383", "need(self.rows[row][3] < MAX_FILES", "need(self.rows[row][5] < 16384 and self.rows[row][3] < MAX_FILES"),
+    ("lines below 2^31", "need(self.rows[row][3] < MAX_FILES", "need(self.rows[row][4] < 2**31 and self.rows[row][3] < "
+     "MAX_FILES"),
+    ("columns up to 16,383", "need(self.rows[row][3] < MAX_FILES", "need(self.rows[row][5] < 16384 and self.rows[row][3] "
+     "< MAX_FILES"),
     ("names without the last", "1 <= value <= self.name_count", "1 <= value < self.name_count"),
     ("names with one more", "1 <= value <= self.name_count", "1 <= value <= self.name_count + 1"),
     ("listed names only", "1 <= value <= self.name_count", "25 <= value <= self.name_count"),
     ("constants at the starting count", '"global": value < self.a(0)', '"global": value <= self.a(0)'),
     ("constants below the starting count less one", '"global": value < self.a(0)', '"global": value < self.a(0) - 1'),
     ("flags up to 2", '"flag": value <= 1', '"flag": value <= 2'),
-    ("constant lets of global 0 only", LET, LET.replace("value < 2 or not literal and self", "value < 3 and (value < 2 or not "
+    ("constant lets of global 0 only", LET, LET.replace("value < 2 or not literal and self", "value < 3 and (value < 2 or "
+     "not "
                                                         "literal) and value < 2 or value == 2 and not literal and self")),
     ("constant lets up to one more", LET, LET.replace("value - 2", "max(value - 3, 0)")),
     ("a literal as constant let", LET, LET.replace("not literal and ", "")),
@@ -724,13 +768,16 @@ FORMAT = [
     ("two parameters of a name are refused", APART, APART.replace("(10, 6)", "(10, 6), 6: (11,)")),
     ("two listed names alike are refused", APART, APART.replace("(10, 6)", "(10, 6), 3: (9,)")),
     ("exports and classes of one name are refused", "            for kind in kinds:\n",
-     "            together = [self.a(kid) for kid in self.kids[row] if self.kind(kid) in kinds] if len(kinds) == 3 else []\n"
+     "            together = [self.a(kid) for kid in self.kids[row] if self.kind(kid) in kinds] if len(kinds) == 3 else "
+     "[]\n"
      "            need(len(set(together)) == len(together), 'a name twice')\n            for kind in kinds:\n"),
     ("a field and a method of one name are refused", "            for kind in kinds:\n",
-     "            together = [self.a(kid) for kid in self.kids[row] if self.kind(kid) in kinds] if len(kinds) == 2 else []\n"
+     "            together = [self.a(kid) for kid in self.kids[row] if self.kind(kid) in kinds] if len(kinds) == 2 else "
+     "[]\n"
      "            need(len(set(together)) == len(together), 'a name twice')\n            for kind in kinds:\n"),
     ("classes of one name in two units are refused", "    def check_distinct_names(self):\n",
-     "    def check_distinct_names(self):\n        names = [self.a(row) for row in range(len(self.rows)) if self.kind(row) == 4]\n"
+     "    def check_distinct_names(self):\n        names = [self.a(row) for row in range(len(self.rows)) if "
+     "self.kind(row) == 4]\n"
      "        need(len(set(names)) == len(names), 'a name twice')\n"),
     ("a class declared never", "sorted(declared) == classes", "sorted(declared) == sorted(set(declared) & set(classes))"),
     ("a class declared twice", "sorted(declared) == classes", "sorted(set(declared)) == classes"),
@@ -762,7 +809,8 @@ FORMAT = [
     ("a unit function with any body", "need([self.kind(kid) for kid in self.kids[row]] == [25]",
      "need(len(self.kids[row]) == 1"),
     ("b 1 at a method", "need(self.b(row) == (holder == 2)", "need(self.b(row) == (holder == 2) or holder == 4"),
-    ("b 1 at a literal's function", "need(self.b(row) == (holder == 2)", "need(self.b(row) == (holder == 2) or holder == 52"),
+    ("b 1 at a literal's function", "need(self.b(row) == (holder == 2)", "need(self.b(row) == (holder == 2) or holder == "
+     "52"),
     ("b 0 at a unit's function", "need(self.b(row) == (holder == 2)", "need(self.b(row) <= (holder == 2)"),
     ("a literal's class of any unit", "need(self.above(row, 2) == self.parent[self.a(row)]", "need(True"),
     ("a literal's class is that of the method it stands in", "need(self.above(row, 2) == self.parent[self.a(row)]",
@@ -770,13 +818,17 @@ FORMAT = [
 ]
 
 KIND_NAMES = {
-    0: "header", 2: "unit", 3: "import", 4: "class", 6: "function", 7: "function export", 8: "constant export", 9: "listed name",
-    10: "field", 11: "parameter", 20: "expression statement", 21: "assign", 22: "return", 23: "break", 24: "continue", 25: "block",
-    26: "if", 27: "for", 28: "assert", 29: "let", 30: "class declaration", 40: "nil", 41: "true", 42: "false", 43: "integer",
+    0: "header", 2: "unit", 3: "import", 4: "class", 6: "function", 7: "function export", 8: "constant export", 9:
+     "listed name",
+    10: "field", 11: "parameter", 20: "expression statement", 21: "assign", 22: "return", 23: "break", 24: "continue",
+     25: "block",
+    26: "if", 27: "for", 28: "assert", 29: "let", 30: "class declaration", 40: "nil", 41: "true", 42: "false", 43:
+     "integer",
     44: "float", 45: "string", 46: "bytes", 47: "array", 48: "dict", 49: "pair", 50: "identifier", 51: "host constant",
     52: "literal", 53: "index", 54: "member", 55: "instanceof", 56: "unary", 57: "binary", 58: "ternary", 59: "call",
 }
-SORT_NAMES = {"E": "expression", "S": "statement", "U": "unit", "N": "listed name", "P": "pair", "F": "function", "I": "import",
+SORT_NAMES = {"E": "expression", "S": "statement", "U": "unit", "N": "listed name", "P": "pair", "F": "function", "I":
+     "import",
               "X": "function export", "G": "constant export", "C": "class", "D": "field", "A": "parameter"}
 NO_KINDS = [1, 5, 12, 13, 18, 19, 31, 32, 38, 39, 60, 61]
 
@@ -786,9 +838,13 @@ def format_faults(source):
 
 
 def dropped(source):
-    """Each demand of question 3 left out."""
-    lines = [line for line in source.splitlines() if re.match(" +need\\(", line)]
+    """Each demand of question 3 left out, but that on kinds: child lists and the header's demand have it too."""
+    lines = [line for line in source.splitlines() if re.match(" +need\\(", line) and "in CHILDREN" not in line]
     return [(f"dropped: {line.strip()}", line, line.replace("need(", "need(True or ", 1)) for line in lines]
+
+
+def column_rule(rule, kind, column):
+    return f'rule = "{rule}" if kind == {kind} and rules is COLUMN_{column.upper()} else rules.get(kind, "zero")'
 
 
 def column_faults():
@@ -799,14 +855,12 @@ def column_faults():
             continue
         # the others are asked by the demands on functions and class declarations
         for column in "a" if kind == 6 else "b" if kind == 30 else "ab":
-            found.append((f"{name}: column {column} is not asked", RULE,
-                          f'rule = "any" if kind == {kind} and rules is COLUMN_{column.upper()} else rules.get(kind, "zero")'))
+            found.append((f"{name}: column {column} is not asked", RULE, column_rule("any", kind, column)))
     for kind in (45, 46, 49, 56, 57):
         found.append((f"{KIND_NAMES[kind]}: columns are zero", "if kind in UNREAD:", f"if kind in UNREAD - {{{kind}}}:"))
     for kind in (43, 44):
         for column in "ab":
-            found.append((f"{KIND_NAMES[kind]}: column {column} is zero", RULE,
-                          f'rule = "zero" if kind == {kind} and rules is COLUMN_{column.upper()} else rules.get(kind, "zero")'))
+            found.append((f"{KIND_NAMES[kind]}: column {column} is zero", RULE, column_rule("zero", kind, column)))
     return found
 
 
@@ -819,7 +873,7 @@ def kind_faults():
             found.append((f"kind {kind} among the {sort.lower()}", old, f"{old} | {{{kind}}}",
                           'CHILDREN = {\n    0: "U*",', f'CHILDREN = {{\n    {kind}: "", 0: "U*",'))
         for kind in (2, 3, 4, 6, 7, 8, 9, 10, 11):
-            found.append((f"a {KIND_NAMES[kind]} among the {sort.lower()}", old, f"{old} | {{{kind}}}"))
+            found.append((f"kind {kind}, {KIND_NAMES[kind]}, among the {sort.lower()}", old, f"{old} | {{{kind}}}", *ANY_HOLDER))
         found.append((f"a pair among the {sort.lower()}", old, f"{old} | {{49}}"))
         found.append((f"a pair without value among the {sort.lower()}", old, f"{old} | {{49}}", '49: "E"', '49: "E?"'))
     found += [(f"no {KIND_NAMES[kind]} among the statements", "set(range(20, 31))", f"set(range(20, 31)) - {{{kind}}}")
@@ -861,4 +915,7 @@ def child_faults():
             for letter in "NDAF":
                 add(kind, f"a {SORT_NAMES[letter]} in it", letter + "?")
     either = '         "E": EXPRESSIONS, "S": STATEMENTS}'
-    return [(*each, either, either.replace("}", ', "B": EXPRESSIONS | STATEMENTS}')) for each in found]
+    value = "literal = self.kind(self.kids[row][0]) == 52"
+    more = [either, either.replace("}", ', "B": EXPRESSIONS | STATEMENTS}'),
+            value, "literal = [self.kind(kid) for kid in self.kids[row]] == [52]"]
+    return [(*each, *more) for each in found]

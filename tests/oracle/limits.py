@@ -45,13 +45,11 @@ def with_lets(start, names=()):
     return sheet_of(Node(0, start, 0, [Node(2, kids=[Node(6, 0, 1, [Node(25, kids=lets)])])]), names)
 
 
-def answered(count, called=None):
-    """A sheet with 2,016 answer rows or more: chained classes, then host constants; perhaps a constructor call."""
+def answered(count, *more):
+    """A sheet with 2,016 answer rows or more: chained classes, then host constants; then further statements."""
     sheet = class_chain(62)
     body = sheet.root.kids[0].kids[-1].kids[0]
-    body.kids += [Node(20, kids=[Node(51, MAIN_UNIT)]) for _ in range(count - 2016)]
-    if called:
-        body.kids.append(Node(20, kids=[Node(59, kids=[Node(50, called)])]))
+    body.kids += [Node(20, kids=[Node(51, MAIN_UNIT)]) for _ in range(count - 2016)] + list(more)
     return Sheet(sheet.root, sheet.names.split(b"\n")[:-1], random.Random(count), "preorder")
 
 
@@ -82,10 +80,9 @@ def more_limits():
         sheets[f"{count:,} rows"] = sheet_of(Node(0, kids=[Node(2, kids=[Node(6, 0, 1, [body])])]))
     for count in (2047, 2048, 2049):
         sheets[f"{count:,} answer rows"] = answered(count)
-    sheets["2,081 answer rows and a class without init"] = answered(2080, 25)
-    globals_too = answered(2048)
-    globals_too.root.kids[0].kids[-1].kids[0].kids.append(Node(29, 25, 0, [Node(40)]))
-    sheets["2,049 answer rows and a global"] = Sheet(globals_too.root, [b"n%d" % i for i in range(124)], random.Random(1), "preorder")
+    call = Node(59, kids=[Node(50, 25)])
+    sheets["2,081 answer rows and a class without init"] = answered(2080, Node(20, kids=[call]))
+    sheets["2,049 answer rows and a global"] = answered(2048, Node(29, 25, 0, [Node(40)]))
     for value in (16382, 16383, 16384, 16385, 32768, MAX_WORD):
         sheets[f"column {value:,}"] = stray_break(COLUMN, value)
     for value in (262_142, 262_143, 262_144):
@@ -105,17 +102,19 @@ def texts():
         return text[:field] + number.rjust(10) + text[field + 10:]
 
     changed = {
-        "text": text, "no text": b"", "a line's end alone": b"\n", "no end of the last line": text[:-1], "a byte more": text + b" ",
-        "an end of a line more": text + b"\n", "half a line more": text + text[:40], "a return for an end": text[:-1] + b"\r",
+        "text": text, "no text": b"", "a line's end alone": b"\n", "no end of the last line": text[:-1],
+        "a byte more": text + b" ", "an end of a line more": text + b"\n", "half a line more": text + text[:40],
+        "a return for an end": text[:-1] + b"\r",
         "a space for an end": text[:80] + b" " + text[81:], "an empty field": with_field(b""),
-        "ten zeros": with_field(b"0000000000"), "a leading zero": with_field(b"07"), "4,294,967,294": with_field(b"4294967294"),
-        "4,294,967,295": with_field(b"4294967295"), "4,294,967,296": with_field(b"4294967296"),
-        "9,999,999,999": with_field(b"9999999999"),
+        "ten zeros": with_field(b"0000000000"), "a leading zero": with_field(b"07"),
+        "4,294,967,294": with_field(b"4294967294"), "4,294,967,295": with_field(b"4294967295"),
+        "4,294,967,296": with_field(b"4294967296"), "9,999,999,999": with_field(b"9999999999"),
     }
-    for what, number in (("a space after a number", b"7 "), ("a space in a number", b"1 7"), ("a tab", b"\t7"), ("a zero byte", b"\0007"),
-                         ("an end of a line", b"\n7"), ("a plus", b"+7"), ("a minus", b"-7"), ("the byte before 0", b"/7"),
-                         ("the byte after 9", b":7"), ("a letter after a number", b"7a"), ("a point", b"7.0"), ("left-justified", b"7".ljust(10))):
-        changed[f"{what} in a field"] = with_field(number)
+    fields = {"a space after a number": b"7 ", "a space in a number": b"1 7", "a tab": b"\t7", "a zero byte": b"\x007",
+              "an end of a line": b"\n7", "a plus": b"+7", "a minus": b"-7", "the byte before 0": b"/7",
+              "the byte after 9": b":7", "a letter after a number": b"7a", "a point": b"7.0",
+              "spaces behind": b"7".ljust(10)}
+    changed.update({f"{what} in a field": with_field(number) for what, number in fields.items()})
     long = text_of(sheet_of(statements(1022)).rows).encode()
     changed["2,048 rows and a byte more"] = long + b" "
     return {what: (text, sheet.names) for what, text in changed.items()}

@@ -1,9 +1,10 @@
 """planted.py [WORD]
 
-Plants faults in copies of second.py and format_check.py, one at a time, and counts the recorded cases that notice each: those of
-crates/replay whose printed rows change, and those of crates/question_tests whose answer changes. Prints a line for each fault,
-first those that no case notices; exit status 1 if there is one. With WORD only faults that have it in their line are planted.
-A fault that stops the copy with an error counts as noticed there.
+Plants the faults of faults.py in copies of second.py and format_check.py, one at a time, and counts the recorded cases
+that notice each: those of crates/replay whose printed rows change, and those of crates/question_tests whose answer changes.
+Prints a line for each fault, first those that no case notices; exit status 1 if there is one, or if a copy without a fault
+answers a case otherwise. With WORD only faults that have it in their line are planted. A fault that stops the copy with an
+error counts as noticed there.
 """
 import sys
 import types

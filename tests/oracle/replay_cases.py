@@ -1,13 +1,13 @@
 """replay_cases.py ORACLE COUNT SEED OUTDIR
 
-Makes COUNT cases, at least some 160, and the later ones for the program crates/replay and writes OUTDIR/stdin, the cases, and
-OUTDIR/stdout, what the program must print of them, out of the oracle's answers. A case is two numbers in ten columns each, the bytes of the
-sheet's text and of its names, and then these bytes.
+Makes COUNT cases, at least some 160, and the later ones for the program crates/replay and writes OUTDIR/stdin, the cases,
+and OUTDIR/stdout, what the program must print of them, out of the oracle's answers. A case is two numbers in ten columns
+each, the bytes of the sheet's text and of its names, and then these bytes.
 
 The cases are the samples of document 01, the small programs of directed.py, some sheets at the limits, and random sheets of
-at most MOST_ROWS rows, some with leading zeros in their numbers; of each question from 5 to 21 at least LEAST. The later
-ones follow these in order: small programs that planted.py asks for, sheets and texts at the limits. Of those that questions 1 to 4
-refuse, format_check.py says so; the oracle is not asked. Prints the counts by question and by kind of row.
+at most MOST_ROWS rows, some with leading zeros in their numbers; of each question from 5 to 21 at least LEAST. The
+later ones follow these in order: small programs that planted.py asks for, sheets and texts at the limits. Of those that
+questions 1 to 4 refuse, format_check.py says so; the oracle is not asked. Prints the counts by question and by kind of row.
 """
 import random
 import sys

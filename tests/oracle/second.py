@@ -1,7 +1,7 @@
 """A second resolver: questions 5 to 22 and the answer rows, written from document 01 alone.
 
-`printed_rows(rows, lent)` gives what the program prints of a sheet that passes questions 1 to 4. planted.py changes the text of
-this file, a fault at a time, to see whether the recorded cases notice it.
+`printed_rows(rows, lent)` gives what the program prints of a sheet that passes questions 1 to 4. planted.py changes the text
+of this file, a fault at a time, to see whether the recorded cases notice it.
 """
 from collections import namedtuple
 
