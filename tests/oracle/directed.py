@@ -3,7 +3,9 @@
 `programs()` gives what each shows, and its tree. The oracle says what comes of them. `later_programs()` gives those that
 were added for faults of planted.py, with pairs of nodes: the row of the first must stand before that of the second.
 """
-from sheets import INIT, MAIN_UNIT, NULL
+import random
+
+from sheets import INIT, MAIN_UNIT, NULL, Sheet
 from tree import Node
 
 NAMES = [b"a", b"b", b"c", b"f", b"g", b"m", b"n", b"p", b"q", b"A", b"B", b"C"]
@@ -495,3 +497,10 @@ def later_programs():
     for group in groups:
         for what, root, earlier in group():
             yield f"{group.__name__}: {what}", root, earlier
+
+
+def later_sheets():
+    """What each later program shows, and its sheet, with rows in one order."""
+    for i, (what, root, earlier) in enumerate(later_programs()):
+        order = "breadth" if earlier else ("preorder", "random", "runs")[i % 3]
+        yield what, Sheet(root, NAMES, random.Random(i), order, earlier)

@@ -92,9 +92,7 @@ def limit_cases():
 
 
 def later_cases():
-    for i, (what, root, earlier) in enumerate(directed.later_programs()):
-        order = "breadth" if earlier else ("preorder", "random", "runs")[i % 3]
-        sheet = Sheet(root, directed.NAMES, random.Random(i), order, earlier)
+    for what, sheet in directed.later_sheets():
         yield case_of(what, sheet.words, sheet.names)
     for what, (words, names) in more_limits().items():
         yield case_of(what, words, names)
