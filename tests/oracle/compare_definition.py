@@ -1,6 +1,7 @@
 """compare_definition.py ORACLE DEFINITION COUNT [SEED]
 compare_definition.py ORACLE DEFINITION damage [SEED]
 compare_definition.py ORACLE DEFINITION directed
+compare_definition.py ORACLE DEFINITION later
 compare_definition.py ORACLE DEFINITION limits
 
 Compares the definition, a crate whose folder is DEFINITION, with the oracle, and questions 1 to 4 of it with
@@ -10,7 +11,8 @@ at a time, into a Rattle repository in a temporary folder. Of very many answer r
 the counts of the cases by question, and every claim that does not hold, with its case.
 
 With the word `damage` the cases are each way to break questions 1 to 4, twice; with `directed` the small programs of
-directed.py; with `limits` those at the limits of document 01, which take long. The command `rt` must be on the path.
+directed.py, with `later` those that were added to it; with `limits` those at the limits of document 01, which take long. The
+command `rt` must be on the path.
 """
 import random
 import re
@@ -152,6 +154,15 @@ def limit_cases(oracle):
     return cases
 
 
+def later_cases(oracle):
+    """Each later program with its rows in the recorded order."""
+    cases = []
+    for what, sheet in directed.later_sheets():
+        cases.append(Case(what, sheet.words, sheet.names, sheet.preorder))
+    expect(oracle, cases)
+    return cases
+
+
 def directed_cases(oracle):
     """Each program with its rows in three orders."""
     cases = []
@@ -289,6 +300,8 @@ def cases_of(oracle, what, seed):
         return all_damages(oracle, seed)
     if what == "directed":
         return directed_cases(oracle)
+    if what == "later":
+        return later_cases(oracle)
     if what == "limits":
         return limit_cases(oracle)
     return make_cases(oracle, int(what), seed) + text_cases(oracle, random.Random(seed), int(what) // 12)

@@ -1,8 +1,11 @@
 """Small programs for points that random sheets meet seldom: the order of checks, scopes, captures, classes, imports.
 
-`programs()` gives what each shows, and its tree. The oracle says what comes of them.
+`programs()` gives what each shows, and its tree. The oracle says what comes of them. `later_programs()` gives those that
+were added for faults of planted.py, with pairs of nodes: the row of the first must stand before that of the second.
 """
-from sheets import INIT, MAIN_UNIT, NULL
+import random
+
+from sheets import INIT, MAIN_UNIT, NULL, Sheet
 from tree import Node
 
 NAMES = [b"a", b"b", b"c", b"f", b"g", b"m", b"n", b"p", b"q", b"A", b"B", b"C"]
@@ -68,6 +71,10 @@ def give(value):
 
 def stop():
     return Node(23)
+
+
+def again():
+    return Node(24)
 
 
 def nil_body():
@@ -354,3 +361,146 @@ def programs():
     for group in groups:
         for what, root in group():
             yield f"{group.__name__}: {what}", root
+
+
+# later programs
+
+def rows_against_the_walk():
+    first, second = use(b), use(a)
+    yield "captures", in_function(let(a), var(b), give(lit([], block(do(first), do(second))))), [(second, first)]
+    first, second = use(b), use(p)
+    inner = lit([], give(first))
+    yield "captures of an inner literal", in_function(
+        var(b), give(lit([], block(do(inner), do(second)))), params=[p]), [(second, first)]
+    first, second = use(b), use(a)
+    deep = lit([], give(lit([], give(first))))
+    yield "captures by literals of two depths", in_function(
+        var(a), var(b), give(lit([], block(do(deep), do(lit([], give(second))))))), [(second, first)]
+    first, second = use(A), use(B)
+    yield "constructor calls, 20", sheet(
+        unit(do(call(first)), do(call(second)), classes=[record(A), record(B)])), [(second, first)]
+    first, second = use(A), use(A)
+    yield "constructor calls, 21", sheet(unit(
+        do(call(first, nil())), do(call(second)), classes=[record(A, 0, (), [method(INIT)])])), [(second, first)]
+    for what, parents in (("19", (STRING, DICT)), ("18", (A, B)), ("18 and 19", (A, STRING)), ("19 and 18", (STRING, B))):
+        first, second = record(A, parents[0]), record(B, parents[1])
+        yield f"classes of two units, {what}", sheet(unit(classes=[first]), unit(classes=[second])), [(second, first)]
+    first = record(A, B, [a, p], [method(m)])
+    second = record(B, 0, [p, q], [method(n), method(m)])
+    far = unit(classes=[second])
+    yield "classes of two units, inherited", sheet(unit(imports=[bring(far, B)], classes=[first]), far), [(second, first)]
+    one, two = record(A, STRING), record(B, DICT)
+    yield "classes against their declarations", sheet(
+        unit(declare(two), declare(one), classes=[one, two], declared=False)), []
+    one, two = record(A, A), record(B, B)
+    yield "circles against their declarations", sheet(
+        unit(declare(two), declare(one), classes=[one, two], declared=False)), []
+    one = record(A, 0, [q, p])
+    declared = declare(one)
+    yield "fields after the class declaration", sheet(unit(declared, let(a), classes=[one], declared=False)), [
+        (declared, field) for field in one.kids]
+    first, second = let(a), var(b)
+    yield "globals", sheet(unit(block(first), second, do(use(b)))), [(second, first)]
+    first, second = (put(member(nil(), name), nil()) for name in (b, c))
+    one = record(A, 0, (), [fun(m, [], block(first)), fun(n, [], block(second))])
+    yield "registered fields", sheet(unit(classes=[one])), [(second, first)]
+    first, second = use(a), use(b)
+    yield "names unknown", in_function(do(first), do(second)), [(second, first)]
+
+
+def later_order():
+    yield "arguments left to right", in_function(do(call(nil(), use(a), use(b)))), []
+    yield "a later unit before circles", sheet(unit(classes=[record(A, A)]), unit(do(use(b)))), []
+    yield "a later unit before calls", sheet(unit(do(call(use(A))), classes=[record(A)]), unit(stop())), []
+
+
+def later_scopes():
+    yield "a constant let takes no slot", in_function(let(a, nil(), 4), let(b), do(array(use(a), use(b)))), []
+    yield "a constant let between two", in_function(
+        var(a), let(b, nil(), 2), let(c), do(lit([], give(array(use(b), use(c)))))), []
+    yield "a constant let takes no global", sheet(unit(let(a), let(b, nil(), 3), var(c), do(use(b)))), []
+    yield "two functions hoisted in a unit", sheet(unit(let(a, lit([], nil_body())), let(a, lit([], nil_body())))), []
+    yield "a class of an earlier unit", sheet(unit(classes=[record(A)]), unit(do(use(A)))), []
+    far = unit(exports=[Node(7, a, 0)])
+    far.kids[0].b = far.kids[-1]
+    yield "an import of an earlier unit", sheet(far, unit(imports=[bring(far, a)]), unit(do(use(a)))), []
+    yield "a let of an earlier unit", sheet(unit(let(a)), unit(do(use(a)))), []
+    named = record(STRING, 0, [a], [method(m)])
+    yield "a class with a core name", sheet(unit(
+        do(is_a(nil(), STRING)), do(static(STRING, m)), classes=[named, record(B, STRING)])), []
+    yield "mutable siblings that both escape", in_function(
+        block(var(a), do(lit([], give(use(a))))), block(var(b), do(lit([], give(use(b)))))), []
+    yield "a capture by an inner literal alone, then another", in_function(
+        var(a), var(b), give(lit([], block(do(lit([], give(use(b)))), do(use(a)))))), []
+
+
+def later_loops():
+    def ends(*stmts):
+        return loop(do(nil()), nil(), do(nil()), block(*stmts))
+    yield "break after an inner loop", in_function(ends(ends(), stop())), []
+    yield "continue after an inner loop", sheet(unit(ends(ends(again()), again()))), []
+    yield "break after both", in_function(ends(ends()), stop()), []
+    yield "continue in no loop", in_function(again()), []
+
+
+def later_classes():
+    def three():
+        return [record(C, B, [c], [method(q)]), record(B, A, [b], [method(n)]),
+                record(A, 0, [a], [method(m), method(INIT, params=[p])])]
+    yield "a grandparent's methods and fields", sheet(unit(do(call(use(C))), classes=three())), []
+    yield "a grandparent's methods, from above", sheet(unit(do(call(use(C))), classes=three()[::-1])), []
+    yield "a grandparent's init, arguments", sheet(unit(do(call(use(C), nil())), classes=three())), []
+    four = [record(g, C, (), [method(m)])] + three()
+    yield "methods of four, one replaced", sheet(unit(classes=four)), []
+    for what, params, args in (("neither parameters nor arguments", 0, 0), ("an argument and no parameter", 0, 1),
+                               ("a parameter and no argument", 1, 0), ("two parameters and one argument", 2, 1),
+                               ("one parameter and two arguments", 1, 2)):
+        one = record(A, 0, (), [method(m, params=[p, q][:params])])
+        yield f"a class method with {what}", sheet(unit(do(static(A, m, *[nil() for _ in range(args)])), classes=[one])), []
+    for what, params, args in (("one parameter and no argument", 1, 0), ("two parameters and no argument", 2, 0),
+                               ("one parameter and an argument", 1, 1)):
+        one = record(A, 0, (), [method(INIT, params=[p, q][:params])])
+        yield f"init with {what}", sheet(unit(do(call(use(A), *[nil() for _ in range(args)])), classes=[one])), []
+
+
+def later_imports():
+    other = unit()
+
+    def offers(functions=(), classes=(), consts=()):
+        return unit(exports=[Node(7, name, other.kids[-1]) for name in functions],
+                    classes=[record(name) for name in classes], consts=[Node(8, name, 1) for name in consts])
+
+    rich = offers([a], [a])
+    yield "all before an unknown name", sheet(unit(imports=[bring(rich, b, everything=1)]), rich, other), []
+    rich = offers([a], [B], [g])
+    for names in ((a, B, g), (g, B, a), (B, g), (g, B), (a, g), (a, B), (B, a)):
+        far = offers([a], [B], [g])
+        yield "all with several names that are there", sheet(
+            other, unit(imports=[bring(rich, *names), bring(far, everything=1)]), rich, far), []
+    for sort in ("functions", "classes", "consts"):
+        rich, far = offers(**{sort: [a, b]}), offers(**{sort: [b, a]})
+        yield f"all, {sort} in their order", sheet(
+            other, unit(imports=[bring(rich, a, b), bring(far, everything=1)]), rich, far), []
+    rich = offers([a], [B], [g])
+    yield "an unknown name, then one that is there", sheet(
+        other, unit(imports=[bring(rich, a), bring(rich, b, a)]), rich), []
+    yield "one that is there, then an unknown name", sheet(
+        other, unit(imports=[bring(rich, a), bring(rich, a, b)]), rich), []
+    rich = offers(classes=[A, B])
+    yield "two classes that are imported", sheet(unit(imports=[bring(rich, B, A)], classes=[record(A), record(B)]), rich), []
+    yield "two classes that are imported, the other way", sheet(
+        unit(imports=[bring(rich, everything=1)], classes=[record(B), record(A)]), rich), []
+
+
+def later_programs():
+    groups = [rows_against_the_walk, later_order, later_scopes, later_loops, later_classes, later_imports]
+    for group in groups:
+        for what, root, earlier in group():
+            yield f"{group.__name__}: {what}", root, earlier
+
+
+def later_sheets():
+    """What each later program shows, and its sheet, with rows in one order."""
+    for i, (what, root, earlier) in enumerate(later_programs()):
+        order = "breadth" if earlier else ("preorder", "random", "runs")[i % 3]
+        yield what, Sheet(root, NAMES, random.Random(i), order, earlier)

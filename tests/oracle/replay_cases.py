@@ -1,12 +1,13 @@
 """replay_cases.py ORACLE COUNT SEED OUTDIR
 
-Makes COUNT cases, at least some 160, for the program crates/replay and writes OUTDIR/stdin, the cases, and OUTDIR/stdout,
-what the program must print of them, out of the oracle's answers. A case is two numbers in ten columns each, the bytes of the
-sheet's text and of its names, and then these bytes.
+Makes COUNT cases, at least some 160, and the later ones for the program crates/replay and writes OUTDIR/stdin, the cases,
+and OUTDIR/stdout, what the program must print of them, out of the oracle's answers. A case is two numbers in ten columns
+each, the bytes of the sheet's text and of its names, and then these bytes.
 
 The cases are the samples of document 01, the small programs of directed.py, some sheets at the limits, and random sheets of
-at most MOST_ROWS rows, some with leading zeros in their numbers; of each question from 5 to 21 at least LEAST. Sheets that
-questions 1 to 4 refuse are left out: the oracle is not asked about them. Prints the counts by question and by kind of row.
+at most MOST_ROWS rows, some with leading zeros in their numbers; of each question from 5 to 21 at least LEAST. The
+later ones follow these in order: small programs that planted.py asks for, sheets and texts at the limits. Of those that
+questions 1 to 4 refuse, format_check.py says so; the oracle is not asked. Prints the counts by question and by kind of row.
 """
 import random
 import sys
@@ -16,7 +17,7 @@ from pathlib import Path
 import directed
 from expected import LENT, all_printed
 from format_check import first_no, words_of_text
-from limits import limits
+from limits import limits, more_limits, texts
 from question_cases import cases_of
 from sheets import Sheet, generate
 from tree import text_of
@@ -90,6 +91,15 @@ def limit_cases():
     return [case_of(what, *sheets[what]) for what in LIMITS]
 
 
+def later_cases():
+    for what, sheet in directed.later_sheets():
+        yield case_of(what, sheet.words, sheet.names)
+    for what, (words, names) in more_limits().items():
+        yield case_of(what, words, names)
+    for what, (text, names) in texts().items():
+        yield Case(what, text, names)
+
+
 def random_cases(rng, seeds, sizes, most_rows):
     for seed in seeds:
         sheet = generate(seed, rng.choice(sizes), 0.85)
@@ -121,7 +131,7 @@ def make_cases(oracle, count, seed):
                 cases.append(case)
         first += BATCH
     rng.shuffle(cases)
-    return cases
+    return cases + expect(oracle, list(later_cases()))
 
 
 def summary(cases):

@@ -633,11 +633,11 @@ def classes_declared(nodes):
 class Sheet:
     """A generated sheet: its tree, its rows, and its byte list of names."""
 
-    def __init__(self, root, names, rng, order):
+    def __init__(self, root, names, rng, order, late=()):
         self.root = root
         self.names = b"".join(name + b"\n" for name in names)
         self.order = order
-        nodes = ordered(root, rng, order)
+        nodes = ordered(root, rng, order, late)
         self.preorder = nodes == root.all()
         self.rows = rows_of(nodes, positions(rng, len(nodes)))
 

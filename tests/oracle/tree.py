@@ -34,7 +34,7 @@ def kids_of(rows, row):
 
 def successors(root, late=()):
     """What must come after each node: its first child, its next sibling, and a class declaration after its methods'
-    rows. Pairs in `late` are (class declaration, row): there the declaration must come first."""
+    rows. Of each pair in `late` the first must come first, also where that is a declaration and a row of its methods."""
     after = {node: [] for node in root.all()}
     for node in list(after):
         if node.kids:

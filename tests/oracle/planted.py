@@ -1,0 +1,128 @@
+"""planted.py [WORD]
+
+Plants the faults of faults.py in copies of second.py and format_check.py, one at a time, and counts the recorded cases
+that notice each: those of crates/replay whose printed rows change, and those of crates/question_tests whose answer changes.
+Prints a line for each fault, first those that no case notices; exit status 1 if there is one, or if a copy without a fault
+answers a case otherwise. With WORD only faults that have it in their line are planted. A fault that stops the copy with an
+error counts as noticed there.
+"""
+import sys
+import types
+from pathlib import Path
+
+import faults
+from question_cases import cases_of
+from tree import text_of
+
+HERE = Path(__file__).resolve().parent
+CRATES = HERE.parents[1] / "crates"
+
+
+def altered(file, changes):
+    """A module out of a file's text with changes: a text that occurs once, what stands in its place, and so on."""
+    source = (HERE / file).read_text()
+    for old, new in zip(changes[::2], changes[1::2]):
+        if source.count(old) != 1:
+            raise ValueError(f"{source.count(old)} times in {file}: {old}")
+        source = source.replace(old, new)
+    module = types.ModuleType(file)
+    exec(compile(source, file, "exec"), module.__dict__)
+    return module
+
+
+# The recorded cases
+
+def replay_cases():
+    """(text of a sheet, names, printed text) of each case of crates/replay."""
+    data, out = ((CRATES / "replay" / name).read_bytes() for name in ("stdin", "stdout"))
+    cases, at, printed = [], 0, 0
+    while at < len(data):
+        sizes = int(data[at:at + 10]), int(data[at + 10:at + 20])
+        start, middle = at + 20, at + 20 + sizes[0]
+        at = middle + sizes[1]
+        end = printed + 81 * (1 + int(out[printed + 50:printed + 60]))
+        cases.append((data[start:middle], data[middle:at], out[printed:end]))
+        printed = end
+    assert printed == len(out)
+    return cases
+
+
+def question_cases():
+    """(words, names, question) of each case of crates/question_tests."""
+    script, out = ((CRATES / "question_tests" / name).read_text() for name in ("stdin", "stdout"))
+    answers = [int(line.rpartition(": ")[2]) for line in out.splitlines()]
+    cases = [(words, names) for _, words, names in cases_of(script)]
+    assert len(cases) == len(answers)
+    return [(*case, answer) for case, answer in zip(cases, answers)]
+
+
+class Recorded:
+    def __init__(self):
+        self.format = altered("format_check.py", ())
+        self.replay = replay_cases()
+        self.questions = question_cases()
+        self.sheets = []
+        for text, _, out in self.replay:
+            words = self.format.words_of_text(text)
+            if int(out[:10]) not in (1, 2, 3, 4):
+                self.sheets.append(([words[i:i + 8] for i in range(0, len(words), 8)], out))
+
+    def resolver_notices(self, module):
+        """How many cases of crates/replay the module's resolver answers otherwise."""
+        return sum(outcome(lambda: text_of(module.printed_rows(rows)).encode()) != out for rows, out in self.sheets)
+
+    def text_notices(self, module):
+        """How many cases of crates/replay the module refuses otherwise."""
+        return sum(outcome(lambda: module.first_no(module.words_of_text(text), names)) != refusal(out)
+                   for text, names, out in self.replay)
+
+    def format_notices(self, module):
+        """How many cases of crates/question_tests the module answers otherwise."""
+        return sum(outcome(lambda: module.first_no(words, names)) != answer for words, names, answer in self.questions)
+
+
+def refusal(out):
+    """The question from 1 to 4 that printed text is refused by, or 0."""
+    question = int(out[:10])
+    return question if question <= 4 else 0
+
+
+def outcome(compute):
+    try:
+        return compute()
+    except Exception as error:
+        return error
+
+
+def planted(recorded, word):
+    """(noticing cases, line) of each fault."""
+    source = (HERE / "format_check.py").read_text()
+    groups = [
+        ("replay", "second.py", faults.RESOLVER, recorded.resolver_notices),
+        ("replay", "format_check.py", faults.TEXT, recorded.text_notices),
+        ("question_tests", "format_check.py", faults.format_faults(source), recorded.format_notices),
+    ]
+    for program, file, group, notices in groups:
+        for what, *changes in group:
+            line = f"{program}: {what}"
+            if word in line:
+                yield notices(altered(file, changes)), line
+
+
+def main():
+    recorded = Recorded()
+    wrong = [recorded.resolver_notices(altered("second.py", ())), recorded.text_notices(recorded.format),
+             recorded.format_notices(recorded.format)]
+    if any(wrong):
+        sys.exit(f"without a fault, cases answered otherwise: {wrong}")
+    found = list(planted(recorded, sys.argv[1] if len(sys.argv) > 1 else ""))
+    for count, line in sorted(found, key=lambda each: each[0] > 0):
+        print(f"{count:5} {line}")
+    missed = sum(count == 0 for count, _ in found)
+    print(f"{len(recorded.replay)} cases of replay, {len(recorded.questions)} of question_tests")
+    print(f"{len(found)} faults planted, {missed} not noticed")
+    sys.exit(1 if missed else 0)
+
+
+if __name__ == "__main__":
+    main()
