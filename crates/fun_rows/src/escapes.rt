@@ -15,6 +15,7 @@ ghost use Rattle.sink.specs.Sink.{sink, emitAll};
 ghost use Rattle.fun_rows.specs.Literals.{LiteralChains, escapes, slotsAsked};
 use crate::captured_at;
 use crate::emit_words;
+use ast::FunId;
 use classes::entry_at;
 use store::nodes::Store;
 use store::nodes::node_before;
@@ -23,22 +24,22 @@ use symbols::decl::is_mutable;
 use tree::words::word;
 
 // Is node `i` of a capture list the mutable local of function `f` in slot `j`?
-fn is_slot(s: &[u32], q: &[u32], i: u32, f: u32, j: u32) -> bool
-    ensures { λ x. ⌜ x ≡ (isMutable (now (s .entry)) (meaningOfNode (nodeAt (now (q .entry)) i)) && eqb (nodeAt (now (q .entry)) i .one) f && eqb (nodeAt (now (q .entry)) i .two) j) ⌝ }
+fn is_slot(s: &[u32], q: &[u32], i: u32, f: FunId, j: u32) -> bool
+    ensures { λ x. ⌜ x ≡ (isMutable (now (s .entry)) (meaningOfNode (nodeAt (now (q .entry)) i)) && eqb (nodeAt (now (q .entry)) i .one) (f .0) && eqb (nodeAt (now (q .entry)) i .two) j) ⌝ }
 {
     let d = captured_at(q, i);
     if !is_mutable(s, d) {
         return false;
     }
-    if d.second != f {
+    if d.second != f.0 {
         return false;
     }
     d.slot == j
 }
 
 // Is that local in the list whose last node is node `p - 1`?
-fn captures_slot(s: &[u32], q: &[u32], p: u32, f: u32, j: u32) -> bool
-    ensures { λ x. ⌜ x ≡ handsOn (now (s .entry)) f j (chainTo (now (q .entry)) p) ⌝ }
+fn captures_slot(s: &[u32], q: &[u32], p: u32, f: FunId, j: u32) -> bool
+    ensures { λ x. ⌜ x ≡ handsOn (now (s .entry)) (f .0) j (chainTo (now (q .entry)) p) ⌝ }
 {
     let mut i = p;
     while 0 < i {
@@ -52,12 +53,12 @@ fn captures_slot(s: &[u32], q: &[u32], p: u32, f: u32, j: u32) -> bool
 }
 
 // Does slot `j` of function `f` escape? Asks the function of each literal that stands in `f`.
-fn hands_on(s: &[u32], t: &[u32], q: &[u32], heads: &[u32], nexts: &[u32], f: u32, j: u32) -> bool
-    requires { ⌜ (f < rows (now s)) × (LiteralChains (now s) (now t) (now heads) (now nexts)) ⌝ }
-    ensures { λ x. ⌜ x ≡ escapes (now (s .entry)) (now (t .entry)) (now (q .entry)) f j ⌝ }
+fn hands_on(s: &[u32], t: &[u32], q: &[u32], heads: &[u32], nexts: &[u32], f: FunId, j: u32) -> bool
+    requires { ⌜ (f .0 < rows (now s)) × (LiteralChains (now s) (now t) (now heads) (now nexts)) ⌝ }
+    ensures { λ x. ⌜ x ≡ escapes (now (s .entry)) (now (t .entry)) (now (q .entry)) (f .0) j ⌝ }
 {
     let mut n = s.len() / 8;
-    let mut l = entry_at(heads, f);
+    let mut l = entry_at(heads, f.0);
     while 0 < n {
         if l == 0 {
             return false;
@@ -73,19 +74,19 @@ fn hands_on(s: &[u32], t: &[u32], q: &[u32], heads: &[u32], nexts: &[u32], f: u3
 }
 
 // How many slots to ask: the local count, or none where no literal stands in function `f`.
-fn slots_asked(t: &[u32], heads: &[u32], f: u32) -> u32
-    ensures { λ x. ⌜ x ≡ slotsAsked (now (t .entry)) (now (heads .entry)) f ⌝ }
+fn slots_asked(t: &[u32], heads: &[u32], f: FunId) -> u32
+    ensures { λ x. ⌜ x ≡ slotsAsked (now (t .entry)) (now (heads .entry)) (f .0) ⌝ }
 {
-    if entry_at(heads, f) == 0 {
+    if entry_at(heads, f.0) == 0 {
         return 0;
     }
-    word(t, f, 5)
+    word(t, f.0, 5)
 }
 
 // The number of escaping slots.
-pub fn count_escapes(s: &[u32], t: &[u32], q: &[u32], heads: &[u32], nexts: &[u32], f: u32) -> u32
-    requires { ⌜ (f < rows (now s)) × (LiteralChains (now s) (now t) (now heads) (now nexts)) ⌝ }
-    ensures { λ x. ⌜ ((o : Store) → x ≡ length (escapingSlots (now (s .entry)) (storeOf o (now (t .entry)) (now (q .entry))) f)) ⌝ }
+pub fn count_escapes(s: &[u32], t: &[u32], q: &[u32], heads: &[u32], nexts: &[u32], f: FunId) -> u32
+    requires { ⌜ (f .0 < rows (now s)) × (LiteralChains (now s) (now t) (now heads) (now nexts)) ⌝ }
+    ensures { λ x. ⌜ ((o : Store) → x ≡ length (escapingSlots (now (s .entry)) (storeOf o (now (t .entry)) (now (q .entry))) (f .0))) ⌝ }
 {
     let n = slots_asked(t, heads, f);
     let mut j = 0;
@@ -107,13 +108,13 @@ pub fn emit_escapes(
     q: &[u32],
     heads: &[u32],
     nexts: &[u32],
-    f: u32,
+    f: FunId,
     k: usize,
     out: &mut [u32],
 ) -> usize
-    requires { ⌜ (f < rows (now s)) × (LiteralChains (now s) (now t) (now heads) (now nexts)) ⌝ }
+    requires { ⌜ (f .0 < rows (now s)) × (LiteralChains (now s) (now t) (now heads) (now nexts)) ⌝ }
     ensures { λ n. ⌜ ((o : Store) → sink n (now (out .exit))
-        ≡ emitAll (map (λ j. eight (f ∷ 5 ∷ j ∷ f ∷ 1 ∷ [])) (escapingSlots (now (s .entry)) (storeOf o (now (t .entry)) (now (q .entry))) f)) (sink k (now (out .entry)))) ⌝ }
+        ≡ emitAll (map (λ j. eight (f .0 ∷ 5 ∷ j ∷ f .0 ∷ 1 ∷ [])) (escapingSlots (now (s .entry)) (storeOf o (now (t .entry)) (now (q .entry))) (f .0))) (sink k (now (out .entry)))) ⌝ }
 {
     let last = slots_asked(t, heads, f);
     let mut j = 0;
@@ -125,10 +126,10 @@ pub fn emit_escapes(
             let x = RowWords {
                 code: 5,
                 one: slot,
-                two: f,
+                two: f.0,
                 three: 1,
             };
-            n = emit_words(f, x, n, out);
+            n = emit_words(f.0, x, n, out);
         }
     }
     n

@@ -126,22 +126,22 @@ pub fn emit_function(
     q: &[u32],
     heads: &[u32],
     nexts: &[u32],
-    f: u32,
+    f: FunId,
     k: usize,
     out: &mut [u32],
 ) -> usize
-    requires { ⌜ (length (now s) ≤ 16384) × (f < rows (now s)) × (LiteralChains (now s) (now t) (now heads) (now nexts)) ⌝ }
+    requires { ⌜ (length (now s) ≤ 16384) × (f .0 < rows (now s)) × (LiteralChains (now s) (now t) (now heads) (now nexts)) ⌝ }
     ensures { λ n. ⌜ ((o : Store) → sink n (now (out .exit))
-        ≡ emitAll (map (λ vs. eight (f ∷ vs)) (functionRowsIn (now (s .entry)) (storeOf o (now (t .entry)) (now (q .entry))) f)) (sink k (now (out .entry)))) ⌝ }
+        ≡ emitAll (map (λ vs. eight (f .0 ∷ vs)) (functionRowsIn (now (s .entry)) (storeOf o (now (t .entry)) (now (q .entry))) (f .0))) (sink k (now (out .entry)))) ⌝ }
 {
-    let last = word(t, f, 6);
+    let last = word(t, f.0, 6);
     let x = RowWords {
         code: 20,
-        one: word(t, f, 5),
+        one: word(t, f.0, 5),
         two: count_nodes(q, last),
         three: count_escapes(s, t, q, heads, nexts, f),
     };
-    let counted = emit_words(f, x, k, out);
-    let captured = emit_captured(s, q, f, last, counted, out);
+    let counted = emit_words(f.0, x, k, out);
+    let captured = emit_captured(s, q, f.0, last, counted, out);
     emit_escapes(s, t, q, heads, nexts, f, captured, out)
 }

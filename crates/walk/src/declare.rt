@@ -56,7 +56,7 @@ fn count_local(s: &[u32], e: Env, d: OpenDecl, t: &mut [u32])
 {
     if is_local(s, d) {
         let fun = e.fun;
-        raise_locals(t, fun.0, one_more(e.slot));
+        raise_locals(t, fun, one_more(e.slot));
     }
 }
 
