@@ -4,7 +4,7 @@ use mathlib.Core.List.{List, [], _∷_, map}
 use Prim.Native.Nat.{ℕ, suc, _+_}
 use lib.ListN.{length}
 use lib.Dec.{eqb}
-use Rattle.definition.specs.Basics.{if_then_else_, filter, place, largest}
+use Rattle.definition.specs.Basics.{if_then_else_, filter, place, largest, bit}
 use Rattle.definition.specs.Sheet.{Sheet, a, b, is, kidsOf}
 use Rattle.definition.specs.Meaning.{Meaning, nothing, function, class, global, toplevel, variable, isVariable, isToplevel, rowOf}
 use Rattle.definition.specs.Scope.{Stack, Moment, scope, looping, bound, declares, declarings, declaration, within}
@@ -52,9 +52,9 @@ module _ (s : Sheet) (h : List Moment) where
   code nothing k = 0 ∷ []
   code (function f) k = 1 ∷ f ∷ []
   code (class c) k = 2 ∷ c ∷ []
-  code (global g m) k = 3 ∷ g ∷ 0 ∷ m ∷ []
-  code (toplevel r) k = 3 ∷ globalOf r ∷ 0 ∷ b s r ∷ []
-  code (variable r f) k = if is s 11 r then 4 ∷ place (eqb r) (kidsOf s 11 f) ∷ f ∷ [] else 5 ∷ k ∷ f ∷ b s r ∷ []
+  code (global g m) k = 3 ∷ g ∷ 0 ∷ bit (eqb m 1) ∷ []
+  code (toplevel r) k = 3 ∷ globalOf r ∷ 0 ∷ bit (eqb (b s r) 1) ∷ []
+  code (variable r f) k = if is s 11 r then 4 ∷ place (eqb r) (kidsOf s 11 f) ∷ f ∷ [] else 5 ∷ k ∷ f ∷ bit (eqb (b s r) 1) ∷ []
 
   -- the local count of function f: its largest slot plus 1, or 0
   abbrev pub localCount : ℕ → ℕ

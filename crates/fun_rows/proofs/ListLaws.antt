@@ -9,7 +9,7 @@ use lib.Dec.{eqb}
 use lib.ListN.{length}
 use Rattle.definition.specs.Basics.{if_then_else_}
 use Rattle.definition.specs.Sheet.{Sheet, is, b, child}
-use Rattle.definition.specs.Meaning.{Meaning, nothing, function, class, global, toplevel, variable, isVariable, ownerOf}
+use Rattle.definition.specs.Meaning.{Meaning, nothing, function, class, global, toplevel, variable, isVariable, isDeclared, ownerOf}
 use Rattle.definition.specs.Answer.{eight}
 use Rattle.machine.specs.Machine.{Store, Node, cell, nodeWord, nodeAt, previous, chainTo, fourWords, codeOf, seenIn, listAt}
 use Rattle.machine.specs.Reads.{answerRow, meaningOfNode}
@@ -54,6 +54,9 @@ seen-short s d k g f o = go (isVariable d && not (eqb (ownerOf d) f)) _ _
 -- the open declaration that node i of a capture list stands for
 abbrev pub declAt : List ℕ → ℕ → OpenDecl
 declAt q i = record { tag = 6; first = nodeWord q i 1; second = nodeWord q i 2; slot = nodeWord q i 3 }
+
+pub captured-declared : (q : List ℕ) (i : ℕ) (d : OpenDecl) → d ≡ declAt q i → isDeclared (means d) ≡ true
+captured-declared q i d e = ap (λ (x : OpenDecl). isDeclared (means x)) e
 
 -- its row, in its own function and seen from function f; a local or argument has no global number
 pub captured-row : (s : Sheet) (r : ℕ) (q : List ℕ) (i : ℕ) (d : OpenDecl) (ws : List ℕ) → d ≡ declAt q i → ws ≡ fourWords (codeOf s (means d) (d .slot) (d .second))

@@ -14,12 +14,12 @@ ghost use Rattle.store.specs.Stored.{storeOf};
 ghost use Rattle.sink.specs.Sink.{sink, emitAll};
 ghost use Rattle.fun_rows.specs.Literals.{LiteralChains, escapes, slotsAsked};
 use crate::captured_at;
-use crate::emit_words;
+use crate::emit_decl;
+use ast::Decl;
 use ast::FunId;
 use classes::entry_at;
 use store::nodes::Store;
 use store::nodes::node_before;
-use store::table::RowWords;
 use symbols::decl::is_mutable;
 use tree::words::word;
 
@@ -123,13 +123,12 @@ pub fn emit_escapes(
         let slot = j;
         j += 1;
         if hands_on(s, t, q, heads, nexts, f, slot) {
-            let x = RowWords {
-                code: 5,
-                one: slot,
-                two: f.0,
-                three: 1,
+            let x = Decl::Local {
+                idx: slot,
+                src_fun: f,
+                mutable: true,
             };
-            n = emit_words(f.0, x, n, out);
+            n = emit_decl(f.0, x, n, out);
         }
     }
     n

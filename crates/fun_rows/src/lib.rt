@@ -3,9 +3,10 @@ mod escapes;
 pub mod literals;
 
 ghost use mathlib.Core.Path.{_≡_};
-ghost use mathlib.Core.List.{[], _∷_, map};
+ghost use mathlib.Core.List.{_∷_, map};
 ghost use Prim.Native.Nat.{_<_, _≤_};
 ghost use lib.ListN.{length};
+ghost use Rattle.ast.specs.Decl.{codeAndValues};
 ghost use Rattle.definition.specs.Sheet.{rows};
 ghost use Rattle.definition.specs.Answer.{eight};
 ghost use Rattle.machine.specs.Machine.{chainTo, codeOf, seenIn, nodeWord};
@@ -16,6 +17,7 @@ ghost use Rattle.sink.specs.Sink.{sink, emit as emitted, emitAll};
 ghost use Rattle.fun_rows.specs.Literals.{LiteralChains};
 use crate::escapes::count_escapes;
 use crate::escapes::emit_escapes;
+use ast::Decl;
 use ast::FunId;
 use sink::AnswerRow;
 use sink::emit;
@@ -23,37 +25,38 @@ use store::nodes::Store;
 use store::nodes::count_nodes;
 use store::nodes::node_before;
 use store::nodes::node_word;
-use store::table::RowWords;
 use symbols::decl::OpenDecl;
 use tree::words::word;
 use walk::code::code_of;
 use walk::code::seen_in;
 
 // The row of sheet row `r` with a code and three values.
-fn emit_words(r: u32, x: RowWords, k: usize, out: &mut [u32]) -> usize
-    ensures { λ n. ⌜ sink n (now (out .exit)) ≡ emitted (answerRow r (x .code ∷ x .one ∷ x .two ∷ x .three ∷ [])) (sink k (now (out .entry))) ⌝ }
+fn emit_words(r: u32, x: [u32; 4], k: usize, out: &mut [u32]) -> usize
+    ensures { λ n. ⌜ sink n (now (out .exit)) ≡ emitted (answerRow r x) (sink k (now (out .entry))) ⌝ }
 {
     let row = AnswerRow {
         row: r,
-        code: x.code,
-        one: x.one,
-        two: x.two,
-        three: x.three,
+        code: x[0],
+        one: x[1],
+        two: x[2],
+        three: x[3],
         four: 0,
     };
     emit(out, k, row)
+}
+
+// The row of sheet row `r`, told as a declaration.
+fn emit_decl(r: u32, d: Decl, k: usize, out: &mut [u32]) -> usize
+    ensures { λ n. ⌜ sink n (now (out .exit)) ≡ emitted (answerRow r (codeAndValues d)) (sink k (now (out .entry))) ⌝ }
+{
+    emit_words(r, d.words(), k, out)
 }
 
 // The row of a let, identifier, host constant, instanceof or member, as the table has it.
 pub fn emit_row(t: &[u32], r: u32, k: usize, out: &mut [u32]) -> usize
     ensures { λ n. ⌜ sink n (now (out .exit)) ≡ emitted (answerRow r (rowWords (now (t .entry)) r)) (sink k (now (out .entry))) ⌝ }
 {
-    let x = RowWords {
-        code: word(t, r, 0),
-        one: word(t, r, 1),
-        two: word(t, r, 2),
-        three: word(t, r, 3),
-    };
+    let x = [word(t, r, 0), word(t, r, 1), word(t, r, 2), word(t, r, 3)];
     emit_words(r, x, k, out)
 }
 
@@ -81,7 +84,7 @@ fn emit_captured(s: &[u32], q: &[u32], r: u32, p: u32, k: usize, out: &mut [u32]
     let i = p - 1;
     let n = emit_captured(s, q, r, node_before(q, i), k, out);
     let x = code_of(s, captured_at(q, i));
-    emit_words(r, x, n, out)
+    emit_decl(r, x, n, out)
 }
 
 // What a literal that stands in function `fun` hands on, in the same order.
@@ -105,7 +108,7 @@ fn emit_sources(
     let i = p - 1;
     let n = emit_sources(s, t, q, r, fun, node_before(q, i), k, out);
     let x = seen_in(s, captured_at(q, i), fun, t, q);
-    emit_words(r, x, n, out)
+    emit_decl(r, x, n, out)
 }
 
 // The rows of literal `r`: one for each source.
@@ -135,12 +138,12 @@ pub fn emit_function(
         ≡ emitAll (map (λ vs. eight (f .0 ∷ vs)) (functionRowsIn (now (s .entry)) (storeOf o (now (t .entry)) (now (q .entry))) (f .0))) (sink k (now (out .entry)))) ⌝ }
 {
     let last = word(t, f.0, 6);
-    let x = RowWords {
-        code: 20,
-        one: word(t, f.0, 5),
-        two: count_nodes(q, last),
-        three: count_escapes(s, t, q, heads, nexts, f),
-    };
+    let x = [
+        20,
+        word(t, f.0, 5),
+        count_nodes(q, last),
+        count_escapes(s, t, q, heads, nexts, f),
+    ];
     let counted = emit_words(f.0, x, k, out);
     let captured = emit_captured(s, q, f.0, last, counted, out);
     emit_escapes(s, t, q, heads, nexts, f, captured, out)

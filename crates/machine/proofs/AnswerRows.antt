@@ -43,7 +43,7 @@ code-short s h (global g m) k = refl
 code-short s h (toplevel r) k = refl
 code-short s h (variable r f) k = go (is s 11 r)
   where
-    go : (t : Bool) → short (if t then 4 ∷ place (eqb r) (kidsOf s 11 f) ∷ f ∷ [] else 5 ∷ k ∷ f ∷ b s r ∷ []) ≡ true
+    go : (t : Bool) → short (if t then 4 ∷ place (eqb r) (kidsOf s 11 f) ∷ f ∷ [] else 5 ∷ k ∷ f ∷ bit (eqb (b s r) 1) ∷ []) ≡ true
     go true = refl
     go false = refl
 

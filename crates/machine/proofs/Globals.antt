@@ -95,7 +95,7 @@ code-on s h m nothing k l = refl
 code-on s h m (function f) k l = refl
 code-on s h m (class c) k l = refl
 code-on s h m (global g n) k l = refl
-code-on s h m (toplevel r) k l = ap (λ (g : ℕ). 3 ∷ g ∷ 0 ∷ b s r ∷ []) (number-on s h m r l)
+code-on s h m (toplevel r) k l = ap (λ (g : ℕ). 3 ∷ g ∷ 0 ∷ bit (eqb (b s r) 1) ∷ []) (number-on s h m r l)
 code-on s h m (variable r f) k l = refl
 
 pub known-on : (s : Sheet) (h : List Moment) (m : Moment) {g : ℕ} {d : Meaning} → Known s h g d → Known s (h ++ m ∷ []) g d
@@ -118,7 +118,7 @@ code-is s h nothing k g q = refl
 code-is s h (function f) k g q = refl
 code-is s h (class c) k g q = refl
 code-is s h (global n m) k g q = refl
-code-is s h (toplevel r) k g (numbered e l) = ap (λ (n : ℕ). 3 ∷ n ∷ 0 ∷ b s r ∷ []) e
+code-is s h (toplevel r) k g (numbered e l) = ap (λ (n : ℕ). 3 ∷ n ∷ 0 ∷ bit (eqb (b s r) 1) ∷ []) e
 code-is s h (toplevel r) k g (unnumbered e) = absurd (true≢false e)
 code-is s h (variable r f) k g q = refl
 

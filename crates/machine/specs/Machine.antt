@@ -404,9 +404,9 @@ unfoldable pub codeOf : Sheet → Meaning → ℕ → ℕ → List ℕ
 codeOf s nothing k g = 0 ∷ []
 codeOf s (function f) k g = 1 ∷ f ∷ []
 codeOf s (class c) k g = 2 ∷ c ∷ []
-codeOf s (global n m) k g = 3 ∷ n ∷ 0 ∷ m ∷ []
-codeOf s (toplevel r) k g = 3 ∷ g ∷ 0 ∷ b s r ∷ []
-codeOf s (variable r f) k g = if is s 11 r then 4 ∷ place (eqb r) (kidsOf s 11 f) ∷ f ∷ [] else 5 ∷ k ∷ f ∷ b s r ∷ []
+codeOf s (global n m) k g = 3 ∷ n ∷ 0 ∷ bit (eqb m 1) ∷ []
+codeOf s (toplevel r) k g = 3 ∷ g ∷ 0 ∷ bit (eqb (b s r) 1) ∷ []
+codeOf s (variable r f) k g = if is s 11 r then 4 ∷ place (eqb r) (kidsOf s 11 f) ∷ f ∷ [] else 5 ∷ k ∷ f ∷ bit (eqb (b s r) 1) ∷ []
 
 -- code and values of meaning d, seen from function f: an index of a capture, if it belongs to another function
 unfoldable pub seenIn : Sheet → Meaning → ℕ → ℕ → ℕ → Store → List ℕ

@@ -1,3 +1,3 @@
 mod ListLaws
 mod StoreLaws
-mod TableLaws
+pub mod TableLaws

@@ -12,14 +12,14 @@ ghost use Rattle.walk.specs.WalkState.{stateOf};
 use crate::state::Walk;
 use crate::state::refuse;
 use ast::ClassId;
+use ast::Decl;
 use outside::records::Method;
 use outside::records::has_record;
 use outside::records::own_method;
 use store::nodes::Node;
 use store::nodes::append_call;
-use store::table::RowWords;
 use store::table::mark_hidden;
-use store::table::write_row;
+use store::table::write_decl;
 use symbols::decl::class_number;
 use symbols::decl::lookup;
 use symbols::env::Env;
@@ -119,13 +119,7 @@ fn call_method(s: &[u32], outside: &[u32], r: u32, class: ClassId, w: Walk, t: &
     }
     mark_hidden(t, word(s, callee, 2));
     let f = method.fun;
-    let x = RowWords {
-        code: 1,
-        one: f.0,
-        two: 0,
-        three: 0,
-    };
-    write_row(t, callee, x);
+    write_decl(t, callee, Decl::Fun { id: f });
     w
 }
 

@@ -1,11 +1,12 @@
 // Declarations: the names of classes, parameters and lets.
 ghost use mathlib.Core.Path.{_≡_};
-ghost use mathlib.Core.Bool.{_&&_, not};
+ghost use mathlib.Core.Bool.{_&&_, not, true};
 ghost use mathlib.Core.List.{List, [], _∷_, map};
 ghost use Prim.Native.Nat.{ℕ, _≤_};
 ghost use lib.ListN.{length};
 ghost use Rattle.definition.specs.Basics.{if_then_else_, filter};
 ghost use Rattle.definition.specs.Sheet.{is, kids, kidsOf};
+ghost use Rattle.definition.specs.Meaning.{isDeclared};
 ghost use Rattle.definition.specs.Slots.{isLocal};
 ghost use Rattle.definition.specs.Walk.{literalLet, declare};
 ghost use Rattle.definition.specs.Outside.{Outside};
@@ -19,7 +20,7 @@ use crate::state::Walk;
 use crate::state::refuse;
 use store::nodes::Store;
 use store::table::raise_locals;
-use store::table::write_row;
+use store::table::write_decl;
 use symbols::decl::OpenDecl;
 use symbols::decl::declared_by;
 use symbols::decl::define;
@@ -62,7 +63,7 @@ fn count_local(s: &[u32], e: Env, d: OpenDecl, t: &mut [u32])
 
 // What a let stores when it is declared as `d`: its local, and its code and values. Any other row stores nothing.
 fn store_let(s: &[u32], r: u32, e: Env, d: OpenDecl, t: &mut [u32])
-    requires { ⌜ length (now s) ≤ 16384 ⌝ }
+    requires { ⌜ (length (now s) ≤ 16384) × (isDeclared (means d) ≡ true) ⌝ }
     ensures { λ _. ⌜ ((O : Outside) (o : Store) (v q : List ℕ) → d ≡ entryFor (newMeaning (now (s .entry)) r (scopesOf e v)) (scopesOf e v)
         → storeOf o (now (t .exit)) q ≡ stepStore O (now (s .entry)) (declare r) (scopesOf e v) (storeOf o (now (t .entry)) q)) ⌝ }
 {
@@ -70,7 +71,7 @@ fn store_let(s: &[u32], r: u32, e: Env, d: OpenDecl, t: &mut [u32])
         return;
     }
     count_local(s, e, d, t);
-    write_row(t, r, code_of(s, d));
+    write_decl(t, r, code_of(s, d));
 }
 
 // Row `r` declares its name: questions 7 and 16.

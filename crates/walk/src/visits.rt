@@ -19,11 +19,12 @@ use crate::code::seen_in;
 use crate::state::Walk;
 use crate::state::refuse;
 use ast::ClassId;
+use ast::Decl;
 use ast::FunId;
 use store::nodes::Node;
 use store::nodes::Store;
 use store::nodes::reg_captured;
-use store::table::RowWords;
+use store::table::write_decl;
 use store::table::write_row;
 use symbols::decl::OpenDecl;
 use symbols::decl::class_number;
@@ -104,7 +105,7 @@ pub fn resolve_ident(s: &[u32], r: u32, w: Walk, v: &[u32], t: &mut [u32], q: &m
     let fun = e.fun;
     let store = capture(s, v, e, d, o, t, q);
     let x = seen_in(s, d, fun, t, q);
-    write_row(t, r, x);
+    write_decl(t, r, x);
     Walk {
         env: e,
         store: store,
@@ -127,13 +128,7 @@ pub fn check_instanceof(s: &[u32], r: u32, w: Walk, v: &[u32], t: &mut [u32]) ->
     if class.0 == 0 {
         return refuse(w, 10, r, m);
     }
-    let x = RowWords {
-        code: 2,
-        one: class.0,
-        two: 0,
-        three: 0,
-    };
-    write_row(t, r, x);
+    write_decl(t, r, Decl::Class { id: class });
     w
 }
 
@@ -158,13 +153,7 @@ pub fn resolve_host_const(s: &[u32], r: u32, w: Walk, t: &mut [u32]) -> Walk
     }
     let e = w.env;
     let code = main_unit_code(s, e.fun);
-    let x = RowWords {
-        code: code,
-        one: 0,
-        two: 0,
-        three: 0,
-    };
-    write_row(t, r, x);
+    write_row(t, r, [code, 0, 0, 0]);
     w
 }
 
@@ -178,13 +167,7 @@ pub fn note_literal(s: &[u32], r: u32, w: Walk, t: &mut [u32]) -> Walk
     }
     let e = w.env;
     let fun = e.fun;
-    let x = RowWords {
-        code: 1,
-        one: fun.0,
-        two: 0,
-        three: 0,
-    };
-    write_row(t, r, x);
+    write_decl(t, r, Decl::Fun { id: fun });
     w
 }
 
@@ -204,13 +187,7 @@ fn write_parent(s: &[u32], c: u32, class: ClassId, t: &mut [u32])
         ≡ (if is (now (s .entry)) 4 c then writeRowAt c (2 ∷ class .0 ∷ []) (storeOf o (now (t .entry)) q) else storeOf o (now (t .entry)) q)) ⌝ }
 {
     if word(s, c, 0) == 4 {
-        let x = RowWords {
-            code: 2,
-            one: class.0,
-            two: 0,
-            three: 0,
-        };
-        write_row(t, c, x);
+        write_decl(t, c, Decl::Class { id: class });
     }
 }
 

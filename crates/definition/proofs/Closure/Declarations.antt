@@ -7,7 +7,7 @@ use Prim.Native.Nat.{ℕ, _+_, _<_}
 use native.Mathlib.Omega.{arith}
 use lib.ListN.{length, getD, take}
 use lib.Dec.{eqb, T}
-use Rattle.definition.specs.Basics.{filter, final, place, head}
+use Rattle.definition.specs.Basics.{filter, final, place, head, bit}
 use Rattle.definition.specs.Sheet.{Sheet, a, b, rows, is, kidsOf, functionOf}
 use Rattle.definition.specs.Outside.{Outside, core, based}
 use Rattle.definition.specs.Meaning.{Meaning, rowOf, ownerOf, isVariable}
@@ -21,6 +21,7 @@ use Rattle.definition.proofs.Lists.Members.{map-mem, filter-mem, map-ap
 use Rattle.definition.proofs.Walk.Fits.{Fits}
 use Rattle.definition.proofs.Walk.Once.{declarings-of}
 use Rattle.definition.proofs.Closure.Open.{OpenAt, OpenRow}
+use Rattle.definition.proofs.Closure.Declared.{declared-bit}
 use Rattle.definition.proofs.Closure.Variables.{Variable, open-variable, variable-same, Opened, find-open}
 use Rattle.definition.proofs.Closure.OpenApart.{argument-code, local-code, same-place, is-local}
 use Rattle.definition.proofs.Closure.Following.{rows-for, not-kind}
@@ -145,8 +146,14 @@ module _ {O : Outside} {s : Sheet} (ok : Fits O s) where
       r : ℕ
       r = rowOf (o .means)
 
+      mutability : T (is s 29 r) → bit (eqb (b s r) 1) ≡ b s r
+      mutability h =
+          let x : Variable O s (o .means) (o .before) = open-variable ok m q (o .at) (o .name) (o .means) (o .before) (o .is-open) (o .is-variable) in
+          declared-bit s r (within s (x .declaring .moment)) h (subst (λ (e : Meaning). T (isVariable e)) (sym (x .declaring .decl-is)) (o .is-variable))
+
       row : T (is s 29 r) → rowsFor (answers O s (history O s)) r ≡ eight (r ∷ 5 ∷ openLocals s (o .before) ∷ (functionOf s r + 0) ∷ b s r ∷ []) ∷ []
       row h =
           let-row m q (o .at) (o .name) (o .means) (o .before) (o .is-open) (and-both (isVariable (o .means)) (is s 29 r) (o .is-variable) h)
           ∙ ap (λ (c : List ℕ). eight (r ∷ c) ∷ []) (local-code O s (o .means) (openLocals s (o .before)) (o .is-variable) (not-kind s 29 11 r tt h))
+          ∙ ap (λ (z : ℕ). eight (r ∷ 5 ∷ openLocals s (o .before) ∷ ownerOf (o .means) ∷ z ∷ []) ∷ []) (mutability h)
           ∙ ap (λ (f : ℕ). eight (r ∷ 5 ∷ openLocals s (o .before) ∷ f ∷ b s r ∷ []) ∷ []) (declared-once m q (o .at) (o .name) (o .means) (o .before) (o .is-open) (o .is-variable) .4 ∙ sym (no-base (functionOf s r)))

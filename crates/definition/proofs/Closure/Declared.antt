@@ -5,8 +5,8 @@ use mathlib.Core.List.{List, [], _∷_, _++_, map, List·Memᴰ, List·Memᴰ·h
 use mathlib.Core.Bool.{Bool, true, false, not, _||_, _&&_}
 use Prim.Native.Nat.{ℕ, zero, suc, _+_, _-_, _<_, _≤_}
 use native.Mathlib.Omega.{arith}
-use lib.Dec.{eqb, leb, T, T-not}
-use Rattle.definition.specs.Basics.{if_then_else_, all, filter, first, concatMap, largest}
+use lib.Dec.{eqb, leb, T, T-not, le→leb}
+use Rattle.definition.specs.Basics.{if_then_else_, all, filter, first, concatMap, largest, bit}
 use Rattle.definition.specs.Sheet.{Sheet, rows, child, a, b, is, kids, kidsOf}
 use Rattle.definition.specs.Outside.{Outside, OutsideFits, isOutward}
 use Rattle.definition.specs.Meaning.{Meaning, nothing, variable, rowOf, ownerOf, isVariable, global, function, class, toplevel, Named, named}
@@ -128,6 +128,24 @@ as-variable false true tg tf c k g f r o h = absurd h
 as-variable false false true tf c k g f r o h = absurd h
 as-variable false false false true c k g f r o h = absurd h
 as-variable false false false false c k g f r o h = (refl, tt, tt)
+
+-- a let that declares a local or argument is no constant: its mutability is 0 or 1
+no-constant : (t4 t29 t2 tg tf : Bool) (c k g f r o : ℕ) → T t29
+    → T (isVariable (if t4 then class c else if t29 && t2 then global k 0 else if tg then toplevel g else if tf then function f else variable r o)) → T (not t2)
+no-constant true t29 t2 tg tf c k g f r o t h = absurd h
+no-constant false true true tg tf c k g f r o t h = absurd h
+no-constant false true false tg tf c k g f r o t h = tt
+no-constant false false t2 tg tf c k g f r o t h = absurd t
+
+small-bit : (n : ℕ) → T (not (leb 2 n)) → bit (eqb n 1) ≡ n
+small-bit zero h = refl
+small-bit (suc zero) h = refl
+small-bit (suc (suc n)) h = absurd (T-not (leb 2 (suc (suc n))) h (le→leb 2 (suc (suc n)) (omega arith)))
+
+pub declared-bit : (s : Sheet) (r f : ℕ) → T (is s 29 r) → T (isVariable (declared s r f)) → bit (eqb (b s r) 1) ≡ b s r
+declared-bit s r f t h =
+    small-bit (b s r)
+    (no-constant (is s 4 r) (is s 29 r) (leb 2 (b s r)) (newGlobal s r f) (is s 29 r && eqb (b s f) 1) (256 + r) (b s r - 2) r (child s (child s r)) r f t h)
 
 pub declared-variable : (s : Sheet) (r f : ℕ) → T (isVariable (declared s r f))
     → (declared s r f ≡ variable r f) × T (not (is s 4 r)) × T (not (is s 29 r && eqb (b s f) 1))

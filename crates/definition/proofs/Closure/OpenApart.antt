@@ -7,7 +7,7 @@ use Prim.Native.Nat.{ℕ, suc}
 use native.Mathlib.Omega.{arith}
 use lib.ListN.{length, getD, take, drop, length-drop}
 use lib.Dec.{eqb, T, T-not, eqb→eq, eqb-refl}
-use Rattle.definition.specs.Basics.{if_then_else_, place}
+use Rattle.definition.specs.Basics.{if_then_else_, place, bit}
 use Rattle.definition.specs.Sheet.{Sheet, kind, kids, kidsOf, is, b}
 use Rattle.definition.specs.Outside.{Outside}
 use Rattle.definition.specs.Meaning.{Meaning, nothing, variable, rowOf, ownerOf, isVariable, global, function, class, toplevel}
@@ -22,7 +22,7 @@ use Rattle.definition.proofs.Closure.Variables.{Kind-of, parameter, loc
 
 -- the code, the slot or index, and the function of a variable
 code-of : (O : Outside) (s : Sheet) (d : Meaning) (k : ℕ) → T (isVariable d)
-    → code s (history O s) d k ≡ (if is s 11 (rowOf d) then 4 ∷ place (eqb (rowOf d)) (kidsOf s 11 (ownerOf d)) ∷ ownerOf d ∷ [] else 5 ∷ k ∷ ownerOf d ∷ b s (rowOf d) ∷ [])
+    → code s (history O s) d k ≡ (if is s 11 (rowOf d) then 4 ∷ place (eqb (rowOf d)) (kidsOf s 11 (ownerOf d)) ∷ ownerOf d ∷ [] else 5 ∷ k ∷ ownerOf d ∷ bit (eqb (b s (rowOf d)) 1) ∷ [])
 code-of O s nothing k h = absurd h
 code-of O s (function f) k h = absurd h
 code-of O s (class c) k h = absurd h
@@ -33,7 +33,7 @@ code-of O s (variable r f) k h = refl
 pub argument-code : (O : Outside) (s : Sheet) (d : Meaning) (k : ℕ) → T (isVariable d) → T (is s 11 (rowOf d)) → code s (history O s) d k ≡ 4 ∷ place (eqb (rowOf d)) (kidsOf s 11 (ownerOf d)) ∷ ownerOf d ∷ []
 argument-code O s d k h t = code-of O s d k h ∙ if-true (is s 11 (rowOf d)) _ _ t
 
-pub local-code : (O : Outside) (s : Sheet) (d : Meaning) (k : ℕ) → T (isVariable d) → T (not (is s 11 (rowOf d))) → code s (history O s) d k ≡ 5 ∷ k ∷ ownerOf d ∷ b s (rowOf d) ∷ []
+pub local-code : (O : Outside) (s : Sheet) (d : Meaning) (k : ℕ) → T (isVariable d) → T (not (is s 11 (rowOf d))) → code s (history O s) d k ≡ 5 ∷ k ∷ ownerOf d ∷ bit (eqb (b s (rowOf d)) 1) ∷ []
 local-code O s d k h t = code-of O s d k h ∙ if-false (is s 11 (rowOf d)) _ _ t
 
 abbrev first-of : List ℕ → ℕ

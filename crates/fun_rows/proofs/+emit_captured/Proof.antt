@@ -5,7 +5,7 @@ use Rattle.sink.specs.Sink.{sink}
 use Rattle.machine.specs.Reads.{meaningOfNode}
 use Rattle.machine.specs.Machine.{codeOf}
 use Rattle.definition.specs.Answer.{eight}
-use Rattle.fun_rows.proofs.ListLaws.{captured-row, nodes-none, nodes-last}
+use Rattle.fun_rows.proofs.ListLaws.{captured-declared, captured-row, nodes-none, nodes-last}
 use Prim.Native.Nat.{ℕ, _<_}
 use borrow.Fn.Kinds.{In}
 use borrow.Fn.PlainCycle.{Measures, is, falls, and}
@@ -13,7 +13,7 @@ use Rattle.fun_rows.proofs.emit_captured.Reads as emit-captured
 use Rattle.fun_rows.proofs.emit_captured.Kinds as emit-captured-kinds
 use Rattle.fun_rows.proofs.+emit_captured.Lts-emit_captured as emit-captured-lts
 use Rattle.fun_rows.proofs.captured_at.Reads as captured-at-reads
-use Rattle.fun_rows.proofs.emit_words.Reads as emit-words-reads
+use Rattle.fun_rows.proofs.emit_decl.Reads as emit-decl-reads
 use Rattle.store.proofs.nodes.node_before.Reads as node-before-reads
 use Rattle.walk.proofs.code.code_of.Reads as code-of-reads
 use Rattle.fun_rows.proofs.+emit_captured.{statement}
@@ -36,7 +36,7 @@ emit-captured-below t =
 
 abbrev emit-captured-claims : ℕ → emit-captured-lts.Claims
 emit-captured-claims t =
-    (node-before-reads.Asked, node-before-reads.Learnt, emit-captured-below t, emit-captured.Post, captured-at-reads.Asked, captured-at-reads.Learnt, code-of-reads.Asked, code-of-reads.Learnt, emit-words-reads.Asked, emit-words-reads.Learnt)
+    (node-before-reads.Asked, node-before-reads.Learnt, emit-captured-below t, emit-captured.Post, captured-at-reads.Asked, captured-at-reads.Learnt, code-of-reads.Asked, code-of-reads.Learnt, emit-decl-reads.Asked, emit-decl-reads.Learnt)
 
 emit-captured-returns : (t : ℕ) → emit-captured-lts.Need-returns (emit-captured-claims t) (emit-captured-at t) emit-captured.Post
 emit-captured-returns t c = nodes-none (λ y. eight (c .before .before .before .before .args .r ∷ codeOf (c .before .before .before .before .args .s .now) (meaningOfNode y) (y .two) 0)) (c .before .before .before .before .args .q .now) (c .before .before .before .before .args .p) (sink (c .before .before .before .before .args .k) (c .before .before .before .before .args .out .now)) (c .if1 .taken)
@@ -54,16 +54,16 @@ emit-captured-captured-at-requires : (t : ℕ) → emit-captured-lts.Need-captur
 emit-captured-captured-at-requires t c κs = tt
 
 emit-captured-code-of-requires : (t : ℕ) → emit-captured-lts.Need-code-of-requires (emit-captured-claims t) (emit-captured-at t) emit-captured.Post
-emit-captured-code-of-requires t c κs = c .before .before .before .before .before .before .before .before .before .before .pre .1
+emit-captured-code-of-requires t c κs = (c .before .before .before .before .before .before .before .before .before .before .pre .1, captured-declared (c .before .before .before .before .before .before .before .before .before .before .args .q .now) _ _ (c .captured-at .ensures))
 
-emit-captured-emit-words-requires : (t : ℕ) → emit-captured-lts.Need-emit-words-requires (emit-captured-claims t) (emit-captured-at t) emit-captured.Post
-emit-captured-emit-words-requires t c κs = tt
+emit-captured-emit-decl-requires : (t : ℕ) → emit-captured-lts.Need-emit-decl-requires (emit-captured-claims t) (emit-captured-at t) emit-captured.Post
+emit-captured-emit-decl-requires t c κs = tt
 
 emit-captured-same-length : (t : ℕ) → emit-captured-lts.Need-same-length (emit-captured-claims t) (emit-captured-at t) emit-captured.Post
 emit-captured-same-length t c = search needs
 
 emit-captured-returns-2 : (t : ℕ) → emit-captured-lts.Need-returns-2 (emit-captured-claims t) (emit-captured-at t) emit-captured.Post
-emit-captured-returns-2 t c = nodes-last (λ y. eight (c .before .before .before .before .before .before .before .before .before .before .before .before .before .before .before .args .r ∷ codeOf (c .before .before .before .before .before .before .before .before .before .before .before .before .before .before .before .args .s .now) (meaningOfNode y) (y .two) 0)) (c .before .before .before .before .before .before .before .before .before .before .before .before .before .before .before .args .q .now) (c .before .before .before .before .before .before .before .before .before .before .before .before .before .before .before .args .p) _ _ (sink (c .before .before .before .before .before .before .before .before .before .before .before .before .before .before .before .args .k) (c .before .before .before .before .before .before .before .before .before .before .before .before .before .before .before .args .out .now)) (c .before .before .before .before .before .before .before .before .before .before .before .if1 .left) (c .before .before .before .before .before .before .before .before .before .before .node-before .ensures) (c .before .before .before .before .before .before .before .before .emit-captured .ensures) (captured-row (c .before .before .before .before .before .before .before .before .before .before .before .before .before .before .before .args .s .now) (c .before .before .before .before .before .before .before .before .before .before .before .before .before .before .before .args .r) (c .before .before .before .before .before .before .before .before .before .before .before .before .before .before .before .args .q .now) _ _ _ (c .before .before .before .before .before .captured-at .ensures) (c .before .before .before .before .code-of .ensures)) (c .before .before .emit-words .ensures)
+emit-captured-returns-2 t c = nodes-last (λ y. eight (c .before .before .before .before .before .before .before .before .before .before .before .before .before .before .before .args .r ∷ codeOf (c .before .before .before .before .before .before .before .before .before .before .before .before .before .before .before .args .s .now) (meaningOfNode y) (y .two) 0)) (c .before .before .before .before .before .before .before .before .before .before .before .before .before .before .before .args .q .now) (c .before .before .before .before .before .before .before .before .before .before .before .before .before .before .before .args .p) _ _ (sink (c .before .before .before .before .before .before .before .before .before .before .before .before .before .before .before .args .k) (c .before .before .before .before .before .before .before .before .before .before .before .before .before .before .before .args .out .now)) (c .before .before .before .before .before .before .before .before .before .before .before .if1 .left) (c .before .before .before .before .before .before .before .before .before .before .node-before .ensures) (c .before .before .before .before .before .before .before .before .emit-captured .ensures) (captured-row (c .before .before .before .before .before .before .before .before .before .before .before .before .before .before .before .args .s .now) (c .before .before .before .before .before .before .before .before .before .before .before .before .before .before .before .args .r) (c .before .before .before .before .before .before .before .before .before .before .before .before .before .before .before .args .q .now) _ _ _ (c .before .before .before .before .before .captured-at .ensures) (c .before .before .before .before .code-of .ensures)) (c .before .before .emit-decl .ensures)
 
 pub +emit-captured-spec : {M : Type 1} → statement M
 +emit-captured-spec = close μ-emit-captured λ t. emit-captured-lts.spec (emit-captured-claims t)
@@ -75,6 +75,6 @@ pub +emit-captured-spec : {M : Type 1} → statement M
     (emit-captured-emit-captured-requires t)
     (emit-captured-captured-at-requires t)
     (emit-captured-code-of-requires t)
-    (emit-captured-emit-words-requires t)
+    (emit-captured-emit-decl-requires t)
     (emit-captured-same-length t)
     (emit-captured-returns-2 t)

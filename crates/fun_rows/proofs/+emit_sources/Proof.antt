@@ -6,7 +6,7 @@ use Rattle.store.specs.Stored.{storeOf}
 use Rattle.machine.specs.Reads.{meaningOfNode}
 use Rattle.machine.specs.Machine.{seenIn}
 use Rattle.definition.specs.Answer.{eight}
-use Rattle.fun_rows.proofs.ListLaws.{source-row, nodes-none, nodes-last}
+use Rattle.fun_rows.proofs.ListLaws.{captured-declared, source-row, nodes-none, nodes-last}
 use Prim.Native.Nat.{ℕ, _<_}
 use borrow.Fn.Kinds.{In}
 use borrow.Fn.PlainCycle.{Measures, is, falls, and}
@@ -14,7 +14,7 @@ use Rattle.fun_rows.proofs.emit_sources.Reads as emit-sources
 use Rattle.fun_rows.proofs.emit_sources.Kinds as emit-sources-kinds
 use Rattle.fun_rows.proofs.+emit_sources.Lts-emit_sources as emit-sources-lts
 use Rattle.fun_rows.proofs.captured_at.Reads as captured-at-reads
-use Rattle.fun_rows.proofs.emit_words.Reads as emit-words-reads
+use Rattle.fun_rows.proofs.emit_decl.Reads as emit-decl-reads
 use Rattle.store.proofs.nodes.node_before.Reads as node-before-reads
 use Rattle.walk.proofs.code.seen_in.Reads as seen-in-reads
 use Rattle.fun_rows.proofs.+emit_sources.{statement}
@@ -37,7 +37,7 @@ emit-sources-below t =
 
 abbrev emit-sources-claims : ℕ → emit-sources-lts.Claims
 emit-sources-claims t =
-    (node-before-reads.Asked, node-before-reads.Learnt, emit-sources-below t, emit-sources.Post, captured-at-reads.Asked, captured-at-reads.Learnt, seen-in-reads.Asked, seen-in-reads.Learnt, emit-words-reads.Asked, emit-words-reads.Learnt)
+    (node-before-reads.Asked, node-before-reads.Learnt, emit-sources-below t, emit-sources.Post, captured-at-reads.Asked, captured-at-reads.Learnt, seen-in-reads.Asked, seen-in-reads.Learnt, emit-decl-reads.Asked, emit-decl-reads.Learnt)
 
 emit-sources-returns : (t : ℕ) → emit-sources-lts.Need-returns (emit-sources-claims t) (emit-sources-at t) emit-sources.Post
 emit-sources-returns t c = λ o. nodes-none (λ y. eight (c .before .before .before .before .before .args .r ∷ seenIn (c .before .before .before .before .before .args .s .now) (meaningOfNode y) (y .two) 0 (c .before .before .before .before .before .args .fun .0) (storeOf o (c .before .before .before .before .before .args .t .now) (c .before .before .before .before .before .args .q .now)))) (c .before .before .before .before .before .args .q .now) (c .before .before .before .before .before .args .p) (sink (c .before .before .before .before .before .args .k) (c .before .before .before .before .before .args .out .now)) (c .if1 .taken)
@@ -55,16 +55,16 @@ emit-sources-captured-at-requires : (t : ℕ) → emit-sources-lts.Need-captured
 emit-sources-captured-at-requires t c κs = tt
 
 emit-sources-seen-in-requires : (t : ℕ) → emit-sources-lts.Need-seen-in-requires (emit-sources-claims t) (emit-sources-at t) emit-sources.Post
-emit-sources-seen-in-requires t c κs = c .before .before .before .before .before .before .before .before .before .before .before .pre .1
+emit-sources-seen-in-requires t c κs = (c .before .before .before .before .before .before .before .before .before .before .before .pre .1, captured-declared (c .before .before .before .before .before .before .before .before .before .before .before .args .q .now) _ _ (c .captured-at .ensures))
 
-emit-sources-emit-words-requires : (t : ℕ) → emit-sources-lts.Need-emit-words-requires (emit-sources-claims t) (emit-sources-at t) emit-sources.Post
-emit-sources-emit-words-requires t c κs = tt
+emit-sources-emit-decl-requires : (t : ℕ) → emit-sources-lts.Need-emit-decl-requires (emit-sources-claims t) (emit-sources-at t) emit-sources.Post
+emit-sources-emit-decl-requires t c κs = tt
 
 emit-sources-same-length : (t : ℕ) → emit-sources-lts.Need-same-length (emit-sources-claims t) (emit-sources-at t) emit-sources.Post
 emit-sources-same-length t c = search needs
 
 emit-sources-returns-2 : (t : ℕ) → emit-sources-lts.Need-returns-2 (emit-sources-claims t) (emit-sources-at t) emit-sources.Post
-emit-sources-returns-2 t c = λ o. nodes-last (λ y. eight (c .before .before .before .before .before .before .before .before .before .before .before .before .before .before .before .before .args .r ∷ seenIn (c .before .before .before .before .before .before .before .before .before .before .before .before .before .before .before .before .args .s .now) (meaningOfNode y) (y .two) 0 (c .before .before .before .before .before .before .before .before .before .before .before .before .before .before .before .before .args .fun .0) (storeOf o (c .before .before .before .before .before .before .before .before .before .before .before .before .before .before .before .before .args .t .now) (c .before .before .before .before .before .before .before .before .before .before .before .before .before .before .before .before .args .q .now)))) (c .before .before .before .before .before .before .before .before .before .before .before .before .before .before .before .before .args .q .now) (c .before .before .before .before .before .before .before .before .before .before .before .before .before .before .before .before .args .p) _ _ (sink (c .before .before .before .before .before .before .before .before .before .before .before .before .before .before .before .before .args .k) (c .before .before .before .before .before .before .before .before .before .before .before .before .before .before .before .before .args .out .now)) (c .before .before .before .before .before .before .before .before .before .before .before .if1 .left) (c .before .before .before .before .before .before .before .before .before .before .node-before .ensures) (c .before .before .before .before .before .before .before .before .emit-sources .ensures o) (source-row (c .before .before .before .before .before .before .before .before .before .before .before .before .before .before .before .before .args .s .now) (c .before .before .before .before .before .before .before .before .before .before .before .before .before .before .before .before .args .r) (c .before .before .before .before .before .before .before .before .before .before .before .before .before .before .before .before .args .fun .0) (storeOf o (c .before .before .before .before .before .before .before .before .before .before .before .before .before .before .before .before .args .t .now) (c .before .before .before .before .before .before .before .before .before .before .before .before .before .before .before .before .args .q .now)) (c .before .before .before .before .before .before .before .before .before .before .before .before .before .before .before .before .args .q .now) _ _ _ (c .before .before .before .before .before .captured-at .ensures) (c .before .before .before .before .seen-in .ensures o)) (c .before .before .emit-words .ensures)
+emit-sources-returns-2 t c = λ o. nodes-last (λ y. eight (c .before .before .before .before .before .before .before .before .before .before .before .before .before .before .before .before .args .r ∷ seenIn (c .before .before .before .before .before .before .before .before .before .before .before .before .before .before .before .before .args .s .now) (meaningOfNode y) (y .two) 0 (c .before .before .before .before .before .before .before .before .before .before .before .before .before .before .before .before .args .fun .0) (storeOf o (c .before .before .before .before .before .before .before .before .before .before .before .before .before .before .before .before .args .t .now) (c .before .before .before .before .before .before .before .before .before .before .before .before .before .before .before .before .args .q .now)))) (c .before .before .before .before .before .before .before .before .before .before .before .before .before .before .before .before .args .q .now) (c .before .before .before .before .before .before .before .before .before .before .before .before .before .before .before .before .args .p) _ _ (sink (c .before .before .before .before .before .before .before .before .before .before .before .before .before .before .before .before .args .k) (c .before .before .before .before .before .before .before .before .before .before .before .before .before .before .before .before .args .out .now)) (c .before .before .before .before .before .before .before .before .before .before .before .if1 .left) (c .before .before .before .before .before .before .before .before .before .before .node-before .ensures) (c .before .before .before .before .before .before .before .before .emit-sources .ensures o) (source-row (c .before .before .before .before .before .before .before .before .before .before .before .before .before .before .before .before .args .s .now) (c .before .before .before .before .before .before .before .before .before .before .before .before .before .before .before .before .args .r) (c .before .before .before .before .before .before .before .before .before .before .before .before .before .before .before .before .args .fun .0) (storeOf o (c .before .before .before .before .before .before .before .before .before .before .before .before .before .before .before .before .args .t .now) (c .before .before .before .before .before .before .before .before .before .before .before .before .before .before .before .before .args .q .now)) (c .before .before .before .before .before .before .before .before .before .before .before .before .before .before .before .before .args .q .now) _ _ _ (c .before .before .before .before .before .captured-at .ensures) (c .before .before .before .before .seen-in .ensures o)) (c .before .before .emit-decl .ensures)
 
 pub +emit-sources-spec : {M : Type 1} → statement M
 +emit-sources-spec = close μ-emit-sources λ t. emit-sources-lts.spec (emit-sources-claims t)
@@ -76,6 +76,6 @@ pub +emit-sources-spec : {M : Type 1} → statement M
     (emit-sources-emit-sources-requires t)
     (emit-sources-captured-at-requires t)
     (emit-sources-seen-in-requires t)
-    (emit-sources-emit-words-requires t)
+    (emit-sources-emit-decl-requires t)
     (emit-sources-same-length t)
     (emit-sources-returns-2 t)

@@ -29,14 +29,14 @@ add-j c = omega arith
 hands-on-requires : tie.Need-hands-on-requires Inv-loop μ-loop
 hands-on-requires c κs = (c .before .before .before .before .before .before .before .before .before .pre .0, c .before .before .before .before .before .before .before .before .before .pre .1)
 
-emit-words-requires : tie.Need-emit-words-requires Inv-loop μ-loop
-emit-words-requires c κs = tt
+emit-decl-requires : tie.Need-emit-decl-requires Inv-loop μ-loop
+emit-decl-requires c κs = tt
 
 loop-less : tie.Need-loop-less Inv-loop μ-loop
 loop-less c = omega (arith, c .before .before .before .before .before .before .loop-test .taken)
 
 loop-again : tie.Need-loop-again Inv-loop μ-loop
-loop-again c = (omega (arith, c .before .before .before .before .before .before .loop-test .taken), omega (arith, c .before .before .emit-words .kept, c .before .before .before .before .before .before .before .loop .inv .1), emit-in (escapes (c .before .before .before .before .before .before .before .before .before .before .before .before .before .before .before .args .s .now) (c .before .before .before .before .before .before .before .before .before .before .before .before .before .before .before .args .t .now) (c .before .before .before .before .before .before .before .before .before .before .before .before .before .before .before .args .q .now) (c .before .before .before .before .before .before .before .before .before .before .before .before .before .before .before .args .f .0)) _ (slotRow (c .before .before .before .before .before .before .before .before .before .before .before .before .before .before .before .args .f .0)) (c .before .before .before .before .before .before .before .loop .j) (sink (c .before .before .before .before .before .before .before .loop .n) (c .before .before .before .before .before .before .before .loop .out)) (c .before .before .before .before .before .before .loop-test .taken) (sym (c .before .before .before .before .if1 .taken) ∙ c .before .before .before .before .before .hands-on .ensures) (c .before .before .emit-words .ensures) ∙ c .before .before .before .before .before .before .before .loop .inv .2)
+loop-again c = (omega (arith, c .before .before .before .before .before .before .loop-test .taken), omega (arith, c .before .before .emit-decl .kept, c .before .before .before .before .before .before .before .loop .inv .1), emit-in (escapes (c .before .before .before .before .before .before .before .before .before .before .before .before .before .before .before .args .s .now) (c .before .before .before .before .before .before .before .before .before .before .before .before .before .before .before .args .t .now) (c .before .before .before .before .before .before .before .before .before .before .before .before .before .before .before .args .q .now) (c .before .before .before .before .before .before .before .before .before .before .before .before .before .before .before .args .f .0)) _ (slotRow (c .before .before .before .before .before .before .before .before .before .before .before .before .before .before .before .args .f .0)) (c .before .before .before .before .before .before .before .loop .j) (sink (c .before .before .before .before .before .before .before .loop .n) (c .before .before .before .before .before .before .before .loop .out)) (c .before .before .before .before .before .before .loop-test .taken) (sym (c .before .before .before .before .if1 .taken) ∙ c .before .before .before .before .before .hands-on .ensures) (c .before .before .emit-decl .ensures) ∙ c .before .before .before .before .before .before .before .loop .inv .2)
 
 loop-less-2 : tie.Need-loop-less-2 Inv-loop μ-loop
 loop-less-2 c = omega (arith, c .before .before .loop-test .taken)
@@ -60,7 +60,7 @@ emit-escapes-spec =
     loop-holds
     add-j
     hands-on-requires
-    emit-words-requires
+    emit-decl-requires
     loop-less
     loop-again
     loop-less-2

@@ -1,6 +1,6 @@
 use Rattle.symbols.specs.OpenScopes.{scopesOf}
 use Rattle.machine.specs.Machine.{newMeaning}
-use Rattle.walk.proofs.DeclareLaws.{declare-no, declare-yes}
+use Rattle.walk.proofs.DeclareLaws.{new-declared, declare-no, declare-yes}
 use Rattle.walk.proofs.StepLaws.{idle}
 use Rattle.walk.specs.WalkState.{stateOf}
 use Rattle.definition.specs.Walk.{declare}
@@ -34,7 +34,7 @@ declared-by-requires : tie.Need-declared-by-requires
 declared-by-requires c κs = search needs
 
 store-let-requires : tie.Need-store-let-requires
-store-let-requires c κs = search needs
+store-let-requires c κs = (c .before .before .before .before .before .before .before .before .before .before .before .before .before .pre, new-declared (c .before .before .before .before .before .before .before .before .before .before .before .before .before .args .s .now) (c .before .before .before .before .before .before .before .before .before .before .before .before .before .args .r) (scopesOf (c .before .before .before .before .before .before .before .before .before .before .before .before .before .args .w .env) (c .before .before .before .before .before .before .before .before .before .before .before .before .before .args .v .now)) _ (c .before .declared-by .ensures (c .before .before .before .before .before .before .before .before .before .before .before .before .before .args .v .now)))
 
 define-requires : tie.Need-define-requires
 define-requires c κs = search needs

@@ -26,14 +26,14 @@ refuse-requires c κs = search needs
 returns-2 : tie.Need-returns-2
 returns-2 c = λ O q. instance-no O (c .before .before .before .before .before .before .before .before .before .before .before .args .s .now) (c .before .before .before .before .before .before .before .before .before .before .before .args .r) (stateOf (c .before .before .before .before .before .before .before .before .before .before .before .args .w) (c .before .before .before .before .before .before .before .before .before .before .before .args .v .now) (c .before .before .before .before .before .before .before .before .before .before .before .args .t .now) q) (c .before .before .before .before .before .before .if1 .left) (c .before .before .before .before .before .before .before .before .before .before .before .pre) _ _ (c .before .before .before .before .before .word .ensures) (c .before .before .before .class-number .ensures ∙ ap classNumber (c .before .before .before .before .lookup .ensures .0)) (c .before .if2 .taken) (c .refuse .ensures (c .before .before .before .before .before .before .before .before .before .before .before .args .v .now) (c .before .before .before .before .before .before .before .before .before .before .before .args .t .now) q)
 
-write-row-requires : tie.Need-write-row-requires
-write-row-requires c κs = search needs
+write-decl-requires : tie.Need-write-decl-requires
+write-decl-requires c κs = search needs
 
 same-length : tie.Need-same-length
 same-length c = search needs
 
 returns-3 : tie.Need-returns-3
-returns-3 c = λ O q. instance-yes O (c .before .before .before .before .before .before .before .before .before .before .before .before .before .before .args .s .now) (c .before .before .before .before .before .before .before .before .before .before .before .before .before .before .args .r) (stateOf (c .before .before .before .before .before .before .before .before .before .before .before .before .before .before .args .w) (c .before .before .before .before .before .before .before .before .before .before .before .before .before .before .args .v .now) (c .before .before .before .before .before .before .before .before .before .before .before .before .before .before .args .t .now) q) (c .before .before .before .before .before .before .before .before .before .if1 .left) (c .before .before .before .before .before .before .before .before .before .before .before .before .before .before .pre) _ _ (c .before .before .before .before .before .before .before .before .word .ensures) (c .before .before .before .before .before .before .class-number .ensures ∙ ap classNumber (c .before .before .before .before .before .before .before .lookup .ensures .0)) _ (c .before .before .before .before .if2 .left) (c .before .before .write-row .ensures _ q)
+returns-3 c = λ O q. instance-yes O (c .before .before .before .before .before .before .before .before .before .before .before .before .before .before .args .s .now) (c .before .before .before .before .before .before .before .before .before .before .before .before .before .before .args .r) (stateOf (c .before .before .before .before .before .before .before .before .before .before .before .before .before .before .args .w) (c .before .before .before .before .before .before .before .before .before .before .before .before .before .before .args .v .now) (c .before .before .before .before .before .before .before .before .before .before .before .before .before .before .args .t .now) q) (c .before .before .before .before .before .before .before .before .before .if1 .left) (c .before .before .before .before .before .before .before .before .before .before .before .before .before .before .pre) _ _ (c .before .before .before .before .before .before .before .before .word .ensures) (c .before .before .before .before .before .before .class-number .ensures ∙ ap classNumber (c .before .before .before .before .before .before .before .lookup .ensures .0)) _ (c .before .before .before .before .if2 .left) (c .before .before .write-decl .ensures _ q)
 
 pub check-instanceof-spec : {M : Type 1} → statement M
 check-instanceof-spec =
@@ -45,6 +45,6 @@ check-instanceof-spec =
     class-number-requires
     refuse-requires
     returns-2
-    write-row-requires
+    write-decl-requires
     same-length
     returns-3)

@@ -2,6 +2,7 @@ use borrow.Author.Tests.{not-true, not-false}
 use mathlib.Core.Path.{sym, _∙_}
 use Rattle.definition.specs.Walk.{visit}
 use Rattle.walk.specs.WalkState.{stateOf}
+use Rattle.walk.proofs.CodeLaws.{told-four}
 use Rattle.walk.proofs.VisitLaws.{ident-yes, ident-no}
 use Rattle.walk.proofs.StepLaws.{idle}
 use borrow.Author.Needs.{needs}
@@ -33,10 +34,10 @@ capture-requires : tie.Need-capture-requires
 capture-requires c κs = search needs
 
 seen-in-requires : tie.Need-seen-in-requires
-seen-in-requires c κs = search needs
+seen-in-requires c κs = (c .before .before .before .before .before .before .before .before .before .before .before .before .before .before .before .before .before .before .before .before .before .before .pre .0, sym (c .before .before .before .before .before .before .before .before .before .before .before .is-declared .ensures) ∙ not-false (c .before .before .before .before .before .before .before .before .before .before .before .is-declared .result) (c .before .before .before .before .before .before .before .before .before .before .if2 .left))
 
-write-row-requires : tie.Need-write-row-requires
-write-row-requires c κs = search needs
+write-decl-requires : tie.Need-write-decl-requires
+write-decl-requires c κs = search needs
 
 same-length : tie.Need-same-length
 same-length c = search needs
@@ -45,7 +46,7 @@ same-length-2 : tie.Need-same-length-2
 same-length-2 c = search needs
 
 returns-3 : tie.Need-returns-3
-returns-3 c = λ O. ident-yes O (c .before .before .before .before .before .before .before .before .before .before .before .before .before .before .before .before .before .before .before .before .before .before .before .before .before .before .before .args .s .now) (c .before .before .before .before .before .before .before .before .before .before .before .before .before .before .before .before .before .before .before .before .before .before .before .before .before .before .before .args .r) (stateOf (c .before .before .before .before .before .before .before .before .before .before .before .before .before .before .before .before .before .before .before .before .before .before .before .before .before .before .before .args .w) (c .before .before .before .before .before .before .before .before .before .before .before .before .before .before .before .before .before .before .before .before .before .before .before .before .before .before .before .args .v .now) (c .before .before .before .before .before .before .before .before .before .before .before .before .before .before .before .before .before .before .before .before .before .before .before .before .before .before .before .args .t .now) (c .before .before .before .before .before .before .before .before .before .before .before .before .before .before .before .before .before .before .before .before .before .before .before .before .before .before .before .args .q .now)) (c .before .before .before .before .before .before .before .before .before .before .before .before .before .before .before .before .before .before .before .before .before .if1 .left) (c .before .before .before .before .before .before .before .before .before .before .before .before .before .before .before .before .before .before .before .before .before .before .before .before .before .before .before .pre .1) _ _ (c .before .before .before .before .before .before .before .before .before .before .before .before .before .before .before .before .before .before .word .ensures) (c .before .before .before .before .before .before .before .before .before .before .before .before .before .before .before .before .before .lookup .ensures .0) _ _ _ _ _ (c .before .before .before .before .before .before .before .before .before .before .before .before .before .before .before .before .before .lookup .ensures .1) (c .before .before .before .before .before .before .before .before .before .before .before .before .before .before .before .before .before .lookup .ensures .2) (sym (c .before .before .before .before .before .before .before .before .before .before .before .before .before .before .before .before .is-declared .ensures) ∙ not-false (c .before .before .before .before .before .before .before .before .before .before .before .before .before .before .before .before .is-declared .result) (c .before .before .before .before .before .before .before .before .before .before .before .before .before .before .before .if2 .left)) (c .before .before .before .before .before .before .before .before .before .before .before .capture .ensures) (c .before .before .before .before .seen-in .ensures _) (c .before .before .write-row .ensures _ _)
+returns-3 c = λ O. ident-yes O (c .before .before .before .before .before .before .before .before .before .before .before .before .before .before .before .before .before .before .before .before .before .before .before .before .before .before .before .args .s .now) (c .before .before .before .before .before .before .before .before .before .before .before .before .before .before .before .before .before .before .before .before .before .before .before .before .before .before .before .args .r) (stateOf (c .before .before .before .before .before .before .before .before .before .before .before .before .before .before .before .before .before .before .before .before .before .before .before .before .before .before .before .args .w) (c .before .before .before .before .before .before .before .before .before .before .before .before .before .before .before .before .before .before .before .before .before .before .before .before .before .before .before .args .v .now) (c .before .before .before .before .before .before .before .before .before .before .before .before .before .before .before .before .before .before .before .before .before .before .before .before .before .before .before .args .t .now) (c .before .before .before .before .before .before .before .before .before .before .before .before .before .before .before .before .before .before .before .before .before .before .before .before .before .before .before .args .q .now)) (c .before .before .before .before .before .before .before .before .before .before .before .before .before .before .before .before .before .before .before .before .before .if1 .left) (c .before .before .before .before .before .before .before .before .before .before .before .before .before .before .before .before .before .before .before .before .before .before .before .before .before .before .before .pre .1) _ _ (c .before .before .before .before .before .before .before .before .before .before .before .before .before .before .before .before .before .before .word .ensures) (c .before .before .before .before .before .before .before .before .before .before .before .before .before .before .before .before .before .lookup .ensures .0) _ _ _ _ _ (c .before .before .before .before .before .before .before .before .before .before .before .before .before .before .before .before .before .lookup .ensures .1) (c .before .before .before .before .before .before .before .before .before .before .before .before .before .before .before .before .before .lookup .ensures .2) (sym (c .before .before .before .before .before .before .before .before .before .before .before .before .before .before .before .before .is-declared .ensures) ∙ not-false (c .before .before .before .before .before .before .before .before .before .before .before .before .before .before .before .before .is-declared .result) (c .before .before .before .before .before .before .before .before .before .before .before .before .before .before .before .if2 .left)) (c .before .before .before .before .before .before .before .before .before .before .before .capture .ensures) (told-four (c .before .before .before .before .seen-in .result) ∙ c .before .before .before .before .seen-in .ensures _) (c .before .before .write-decl .ensures _ _)
 
 pub resolve-ident-spec : {M : Type 1} → statement M
 resolve-ident-spec =
@@ -60,7 +61,7 @@ resolve-ident-spec =
     returns-2
     capture-requires
     seen-in-requires
-    write-row-requires
+    write-decl-requires
     same-length
     same-length-2
     returns-3)
