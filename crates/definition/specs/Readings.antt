@@ -1,9 +1,10 @@
 -- Further samples: points of document 01 that are easily read otherwise, each settled against the Rust.
 use mathlib.Core.Path.{_≡_, refl}
 use mathlib.Core.List.{List, [], _∷_, _++_, map}
-use Prim.Native.Nat.{ℕ}
+use Prim.Native.Nat.{ℕ, zero, suc, _-_}
 use lib.ListN.{replicate}
 use Rattle.definition.specs.Basics.{concatMap}
+use Rattle.definition.specs.Sheet.{Sheet}
 use Rattle.definition.specs.Bytes.{bytes}
 use Rattle.definition.specs.Answer.{eight}
 use Rattle.definition.specs.Outcome.{Outcome, outcome, buffer}
@@ -354,83 +355,32 @@ import-twice = record {
   rows = [];
 }
 
--- blocks to depth 65: 4
+-- blocks in each other from row r on, n more below the first
+abbrev blocks : ℕ → ℕ → Sheet
+blocks r zero = 25 ∷ 0 ∷ 0 ∷ 0 ∷ 1 ∷ r ∷ 0 ∷ 0 ∷ []
+blocks r (suc n) = 25 ∷ 0 ∷ suc r ∷ 0 ∷ 1 ∷ r ∷ 0 ∷ 0 ∷ blocks (suc r) n
+
+-- a unit function whose blocks lead down to row n, which has depth n
+abbrev nested : ℕ → Sheet
+nested n =
+    0 ∷ 0 ∷ 1 ∷ 0 ∷ 0 ∷ 0 ∷ 0 ∷ 2 ∷
+    2 ∷ 0 ∷ 2 ∷ 0 ∷ 0 ∷ 0 ∷ 0 ∷ 0 ∷
+    6 ∷ 0 ∷ 3 ∷ 0 ∷ 1 ∷ 2 ∷ 0 ∷ 1 ∷ blocks 3 (n - 3)
+
+-- depths 63 and 64 are accepted
+abbrev depth-63 : Sample
+depth-63 = record { sheet = nested 63; head = 0 ∷ 0 ∷ 0 ∷ 0 ∷ 0 ∷ 1 ∷ []; rows = (2 ∷ 20 ∷ []) ∷ [] }
+
+abbrev depth-64 : Sample
+depth-64 = record { sheet = nested 64; head = 0 ∷ 0 ∷ 0 ∷ 0 ∷ 0 ∷ 1 ∷ []; rows = (2 ∷ 20 ∷ []) ∷ [] }
+
+-- depth 65 is refused: 4
 abbrev depth-65 : Sample
-depth-65 = record {
-  sheet =
-      0 ∷ 0 ∷ 1 ∷ 0 ∷ 0 ∷ 0 ∷ 0 ∷ 2 ∷
-      2 ∷ 0 ∷ 2 ∷ 0 ∷ 0 ∷ 0 ∷ 0 ∷ 0 ∷
-      6 ∷ 0 ∷ 3 ∷ 0 ∷ 1 ∷ 2 ∷ 0 ∷ 1 ∷
-      25 ∷ 0 ∷ 4 ∷ 0 ∷ 1 ∷ 3 ∷ 0 ∷ 0 ∷
-      25 ∷ 0 ∷ 5 ∷ 0 ∷ 1 ∷ 4 ∷ 0 ∷ 0 ∷
-      25 ∷ 0 ∷ 6 ∷ 0 ∷ 1 ∷ 5 ∷ 0 ∷ 0 ∷
-      25 ∷ 0 ∷ 7 ∷ 0 ∷ 1 ∷ 6 ∷ 0 ∷ 0 ∷
-      25 ∷ 0 ∷ 8 ∷ 0 ∷ 1 ∷ 7 ∷ 0 ∷ 0 ∷
-      25 ∷ 0 ∷ 9 ∷ 0 ∷ 1 ∷ 8 ∷ 0 ∷ 0 ∷
-      25 ∷ 0 ∷ 10 ∷ 0 ∷ 1 ∷ 9 ∷ 0 ∷ 0 ∷
-      25 ∷ 0 ∷ 11 ∷ 0 ∷ 1 ∷ 10 ∷ 0 ∷ 0 ∷
-      25 ∷ 0 ∷ 12 ∷ 0 ∷ 1 ∷ 11 ∷ 0 ∷ 0 ∷
-      25 ∷ 0 ∷ 13 ∷ 0 ∷ 1 ∷ 12 ∷ 0 ∷ 0 ∷
-      25 ∷ 0 ∷ 14 ∷ 0 ∷ 1 ∷ 13 ∷ 0 ∷ 0 ∷
-      25 ∷ 0 ∷ 15 ∷ 0 ∷ 1 ∷ 14 ∷ 0 ∷ 0 ∷
-      25 ∷ 0 ∷ 16 ∷ 0 ∷ 1 ∷ 15 ∷ 0 ∷ 0 ∷
-      25 ∷ 0 ∷ 17 ∷ 0 ∷ 1 ∷ 16 ∷ 0 ∷ 0 ∷
-      25 ∷ 0 ∷ 18 ∷ 0 ∷ 1 ∷ 17 ∷ 0 ∷ 0 ∷
-      25 ∷ 0 ∷ 19 ∷ 0 ∷ 1 ∷ 18 ∷ 0 ∷ 0 ∷
-      25 ∷ 0 ∷ 20 ∷ 0 ∷ 1 ∷ 19 ∷ 0 ∷ 0 ∷
-      25 ∷ 0 ∷ 21 ∷ 0 ∷ 1 ∷ 20 ∷ 0 ∷ 0 ∷
-      25 ∷ 0 ∷ 22 ∷ 0 ∷ 1 ∷ 21 ∷ 0 ∷ 0 ∷
-      25 ∷ 0 ∷ 23 ∷ 0 ∷ 1 ∷ 22 ∷ 0 ∷ 0 ∷
-      25 ∷ 0 ∷ 24 ∷ 0 ∷ 1 ∷ 23 ∷ 0 ∷ 0 ∷
-      25 ∷ 0 ∷ 25 ∷ 0 ∷ 1 ∷ 24 ∷ 0 ∷ 0 ∷
-      25 ∷ 0 ∷ 26 ∷ 0 ∷ 1 ∷ 25 ∷ 0 ∷ 0 ∷
-      25 ∷ 0 ∷ 27 ∷ 0 ∷ 1 ∷ 26 ∷ 0 ∷ 0 ∷
-      25 ∷ 0 ∷ 28 ∷ 0 ∷ 1 ∷ 27 ∷ 0 ∷ 0 ∷
-      25 ∷ 0 ∷ 29 ∷ 0 ∷ 1 ∷ 28 ∷ 0 ∷ 0 ∷
-      25 ∷ 0 ∷ 30 ∷ 0 ∷ 1 ∷ 29 ∷ 0 ∷ 0 ∷
-      25 ∷ 0 ∷ 31 ∷ 0 ∷ 1 ∷ 30 ∷ 0 ∷ 0 ∷
-      25 ∷ 0 ∷ 32 ∷ 0 ∷ 1 ∷ 31 ∷ 0 ∷ 0 ∷
-      25 ∷ 0 ∷ 33 ∷ 0 ∷ 1 ∷ 32 ∷ 0 ∷ 0 ∷
-      25 ∷ 0 ∷ 34 ∷ 0 ∷ 1 ∷ 33 ∷ 0 ∷ 0 ∷
-      25 ∷ 0 ∷ 35 ∷ 0 ∷ 1 ∷ 34 ∷ 0 ∷ 0 ∷
-      25 ∷ 0 ∷ 36 ∷ 0 ∷ 1 ∷ 35 ∷ 0 ∷ 0 ∷
-      25 ∷ 0 ∷ 37 ∷ 0 ∷ 1 ∷ 36 ∷ 0 ∷ 0 ∷
-      25 ∷ 0 ∷ 38 ∷ 0 ∷ 1 ∷ 37 ∷ 0 ∷ 0 ∷
-      25 ∷ 0 ∷ 39 ∷ 0 ∷ 1 ∷ 38 ∷ 0 ∷ 0 ∷
-      25 ∷ 0 ∷ 40 ∷ 0 ∷ 1 ∷ 39 ∷ 0 ∷ 0 ∷
-      25 ∷ 0 ∷ 41 ∷ 0 ∷ 1 ∷ 40 ∷ 0 ∷ 0 ∷
-      25 ∷ 0 ∷ 42 ∷ 0 ∷ 1 ∷ 41 ∷ 0 ∷ 0 ∷
-      25 ∷ 0 ∷ 43 ∷ 0 ∷ 1 ∷ 42 ∷ 0 ∷ 0 ∷
-      25 ∷ 0 ∷ 44 ∷ 0 ∷ 1 ∷ 43 ∷ 0 ∷ 0 ∷
-      25 ∷ 0 ∷ 45 ∷ 0 ∷ 1 ∷ 44 ∷ 0 ∷ 0 ∷
-      25 ∷ 0 ∷ 46 ∷ 0 ∷ 1 ∷ 45 ∷ 0 ∷ 0 ∷
-      25 ∷ 0 ∷ 47 ∷ 0 ∷ 1 ∷ 46 ∷ 0 ∷ 0 ∷
-      25 ∷ 0 ∷ 48 ∷ 0 ∷ 1 ∷ 47 ∷ 0 ∷ 0 ∷
-      25 ∷ 0 ∷ 49 ∷ 0 ∷ 1 ∷ 48 ∷ 0 ∷ 0 ∷
-      25 ∷ 0 ∷ 50 ∷ 0 ∷ 1 ∷ 49 ∷ 0 ∷ 0 ∷
-      25 ∷ 0 ∷ 51 ∷ 0 ∷ 1 ∷ 50 ∷ 0 ∷ 0 ∷
-      25 ∷ 0 ∷ 52 ∷ 0 ∷ 1 ∷ 51 ∷ 0 ∷ 0 ∷
-      25 ∷ 0 ∷ 53 ∷ 0 ∷ 1 ∷ 52 ∷ 0 ∷ 0 ∷
-      25 ∷ 0 ∷ 54 ∷ 0 ∷ 1 ∷ 53 ∷ 0 ∷ 0 ∷
-      25 ∷ 0 ∷ 55 ∷ 0 ∷ 1 ∷ 54 ∷ 0 ∷ 0 ∷
-      25 ∷ 0 ∷ 56 ∷ 0 ∷ 1 ∷ 55 ∷ 0 ∷ 0 ∷
-      25 ∷ 0 ∷ 57 ∷ 0 ∷ 1 ∷ 56 ∷ 0 ∷ 0 ∷
-      25 ∷ 0 ∷ 58 ∷ 0 ∷ 1 ∷ 57 ∷ 0 ∷ 0 ∷
-      25 ∷ 0 ∷ 59 ∷ 0 ∷ 1 ∷ 58 ∷ 0 ∷ 0 ∷
-      25 ∷ 0 ∷ 60 ∷ 0 ∷ 1 ∷ 59 ∷ 0 ∷ 0 ∷
-      25 ∷ 0 ∷ 61 ∷ 0 ∷ 1 ∷ 60 ∷ 0 ∷ 0 ∷
-      25 ∷ 0 ∷ 62 ∷ 0 ∷ 1 ∷ 61 ∷ 0 ∷ 0 ∷
-      25 ∷ 0 ∷ 63 ∷ 0 ∷ 1 ∷ 62 ∷ 0 ∷ 0 ∷
-      25 ∷ 0 ∷ 64 ∷ 0 ∷ 1 ∷ 63 ∷ 0 ∷ 0 ∷
-      25 ∷ 0 ∷ 65 ∷ 0 ∷ 1 ∷ 64 ∷ 0 ∷ 0 ∷
-      25 ∷ 0 ∷ 0 ∷ 0 ∷ 1 ∷ 65 ∷ 0 ∷ 0 ∷ [];
-  head = 4 ∷ [];
-  rows = [];
-}
+depth-65 = record { sheet = nested 65; head = 4 ∷ []; rows = [] }
 
 abbrev pub readings : List Sample
 readings =
-    branch-let ∷ both-branches ∷ shadowed ∷ first-use ∷ walk-order ∷ immutable ∷ itself ∷ hoisted ∷ main-unit ∷ inherited-init ∷ core-parent ∷ core-method ∷ core-init ∷ import-twice ∷ depth-65 ∷ []
+    branch-let ∷ both-branches ∷ shadowed ∷ first-use ∷ walk-order ∷ immutable ∷ itself ∷ hoisted ∷ main-unit ∷ inherited-init ∷ core-parent ∷ core-method ∷ core-init ∷ import-twice ∷ depth-63 ∷ depth-64 ∷ depth-65 ∷ []
 
 pub results : map printedOf readings ≡ map expected readings
 results = refl
@@ -440,7 +390,7 @@ abbrev lending : ℕ → List ℕ
 lending lent = let x : Outcome = outcome (s1 .sheet) (bytes "f\np\n") lent in x .number ∷ buffer lent x
 
 -- its four answer rows fill 32 words; zeros follow to the end; one word fewer is refused as 22
-pub lent-enough : map lending (32 ∷ 35 ∷ []) ≡ (0 ∷ concatMap eight (s1 .rows)) ∷ (0 ∷ concatMap eight (s1 .rows) ++ 0 ∷ 0 ∷ 0 ∷ []) ∷ []
+pub lent-enough : map lending (32 ∷ 33 ∷ []) ≡ (0 ∷ concatMap eight (s1 .rows)) ∷ (0 ∷ concatMap eight (s1 .rows) ++ 0 ∷ []) ∷ []
 lent-enough = refl
 
 pub lent-short : map lending (0 ∷ 31 ∷ []) ≡ (22 ∷ []) ∷ (22 ∷ replicate 31 0) ∷ []
