@@ -27,7 +27,10 @@ same-length : tie.Need-same-length
 same-length c = search needs
 
 returns : tie.Need-returns
-returns c = let a = c .before .before .before .before .before .args in c .before .before .emit .ensures ∙ ap (λ (ws : List ℕ). emitted (answerRow (a .r) ws) (sink (a .k) (a .out .now))) (four (a .t2) (c .before .before .before .before .before .good .1 .0 .1 .0 .1))
+returns c =
+    let a = c .before .before .before .before .before .args in
+    c .before .before .emit .ensures
+    ∙ ap (λ (ws : List ℕ). emitted (answerRow (a .r) ws) (sink (a .k) (a .out .now))) (four (a .t2) (c .before .before .before .before .before .good .1 .0 .1 .0 .1))
 
 pub emit-words-spec : {M : Type 1} → statement M
 emit-words-spec =

@@ -34,7 +34,11 @@ declared-by-requires : tie.Need-declared-by-requires
 declared-by-requires c κs = search needs
 
 store-let-requires : tie.Need-store-let-requires
-store-let-requires c κs = (c .before .before .before .before .before .before .before .before .before .before .before .before .before .pre, new-declared (c .before .before .before .before .before .before .before .before .before .before .before .before .before .args .s .now) (c .before .before .before .before .before .before .before .before .before .before .before .before .before .args .r) (scopesOf (c .before .before .before .before .before .before .before .before .before .before .before .before .before .args .w .env) (c .before .before .before .before .before .before .before .before .before .before .before .before .before .args .v .now)) _ (c .before .declared-by .ensures (c .before .before .before .before .before .before .before .before .before .before .before .before .before .args .v .now)))
+store-let-requires c κs =
+    let a = c .before .before .before .before .before .before .before .before .before .before .before .before .before .args in (
+      c .before .before .before .before .before .before .before .before .before .before .before .before .before .pre,
+      new-declared (a .s .now) (a .r) (scopesOf (a .w .env) (a .v .now)) _ (c .before .declared-by .ensures (a .v .now)),
+    )
 
 define-requires : tie.Need-define-requires
 define-requires c κs = search needs

@@ -34,7 +34,11 @@ capture-requires : tie.Need-capture-requires
 capture-requires c κs = search needs
 
 seen-in-requires : tie.Need-seen-in-requires
-seen-in-requires c κs = (c .before .before .before .before .before .before .before .before .before .before .before .before .before .before .before .before .before .before .before .before .before .before .pre .0, sym (c .before .before .before .before .before .before .before .before .before .before .before .is-declared .ensures) ∙ not-false (c .before .before .before .before .before .before .before .before .before .before .before .is-declared .result) (c .before .before .before .before .before .before .before .before .before .before .if2 .left))
+seen-in-requires c κs = (
+  c .before .before .before .before .before .before .before .before .before .before .before .before .before .before .before .before .before .before .before .before .before .before .pre .0,
+  sym (c .before .before .before .before .before .before .before .before .before .before .before .is-declared .ensures)
+      ∙ not-false (c .before .before .before .before .before .before .before .before .before .before .before .is-declared .result) (c .before .before .before .before .before .before .before .before .before .before .if2 .left),
+)
 
 write-decl-requires : tie.Need-write-decl-requires
 write-decl-requires c κs = search needs
