@@ -109,7 +109,7 @@ fn push_node(q: &mut [u32], used: u32, before: u32, n: Node) -> u32
 }
 
 // A node appended to the list of word `c` of row `r`, if there is room.
-pub fn append_node(o: Store, t: &mut [u32], q: &mut [u32], r: u32, c: u32, n: Node) -> Store
+fn append_node(o: Store, t: &mut [u32], q: &mut [u32], r: u32, c: u32, n: Node) -> Store
     ensures { λ x. ⌜ storeOf x (now (t .exit)) (now (q .exit)) ≡ appendNode (8 * r + c) (nodeOf n) (storeOf o (now (t .entry)) (now (q .entry))) ⌝ }
 {
     let last = word(t, r, c);
@@ -139,7 +139,7 @@ pub fn append_call(o: Store, q: &mut [u32], n: Node) -> Store
 }
 
 // A node appended to the list of word `c` of row `r`, unless its key is in that list.
-pub fn add_new(o: Store, t: &mut [u32], q: &mut [u32], r: u32, c: u32, n: Node) -> Store
+fn add_new(o: Store, t: &mut [u32], q: &mut [u32], r: u32, c: u32, n: Node) -> Store
     ensures { λ x. ⌜ storeOf x (now (t .exit)) (now (q .exit)) ≡ addNew (8 * r + c) (nodeOf n) (storeOf o (now (t .entry)) (now (q .entry))) ⌝ }
 {
     let last = word(t, r, c);
