@@ -20,7 +20,7 @@ use Rattle.definition.proofs.Closure.Raised.{demand-3-raised}
 
 -- what stands outside a plain sheet
 pub core-fits : OutsideFits core
-core-fits = record { outward = tt; apart = tt; few = omega arith; few-fields = tt; few-methods = tt; methods-apart = tt; functions-some = tt }
+core-fits = record { outward = tt; apart = tt; few = omega arith; few-fields = tt; few-methods = tt; methods-apart = tt }
 
 -- Demand 3, whole: of the words of a sheet, the bytes of its names and the number of words of the lent buffer, where no
 -- question gets a no, the closure claim holds of the answer rows.

@@ -6,7 +6,7 @@
 -- row of this sheet. So names and records here tell its functions and classes 2,048 higher than their numbers: past all rows, since
 -- a sheet has at most 2,048. Where answer rows are made (`raised` in Answer) the sheet's own numbers gain the base, and those of earlier
 -- entries lose the 2,048 again. The core's classes 3 to 102 are below 256 and stay as they are.
-use mathlib.Core.Bool.{Bool, true, false, not}
+use mathlib.Core.Bool.{Bool, true, false}
 use mathlib.Core.List.{List, [], _∷_, map}
 use Prim.Native.Nat.{ℕ, _≤_}
 use lib.ListN.{length}
@@ -77,8 +77,7 @@ pub record OutsideFits (O : Outside) : Type 0 where
   -- no two are the same, and they are at most 9 and those of 4,096 declarations
   pub apart : T (unlike (λ x y. eqb (y .name) (x .name)) (O .names))
   pub few : length (O .names) ≤ 4105
-  -- and a class from outside has at most 8,192 fields and 8,192 methods, no two of one name and none of function 0.
+  -- and a class from outside has at most 8,192 fields and 8,192 methods, no two methods of one name.
   pub few-fields : T (all (λ x. leb (length (x .fields)) 8192) (O .records))
   pub few-methods : T (all (λ x. leb (length (x .methods)) 8192) (O .records))
   pub methods-apart : T (all (λ x. unlike eqb (map (λ m. m .name) (x .methods))) (O .records))
-  pub functions-some : T (all (λ x. all (λ m. not (eqb (m .fun) 0)) (x .methods)) (O .records))
