@@ -24,15 +24,6 @@ and-false : (t : Bool) → (t && false) ≡ false
 and-false true = refl
 and-false false = refl
 
--- Class numbers.
-
-pub class-from : (s : Sheet) (c : ℕ) → true ≡ ofSheet s c → 256 ≤ c
-class-from s c e = go (leb 256 c) refl e
-  where
-    go : (t : Bool) → leb 256 c ≡ t → true ≡ (t && is s 4 (c - 256)) → 256 ≤ c
-    go true h k = leb-true 256 c h
-    go false h k = absurd (eqb-false 0 1 refl (ap (λ (t : Bool). if t then 0 else 1) k))
-
 -- Own names of a row: listed, or stored.
 
 keys-in : (m : ℕ) (ys : List Node) → (m ∈? map (λ y. y .key) ys) ≡ hasKey m ys

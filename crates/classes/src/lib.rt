@@ -3,7 +3,7 @@ ghost use mathlib.Core.Path.{_≡_};
 ghost use Prim.Native.Nat.{_≤_};
 ghost use lib.ListN.{length, getD, set};
 ghost use Rattle.definition.specs.Sheet.{rows};
-ghost use Rattle.definition.specs.Outside.{core};
+ghost use Rattle.definition.specs.Outside.{Outside};
 ghost use Rattle.machine.specs.Reads.{PastFour};
 ghost use Rattle.classes.specs.Table.{kidsClass, linked, rowDone, Clear, ClassTable};
 use tree::words::word;
@@ -61,7 +61,7 @@ fn fill_row(s: &[u32], r: u32, t: &mut [u32])
 
 // Fills a table of zeros. Links go to higher rows, so the entry of a row is final when the row is reached.
 pub fn class_table(s: &[u32], t: &mut [u32])
-    requires { ⌜ (PastFour core (now s)) × (rows (now s) ≤ length (now t)) × (Clear (now t)) ⌝ }
+    requires { ⌜ ((O : Outside) × PastFour O (now s)) × (rows (now s) ≤ length (now t)) × (Clear (now t)) ⌝ }
     ensures { λ _. ⌜ ClassTable (now (s .entry)) (now (t .exit)) ⌝ }
 {
     let mut r: u32 = 0;

@@ -38,9 +38,13 @@ methodAt s f = record { name = a s f; fun = f; params = arity s f }
 abbrev pub ownMethods : Outside → Sheet → ℕ → List Method
 ownMethods O s c = if ofSheet s c then map (methodAt s) (kidsOf s 6 (c - 256)) else recordOf O c .methods
 
--- the method of a name in a list, or one of no function
+-- no method: one of no function
+abbrev pub noMethod : Method
+noMethod = record { name = 0; fun = 0; params = 0 }
+
+-- the method of a name in a list, or none
 abbrev pub methodOf : ℕ → List Method → Method
-methodOf n ms = first (λ m. eqb (m .name) n) (record { name = 0; fun = 0; params = 0 }) ms
+methodOf n ms = first (λ m. eqb (m .name) n) noMethod ms
 
 -- the function of the method of a name in a list, or 0
 abbrev pub methodNamed : ℕ → List Method → ℕ

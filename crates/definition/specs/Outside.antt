@@ -57,9 +57,13 @@ based O n = record { names = O .names; records = O .records; base = n }
 abbrev pub isRecorded : Outside → ℕ → Bool
 isRecorded O c = any (λ x. eqb (x .number) c) (O .records)
 
--- that record, or an empty one
+-- no record: an empty one
+abbrev pub noRecord : ClassRecord
+noRecord = record { number = 0; name = 0; fields = []; methods = [] }
+
+-- the record of class c outside the sheet, or none
 abbrev pub recordOf : Outside → ℕ → ClassRecord
-recordOf O c = first (λ x. eqb (x .number) c) (record { number = 0; name = 0; fields = []; methods = [] }) (O .records)
+recordOf O c = first (λ x. eqb (x .number) c) noRecord (O .records)
 
 -- may a name from outside mean this? A function, a class or a global known before the walk
 abbrev pub isOutward : Meaning → Bool

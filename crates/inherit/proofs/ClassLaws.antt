@@ -14,9 +14,6 @@ use Rattle.after.specs.Inherited.{parentIn}
 use Rattle.inherit.specs.Answered.{lacksRecord}
 
 module _ (s : Sheet) (c : ℕ) where
-  pub row-number : ofSheet s c ≡ true → 256 ≤ c
-  row-number h = leb-true 256 c (true-of (leb 256 c) (and-left (leb 256 c) (is s 4 (c - 256)) (T-true (ofSheet s c) h)))
-
   pub row-kind : ofSheet s c ≡ true → kind s (c - 256) ≡ 4
   row-kind h = eqb-true (kind s (c - 256)) 4 (true-of (is s 4 (c - 256)) (and-right (leb 256 c) (is s 4 (c - 256)) (T-true (ofSheet s c) h)))
 

@@ -17,7 +17,8 @@ use Rattle.machine.specs.Machine.{Store}
 use Rattle.symbols.proofs.DeclLaws.{kind-inside}
 use Rattle.after.specs.Inherited.{parentIn, climbIn}
 use Rattle.inherit.specs.Answered.{lacksRecord, Marked}
-use Rattle.inherit.proofs.ClassLaws.{row-number, row-kind}
+use Rattle.tree.proofs.FindLaws.{row-number}
+use Rattle.inherit.proofs.ClassLaws.{row-kind}
 
 -- the same climb, where the classes climbed through are those marked with k in m
 unfoldable pub climbMarked : Outside → Sheet → Store → ℕ → ℕ → List ℕ → ℕ → Refusal

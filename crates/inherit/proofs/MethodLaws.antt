@@ -9,7 +9,7 @@ use borrow.Author.Tests.{eq-eqb, ne-eqb, eqb-true, eqb-false}
 use Rattle.definition.specs.Basics.{if_then_else_, filter, any, first}
 use Rattle.definition.specs.Sheet.{Sheet, child, a, next, rows, chain, is, kidsOf}
 use Rattle.definition.specs.Outside.{Outside, Method, recordOf}
-use Rattle.definition.specs.Classes.{ownMethods, methodNamed, mergeMethods, ofSheet, methodOf, methodAt}
+use Rattle.definition.specs.Classes.{ownMethods, methodNamed, mergeMethods, ofSheet, methodOf, methodAt, noMethod}
 use Rattle.definition.proofs.Lists.Tests.{T-true}
 use Rattle.machine.specs.Machine.{Store, cell}
 use Rattle.after.specs.Inherited.{parentIn, methodsIn}
@@ -18,9 +18,6 @@ use Rattle.after.specs.Inherited.{parentIn, methodsIn}
 data Functions : List Method → Type 0 where
   nil : Functions []
   cons : (x : Method) (xs : List Method) → (x .fun ≡ 0 → ⊥) → Functions xs → Functions (x ∷ xs)
-
-abbrev noMethod : Method
-noMethod = record { name = 0; fun = 0; params = 0 }
 
 chain-functions : (s : Sheet) (n k : ℕ) → Functions (map (methodAt s) (filter (is s 6) (chain n s k)))
 chain-functions s zero k = nil

@@ -9,8 +9,8 @@ use lib.ListN.{getD}
 use borrow.Author.Tests.{eq-eqb, ne-eqb}
 use Rattle.definition.specs.Basics.{if_then_else_, filter, head, any, first, from, _∈?_}
 use Rattle.definition.specs.Sheet.{Sheet, word, a, kidsOf}
-use Rattle.definition.specs.Outside.{Outside, Method as Held, ClassRecord, isRecorded, recordOf}
-use Rattle.definition.specs.Classes.{ofSheet, hasRecord, className, ownMethods, methodAt, methodOf, arity}
+use Rattle.definition.specs.Outside.{Outside, Method as Held, ClassRecord, isRecorded, recordOf, noRecord}
+use Rattle.definition.specs.Classes.{ofSheet, hasRecord, className, ownMethods, methodAt, methodOf, arity, noMethod}
 use Rattle.outside.specs.Words.{spacedAt, methodIn, methodsAt, recordAt, over}
 use Rattle.outside.specs.Found.{rowRecord, Records, Tells, stepOf}
 use Rattle.outside.specs.declared.records.Recorded.{Recorded}
@@ -23,9 +23,6 @@ pub record Seen : Type 0 where
   pub name : ℕ
   pub fields : List ℕ
   pub methods : List Held
-
-abbrev noRecord : ClassRecord
-noRecord = record { number = 0; name = 0; fields = []; methods = [] }
 
 abbrev seen : Bool → ClassRecord → Seen
 seen t x = record { some = t; name = x .name; fields = x .fields; methods = x .methods }
@@ -83,9 +80,6 @@ module _ (w : List ℕ) (c : ℕ) where
       }
 
 -- The method of name m among n methods from place p on; k is the name of the first.
-abbrev noMethod : Held
-noMethod = record { name = 0; fun = 0; params = 0 }
-
 module _ (w : List ℕ) (m p n : ℕ) where
   pub methods-none : n ≤ 0 → noMethod ≡ methodOf m (methodsAt w p n)
   unfolding methodsAt
@@ -169,3 +163,8 @@ module _ (s : Sheet) (w : List ℕ) (c : ℕ) {x : Bool} (e : x ≡ ofSheet s c)
     own-recorded {n} t =
         tells-as n t
         (ap (methodOf n) (k .methodsAre) ∙ sym (ap (λ (t : Bool). methodOf n (if t then map (methodAt s) (kidsOf s 6 (c - 256)) else recordOf (over w) c .methods)) (sym e ∙ h)))
+
+-- the numbers of an outside in words are the walk's
+pub over-base : (w : List ℕ) → over w .base ≡ 0
+unfolding over
+over-base w = refl

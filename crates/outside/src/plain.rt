@@ -2,6 +2,15 @@
 ghost use mathlib.Core.Path.{_≡_};
 ghost use Rattle.definition.specs.Outside.{core};
 ghost use Rattle.outside.specs.Words.{over};
+use ast::ARRAY_ID;
+use ast::AUDIO_DATA_ID;
+use ast::AUDIO_NEEDED_ID;
+use ast::BYTEARRAY_ID;
+use ast::DICT_ID;
+use ast::FLOAT64_ID;
+use ast::INT64_ID;
+use ast::STRING_ID;
+use ast::UIEVENT_ID;
 
 // Nine names, then three records, then their fields. A name's row: the name, code 2 for a class, the class's number. A record's row: number,
 // name, place of the first field, number of fields; none has methods.
@@ -18,7 +27,7 @@ const CORE: [u32; 118] = [
     // Int64
     1,
     2,
-    3,
+    INT64_ID.0,
     0,
     0,
     0,
@@ -27,7 +36,7 @@ const CORE: [u32; 118] = [
     // Float64
     2,
     2,
-    4,
+    FLOAT64_ID.0,
     0,
     0,
     0,
@@ -36,7 +45,7 @@ const CORE: [u32; 118] = [
     // String
     3,
     2,
-    5,
+    STRING_ID.0,
     0,
     0,
     0,
@@ -45,7 +54,7 @@ const CORE: [u32; 118] = [
     // Array
     4,
     2,
-    7,
+    ARRAY_ID.0,
     0,
     0,
     0,
@@ -54,7 +63,7 @@ const CORE: [u32; 118] = [
     // ByteArray
     5,
     2,
-    8,
+    BYTEARRAY_ID.0,
     0,
     0,
     0,
@@ -63,7 +72,7 @@ const CORE: [u32; 118] = [
     // Dict
     6,
     2,
-    9,
+    DICT_ID.0,
     0,
     0,
     0,
@@ -72,7 +81,7 @@ const CORE: [u32; 118] = [
     // UIEvent
     7,
     2,
-    100,
+    UIEVENT_ID.0,
     0,
     0,
     0,
@@ -81,7 +90,7 @@ const CORE: [u32; 118] = [
     // AudioNeeded
     8,
     2,
-    101,
+    AUDIO_NEEDED_ID.0,
     0,
     0,
     0,
@@ -90,14 +99,14 @@ const CORE: [u32; 118] = [
     // AudioData
     9,
     2,
-    102,
+    AUDIO_DATA_ID.0,
     0,
     0,
     0,
     0,
     0,
     // the record of UIEvent
-    100,
+    UIEVENT_ID.0,
     7,
     104,
     9,
@@ -106,7 +115,7 @@ const CORE: [u32; 118] = [
     0,
     0,
     // the record of AudioNeeded
-    101,
+    AUDIO_NEEDED_ID.0,
     8,
     113,
     3,
@@ -115,7 +124,7 @@ const CORE: [u32; 118] = [
     0,
     0,
     // the record of AudioData
-    102,
+    AUDIO_DATA_ID.0,
     9,
     116,
     2,

@@ -9,7 +9,7 @@ use lib.ListN.{length}
 use Rattle.definition.specs.Basics.{from}
 use Rattle.definition.specs.Sheet.{Sheet, word, kind, rows}
 use Rattle.definition.specs.Meaning.{Named}
-use Rattle.definition.specs.Outside.{Outside, core}
+use Rattle.definition.specs.Outside.{Outside}
 use Rattle.outside.specs.Words.{nameAt, over}
 use Rattle.definition.specs.Walk.{walk, before, after}
 use Rattle.definition.specs.Format.{sheetFits}
@@ -17,7 +17,6 @@ use Rattle.definition.specs.Question.{none}
 use Rattle.definition.proofs.Lists.Tests.{true-of, and-left}
 use Rattle.definition.proofs.Format.Accepted.{some-row}
 use Rattle.definition.proofs.Walk.Fitting.{fits}
-use Rattle.definition.proofs.Theorems.{core-fits}
 use Rattle.machine.specs.Machine.{State, Scopes, pushName, openNames, noScopes, startState, runState}
 use Rattle.machine.specs.Reads.{PastFour, Walked}
 use Rattle.machine.proofs.Theorems.{rows-few, walk-refines}
@@ -56,10 +55,6 @@ names-all s w i n p l h f g e = e ∙ ap (λ (xs : List Named). openNames s xs p
     by : (n : ℕ) → i ≤ 1 → i ≤ n → min n 1 ≤ i → namesFrom w i n ≡ map (nameAt w) (from 1 (n - 1))
     by zero l h f = let z : 0 - i ≡ 0 = omega arith in ap (λ (k : ℕ). map (nameAt w) (from i k)) z
     by (suc m) l h f = let z : i ≡ 1 = omega arith in ap (λ (k : ℕ). map (nameAt w) (from k (suc m - k))) z
-
--- what a sheet is past does not hang on the outside
-pub plainly : {O : Outside} {s : Sheet} → PastFour O s → PastFour core s
-plainly ok = record { outside = core-fits; names = ok .names; few = ok .few; whole = ok .whole; fitting = ok .fitting; shallow = ok .shallow }
 
 -- nothing happens at the header but the walk of its parts, the units
 before-header : (s : Sheet) (r : ℕ) → kind s r ≡ 0 → before s r ≡ []

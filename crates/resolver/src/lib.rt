@@ -178,8 +178,8 @@ fn resolve_with(
     )
 }
 
-// The walk's scratch space for up to 2,048 rows and nine names from outside: a class for each row, 7,204 open entries of five words, a table of eight words a row,
-// 43,008 nodes of four.
+// The walk's scratch space for up to 2,048 rows and nine names from outside: a class for each row, 7,204 open entries of five words, a table of
+// eight words a row, 43,008 nodes of four.
 fn resolve_large(s: &[u32], outside: &[u32], out: &mut [u32]) -> Answer
     requires { ⌜ (PastFour (over (now outside)) (now s)) × (length (over (now outside) .names) ≤ 9) ⌝ }
     ensures { λ x. ⌜ Settled (over (now (outside .entry))) (now (s .entry)) (length (now (out .entry))) x (now (out .exit)) ⌝ }

@@ -1,4 +1,4 @@
-use Rattle.resolve_syms.proofs.StartLaws.{units-walked, sheet-small, some-rows, plainly}
+use Rattle.resolve_syms.proofs.StartLaws.{units-walked, sheet-small, some-rows}
 use Rattle.outside.specs.Words.{over}
 use native.Mathlib.Omega.{arith}
 use borrow.Author.Needs.{needs}
@@ -12,7 +12,7 @@ use Rattle.resolve_syms.proofs.open_names.Reads as open-names-reads
 
 -- src/lib.rt:85:5
 class-table-requires : tie.Need-class-table-requires
-class-table-requires c κs = (plainly (c .before .before .before .before .before .before .before .pre .0), c .before .before .before .before .before .before .before .pre .1 .for-classes, c .before .before .before .before .before .before .before .pre .1 .clear-classes)
+class-table-requires c κs = ((over (c .before .before .before .before .before .before .before .args .outside .now), c .before .before .before .before .before .before .before .pre .0), c .before .before .before .before .before .before .before .pre .1 .for-classes, c .before .before .before .before .before .before .before .pre .1 .clear-classes)
 
 -- src/lib.rt:86:9
 open-names-requires : tie.Need-open-names-requires

@@ -1,4 +1,4 @@
-use Rattle.outside.proofs.CoreLaws.{over-base}
+use Rattle.outside.proofs.RecordLaws.{over-base}
 use Rattle.resolver.proofs.AnswerLaws.{later-no, later-none, small-sheet, walk-store}
 use Rattle.resolver.proofs.OutcomeLaws.{files-small}
 use Rattle.resolver.proofs.ReadyLaws.{rows-ready}

@@ -1,4 +1,4 @@
-use Rattle.outside.proofs.CoreLaws.{over-base}
+use Rattle.outside.proofs.RecordLaws.{over-base}
 use Rattle.resolver.proofs.AnswerLaws.{walk-no}
 use Rattle.resolver.proofs.OutcomeLaws.{files-small}
 use Rattle.walk.specs.WalkState.{stateOf}

@@ -1,4 +1,4 @@
-use Rattle.resolver.proofs.OutcomeLaws.{plainly, plain-settled}
+use Rattle.resolver.proofs.OutcomeLaws.{plain-past, plain-settled}
 use borrow.Author.Needs.{needs}
 use Rattle.resolver.proofs.resolve_plain.Statement.{statement}
 use Rattle.resolver.proofs.resolve_plain.Tie as tie
@@ -17,7 +17,7 @@ slice-aggregate-resolve-sized c = search needs
 
 -- src/lib.rt:223:5
 resolve-sized-requires : tie.Need-resolve-sized-requires
-resolve-sized-requires c κs = plainly (c .before .before .core-words .ensures) (c .before .before .before .before .before .pre)
+resolve-sized-requires c κs = plain-past (c .before .before .core-words .ensures) (c .before .before .before .before .before .pre)
 
 -- src/lib.rt:218:1
 same-length : tie.Need-same-length

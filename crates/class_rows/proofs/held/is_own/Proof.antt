@@ -1,4 +1,5 @@
-use Rattle.class_rows.proofs.NameLaws.{class-from, own-row, own-record}
+use Rattle.tree.proofs.FindLaws.{row-number}
+use Rattle.class_rows.proofs.NameLaws.{own-row, own-record}
 use Rattle.store.specs.Stored.{storeOf}
 use Rattle.outside.specs.Words.{over}
 use mathlib.Core.Path.{sym, _∙_}
@@ -17,7 +18,7 @@ is-class-row-requires c κs = search needs
 
 -- src/held.rt:53:43
 sub-is-row-name : tie.Need-sub-is-row-name
-sub-is-row-name c = class-from (c .before .before .before .before .before .before .before .args .s .now) (c .before .before .before .before .before .before .before .args .c .0) (sym (c .before .if1 .taken) ∙ c .before .before .is-class-row .ensures)
+sub-is-row-name c = row-number (c .before .before .before .before .before .before .before .args .s .now) (c .before .before .before .before .before .before .before .args .c .0) (sym (c .before .before .is-class-row .ensures) ∙ c .before .if1 .taken)
 
 -- src/held.rt:53:9
 is-row-name-requires : tie.Need-is-row-name-requires

@@ -1,5 +1,5 @@
+use Rattle.tree.proofs.FindLaws.{row-number}
 use Rattle.class_rows.proofs.PutLaws.{own-stored, own-listed, own-recorded}
-use Rattle.class_rows.proofs.NameLaws.{class-from}
 use Rattle.class_rows.specs.Put.{filled, nameRow}
 use Rattle.class_rows.specs.Names.{inherited}
 use Rattle.store.specs.Stored.{storeOf}
@@ -23,7 +23,7 @@ is-class-row-requires c κs = search needs
 
 -- src/put.rt:211:17
 sub-r : tie.Need-sub-r
-sub-r c = class-from (c .before .before .before .before .before .before .before .before .args .s .now) (c .before .before .before .before .before .before .before .before .args .c .0) (sym (c .before .if1 .taken) ∙ c .before .before .is-class-row .ensures)
+sub-r c = row-number (c .before .before .before .before .before .before .before .before .args .s .now) (c .before .before .before .before .before .before .before .before .args .c .0) (sym (c .before .before .is-class-row .ensures) ∙ c .before .if1 .taken)
 
 -- src/put.rt:212:13
 put-listed-requires : tie.Need-put-listed-requires

@@ -1,12 +1,12 @@
-use Rattle.outside.proofs.CoreLaws.{over-core}
+use mathlib.Core.Path.{refl}
+use Rattle.outside.specs.Words.{nameAt, spacedAt, methodsAt, over}
 use Rattle.outside.proofs.plain.core_words.Statement.{statement}
 use Rattle.outside.proofs.plain.core_words.Tie as tie
-use Rattle.outside.proofs.plain.core_words.Reads as reads
-use Rattle.outside.proofs.plain.core_words.Lts as lts
 
--- src/plain.rt:28:1
+-- the words hold the core: computed
 returns : tie.Need-returns
-returns c = over-core
+unfolding over nameAt spacedAt methodsAt
+returns c = refl
 
 pub core-words-spec : {M : Type 1} → statement M
 core-words-spec = tie.close (tie.spec returns)
