@@ -17,22 +17,29 @@ use sink::emit;
 use symbols::decl::one_more;
 
 // The own method of name `m` of a class, else function `f`.
-fn own_or(s: &[u32], outside: &[u32], c: ClassId, m: u32, f: FunId) -> FunId
-    ensures { λ x. ⌜ x .0 ≡ (if eqb (methodNamed m (ownMethods (over (now (outside .entry))) (now (s .entry)) (c .0))) 0 then f .0 else methodNamed m (ownMethods (over (now (outside .entry))) (now (s .entry)) (c .0))) ⌝ }
+fn own_or(sheet: &[u32], outside: &[u32], c: ClassId, m: u32, f: FunId) -> FunId
+    ensures { λ x. ⌜ x .0 ≡ (if eqb (methodNamed m (ownMethods (over (now (outside .entry))) (now (sheet .entry)) (c .0))) 0 then f .0 else methodNamed m (ownMethods (over (now (outside .entry))) (now (sheet .entry)) (c .0))) ⌝ }
 {
-    let own = own_method(s, outside, c, m).fun;
+    let own = own_method(sheet, outside, c, m).fun;
     if own.0 == 0 { f } else { own }
 }
 
 // The name that row `at` tells, told of the wanted class at slot `i`.
-fn copied_row(s: &[u32], outside: &[u32], out: &[u32], w: Wanted, at: usize, i: u32) -> AnswerRow
+fn copied_row(
+    sheet: &[u32],
+    outside: &[u32],
+    out: &[u32],
+    wanted: Wanted,
+    at: usize,
+    i: u32,
+) -> AnswerRow
     requires { ⌜ at < length (now out) / 8 ⌝ }
-    ensures { λ x. ⌜ wordsOf x ≡ copiedRow (over (now (outside .entry))) (now (s .entry)) w (now (out .entry)) at i ⌝ }
+    ensures { λ x. ⌜ wordsOf x ≡ copiedRow (over (now (outside .entry))) (now (sheet .entry)) wanted (now (out .entry)) at i ⌝ }
 {
     let last = out[8 * at + 3];
-    if w.kind == 10 {
+    if wanted.kind == 10 {
         return AnswerRow {
-            row: w.row,
+            row: wanted.row,
             code: 23,
             one: i,
             two: last,
@@ -41,9 +48,9 @@ fn copied_row(s: &[u32], outside: &[u32], out: &[u32], w: Wanted, at: usize, i: 
         };
     }
     let m = out[8 * at + 2];
-    let fun = own_or(s, outside, w.class, m, FunId(last));
+    let fun = own_or(sheet, outside, wanted.class, m, FunId(last));
     AnswerRow {
-        row: w.row,
+        row: wanted.row,
         code: 24,
         one: m,
         two: fun.0,
@@ -54,17 +61,17 @@ fn copied_row(s: &[u32], outside: &[u32], out: &[u32], w: Wanted, at: usize, i: 
 
 // One name more, that of row `at`.
 fn put_copy(
-    s: &[u32],
+    sheet: &[u32],
     outside: &[u32],
-    w: Wanted,
+    wanted: Wanted,
     at: usize,
     k: Written,
     out: &mut [u32],
 ) -> Written
     requires { ⌜ at < length (now out) / 8 ⌝ }
-    ensures { λ x. ⌜ filled x (now (out .exit)) ≡ put (copiedRow (over (now (outside .entry))) (now (s .entry)) w (now (out .entry))) at (filled k (now (out .entry))) ⌝ }
+    ensures { λ x. ⌜ filled x (now (out .exit)) ≡ put (copiedRow (over (now (outside .entry))) (now (sheet .entry)) wanted (now (out .entry))) at (filled k (now (out .entry))) ⌝ }
 {
-    let x = copied_row(s, outside, out, w, at, k.slot);
+    let x = copied_row(sheet, outside, out, wanted, at, k.slot);
     let count = emit(out, k.count, x);
     let slot = one_more(k.slot);
     Written {
@@ -75,22 +82,22 @@ fn put_copy(
 
 // The names of `n` rows from row `i` on.
 pub fn put_copied(
-    s: &[u32],
+    sheet: &[u32],
     outside: &[u32],
-    w: Wanted,
+    wanted: Wanted,
     i: usize,
     n: u32,
     k: Written,
     out: &mut [u32],
 ) -> Written
     requires { ⌜ (i + n ≤ k .count) × (i + n ≤ length (now out) / 8) ⌝ }
-    ensures { λ x. ⌜ filled x (now (out .exit)) ≡ putAll (copiedRow (over (now (outside .entry))) (now (s .entry)) w (now (out .entry))) (from i n) (filled k (now (out .entry))) ⌝ }
+    ensures { λ x. ⌜ filled x (now (out .exit)) ≡ putAll (copiedRow (over (now (outside .entry))) (now (sheet .entry)) wanted (now (out .entry))) (from i n) (filled k (now (out .entry))) ⌝ }
 {
     let mut done = k;
     let mut at = i;
     let mut left = n;
     while 0 < left {
-        done = put_copy(s, outside, w, at, done, out);
+        done = put_copy(sheet, outside, wanted, at, done, out);
         at += 1;
         left -= 1;
     }

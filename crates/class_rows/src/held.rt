@@ -24,50 +24,58 @@ fn is_recorded(outside: &[u32], kind: u32, c: ClassId, m: u32) -> bool
     is_listed(outside, names, m)
 }
 
-// Is `m` an own name of the class of row `r`? Fields are listed or stored.
-fn is_row_name(s: &[u32], t: &[u32], q: &[u32], kind: u32, r: u32, m: u32) -> bool
-    ensures { λ x. ⌜ ((o : Store) → x ≡ (m ∈? rowNames (now (s .entry)) (storeOf o (now (t .entry)) (now (q .entry))) kind r)) ⌝ }
+// Is `m` an own name of the class of `row`? Fields are listed or stored.
+fn is_row_name(sheet: &[u32], results: &[u32], nodes: &[u32], kind: u32, row: u32, m: u32) -> bool
+    ensures { λ x. ⌜ ((o : Store) → x ≡ (m ∈? rowNames (now (sheet .entry)) (storeOf o (now (results .entry)) (now (nodes .entry))) kind row)) ⌝ }
 {
-    if has_named(s, r, kind, m) {
+    if has_named(sheet, row, kind, m) {
         return true;
     }
     if kind == 10 {
-        return has_key(q, word(t, r, 7), m);
+        return has_key(nodes, word(results, row, 7), m);
     }
     false
 }
 
 // Is `m` an own name of a class?
-fn is_own(s: &[u32], outside: &[u32], t: &[u32], q: &[u32], kind: u32, c: ClassId, m: u32) -> bool
-    ensures { λ x. ⌜ ((o : Store) → x ≡ (m ∈? ownIn (over (now (outside .entry))) (now (s .entry)) (storeOf o (now (t .entry)) (now (q .entry))) kind (c .0))) ⌝ }
+fn is_own(
+    sheet: &[u32],
+    outside: &[u32],
+    results: &[u32],
+    nodes: &[u32],
+    kind: u32,
+    c: ClassId,
+    m: u32,
+) -> bool
+    ensures { λ x. ⌜ ((o : Store) → x ≡ (m ∈? ownIn (over (now (outside .entry))) (now (sheet .entry)) (storeOf o (now (results .entry)) (now (nodes .entry))) kind (c .0))) ⌝ }
 {
-    if is_class_row(s, c) {
-        return is_row_name(s, t, q, kind, c.0 - FIRST_CLASS, m);
+    if is_class_row(sheet, c) {
+        return is_row_name(sheet, results, nodes, kind, c.0 - FIRST_CLASS, m);
     }
     is_recorded(outside, kind, c, m)
 }
 
 // Is `m` a name of class `c` after inheritance? It climbs at most `n` classes.
 fn has_name(
-    s: &[u32],
+    sheet: &[u32],
     outside: &[u32],
-    t: &[u32],
-    q: &[u32],
+    results: &[u32],
+    nodes: &[u32],
     kind: u32,
     n: usize,
     c: ClassId,
     m: u32,
 ) -> bool
-    ensures { λ x. ⌜ ((o : Store) → x ≡ (m ∈? namesIn (over (now (outside .entry))) (now (s .entry)) (storeOf o (now (t .entry)) (now (q .entry))) kind n (c .0))) ⌝ }
+    ensures { λ x. ⌜ ((o : Store) → x ≡ (m ∈? namesIn (over (now (outside .entry))) (now (sheet .entry)) (storeOf o (now (results .entry)) (now (nodes .entry))) kind n (c .0))) ⌝ }
 {
     let mut at = c.0;
     let mut left = n;
     while 0 < left {
         let class = ClassId(at);
-        if is_own(s, outside, t, q, kind, class, m) {
+        if is_own(sheet, outside, results, nodes, kind, class, m) {
             return true;
         }
-        at = parent_of(s, t, class).0;
+        at = parent_of(sheet, results, class).0;
         if at == 0 {
             return false;
         }
@@ -78,19 +86,19 @@ fn has_name(
 
 // Is `m` inherited from the parent `p`? No class has number 0.
 pub fn is_inherited(
-    s: &[u32],
+    sheet: &[u32],
     outside: &[u32],
-    t: &[u32],
-    q: &[u32],
+    results: &[u32],
+    nodes: &[u32],
     kind: u32,
     n: usize,
     p: ClassId,
     m: u32,
 ) -> bool
-    ensures { λ x. ⌜ ((o : Store) → x ≡ (m ∈? inherited (over (now (outside .entry))) (now (s .entry)) (storeOf o (now (t .entry)) (now (q .entry))) kind n (p .0))) ⌝ }
+    ensures { λ x. ⌜ ((o : Store) → x ≡ (m ∈? inherited (over (now (outside .entry))) (now (sheet .entry)) (storeOf o (now (results .entry)) (now (nodes .entry))) kind n (p .0))) ⌝ }
 {
     if p.0 == 0 {
         return false;
     }
-    has_name(s, outside, t, q, kind, n, p, m)
+    has_name(sheet, outside, results, nodes, kind, n, p, m)
 }

@@ -40,47 +40,47 @@ use sink::emit;
 // The slot of the first field.
 const FIRST_SLOT: u32 = 0;
 
-// 1 if row `r` is marked, else 0.
-fn mark_bit(marks: &[u32], r: u32) -> u32
-    requires { ⌜ r < length (now marks) ⌝ }
-    ensures { λ x. ⌜ x ≡ bit (not (eqb (getD (now (marks .entry)) r 0) 0)) ⌝ }
+// 1 if `row` is marked, else 0.
+fn mark_bit(subclassed: &[u32], row: u32) -> u32
+    requires { ⌜ row < length (now subclassed) ⌝ }
+    ensures { λ x. ⌜ x ≡ bit (not (eqb (getD (now (subclassed .entry)) row 0) 0)) ⌝ }
 {
-    let i = r as usize;
-    if marks[i] == 0 { 0 } else { 1 }
+    let i = row as usize;
+    if subclassed[i] == 0 { 0 } else { 1 }
 }
 
-// What is wanted of the class of row `r`: the names of the rows of a kind.
-fn wanted(r: u32, kind: u32) -> Wanted
-    requires { ⌜ r < 2048 ⌝ }
-    ensures { λ x. ⌜ Wants r kind x ⌝ }
+// What is wanted of the class of `row`: the names of the rows of a kind.
+fn wanted(row: u32, kind: u32) -> Wanted
+    requires { ⌜ row < 2048 ⌝ }
+    ensures { λ x. ⌜ Wants row kind x ⌝ }
 {
     Wanted {
         kind: kind,
-        row: r,
-        class: ClassId(FIRST_CLASS + r),
+        row: row,
+        class: ClassId(FIRST_CLASS + row),
     }
 }
 
 // The first row of a class: its parent, whether it has children, and the numbers of its fields and methods.
 fn class_head(
-    s: &[u32],
+    sheet: &[u32],
     outside: &[u32],
-    t: &[u32],
-    q: &[u32],
-    marks: &[u32],
+    results: &[u32],
+    nodes: &[u32],
+    subclassed: &[u32],
     fields: Above,
     methods: Above,
-    r: u32,
+    row: u32,
 ) -> AnswerRow
-    requires { ⌜ (ClassReady (over (now outside)) (now s) (now t) (now q) (now marks) r) × (Counted (over (now outside)) (now s) (now t) (now q) 10 (256 + r) fields) × (Counted (over (now outside)) (now s) (now t) (now q) 6 (256 + r) methods) ⌝ }
-    ensures { λ x. ⌜ ((o : Store) → wordsOf x ≡ eight (r ∷ headWords (over (now (outside .entry))) (now (s .entry)) (storeOf o (now (t .entry)) (now (q .entry))) r)) ⌝ }
+    requires { ⌜ (ClassReady (over (now outside)) (now sheet) (now results) (now nodes) (now subclassed) row) × (Counted (over (now outside)) (now sheet) (now results) (now nodes) 10 (256 + row) fields) × (Counted (over (now outside)) (now sheet) (now results) (now nodes) 6 (256 + row) methods) ⌝ }
+    ensures { λ x. ⌜ ((o : Store) → wordsOf x ≡ eight (row ∷ headWords (over (now (outside .entry))) (now (sheet .entry)) (storeOf o (now (results .entry)) (now (nodes .entry))) row)) ⌝ }
 {
-    let parent = parent_of(s, t, ClassId(FIRST_CLASS + r)).0;
-    let children = mark_bit(marks, r);
-    let field_count = count_line(s, outside, t, q, wanted(r, 10), fields);
-    let method_count = count_line(s, outside, t, q, wanted(r, 6), methods);
+    let parent = parent_of(sheet, results, ClassId(FIRST_CLASS + row)).0;
+    let children = mark_bit(subclassed, row);
+    let field_count = count_line(sheet, outside, results, nodes, wanted(row, 10), fields);
+    let method_count = count_line(sheet, outside, results, nodes, wanted(row, 6), methods);
     AnswerRow {
-        row: r,
+        row: row,
         code: 22,
         one: parent,
         two: children,
@@ -89,66 +89,104 @@ fn class_head(
     }
 }
 
-// The rows of the class of row `r`, after `k` rows: its counts, its fields by slot, its methods.
+// The rows of the class of `row`, after `k` rows: its counts, its fields by slot, its methods.
 fn write_class(
-    s: &[u32],
+    sheet: &[u32],
     outside: &[u32],
-    t: &[u32],
-    q: &[u32],
-    marks: &[u32],
+    results: &[u32],
+    nodes: &[u32],
+    subclassed: &[u32],
     fields: Above,
     methods: Above,
-    r: u32,
+    row: u32,
     k: usize,
     out: &mut [u32],
 ) -> usize
-    requires { ⌜ (ClassReady (over (now outside)) (now s) (now t) (now q) (now marks) r) × (Shown (over (now outside)) (now s) (now t) (now q) 10 (256 + r) (now out) k fields) × (Shown (over (now outside)) (now s) (now t) (now q) 6 (256 + r) (now out) k methods) ⌝ }
-    ensures { λ x. ⌜ ((o : Store) → sink x (now (out .exit)) ≡ emitAll (map (λ vs. eight (r ∷ vs)) (classRowsNamed (over (now (outside .entry))) (now (s .entry)) (storeOf o (now (t .entry)) (now (q .entry))) r)) (sink k (now (out .entry)))) ⌝ }
+    requires { ⌜ (ClassReady (over (now outside)) (now sheet) (now results) (now nodes) (now subclassed) row) × (Shown (over (now outside)) (now sheet) (now results) (now nodes) 10 (256 + row) (now out) k fields) × (Shown (over (now outside)) (now sheet) (now results) (now nodes) 6 (256 + row) (now out) k methods) ⌝ }
+    ensures { λ x. ⌜ ((o : Store) → sink x (now (out .exit)) ≡ emitAll (map (λ vs. eight (row ∷ vs)) (classRowsNamed (over (now (outside .entry))) (now (sheet .entry)) (storeOf o (now (results .entry)) (now (nodes .entry))) row)) (sink k (now (out .entry)))) ⌝ }
 {
-    let head = class_head(s, outside, t, q, marks, fields, methods, r);
+    let head = class_head(
+        sheet,
+        outside,
+        results,
+        nodes,
+        subclassed,
+        fields,
+        methods,
+        row,
+    );
     let first = Written {
         count: emit(out, k, head),
         slot: FIRST_SLOT,
     };
-    let done = put_line(s, outside, t, q, wanted(r, 10), fields, first, out);
+    let done = put_line(
+        sheet,
+        outside,
+        results,
+        nodes,
+        wanted(row, 10),
+        fields,
+        first,
+        out,
+    );
     let second = Written {
         count: done.count,
         slot: FIRST_SLOT,
     };
-    put_line(s, outside, t, q, wanted(r, 6), methods, second, out).count
+    put_line(
+        sheet,
+        outside,
+        results,
+        nodes,
+        wanted(row, 6),
+        methods,
+        second,
+        out,
+    ).count
 }
 
 // The same, with what the class inherits copied from the rows of its parent, if they have a place. Then the class has a place too. Where
 // no row fits, nothing is looked for.
 pub fn emit_class(
-    s: &[u32],
+    sheet: &[u32],
     outside: &[u32],
-    t: &[u32],
-    q: &[u32],
-    marks: &[u32],
-    places: &mut [usize],
-    r: u32,
+    results: &[u32],
+    nodes: &[u32],
+    subclassed: &[u32],
+    starts: &mut [usize],
+    row: u32,
     k: usize,
     out: &mut [u32],
 ) -> usize
-    requires { ⌜ (ClassReady (over (now outside)) (now s) (now t) (now q) (now marks) r) × (Placed (over (now outside)) (now s) (now t) (now q) (now places) (now out) r k) ⌝ }
-    ensures { λ x. ⌜ ((o : Store) → sink x (now (out .exit)) ≡ emitAll (map (λ vs. eight (r ∷ vs)) (classRowsNamed (over (now (outside .entry))) (now (s .entry)) (storeOf o (now (t .entry)) (now (q .entry))) r)) (sink k (now (out .entry)))) × (Placed (over (now (outside .entry))) (now (s .entry)) (now (t .entry)) (now (q .entry)) (now (places .exit)) (now (out .exit)) (r + 1) x) ⌝ }
+    requires { ⌜ (ClassReady (over (now outside)) (now sheet) (now results) (now nodes) (now subclassed) row) × (Placed (over (now outside)) (now sheet) (now results) (now nodes) (now starts) (now out) row k) ⌝ }
+    ensures { λ x. ⌜ ((o : Store) → sink x (now (out .exit)) ≡ emitAll (map (λ vs. eight (row ∷ vs)) (classRowsNamed (over (now (outside .entry))) (now (sheet .entry)) (storeOf o (now (results .entry)) (now (nodes .entry))) row)) (sink k (now (out .entry)))) × (Placed (over (now (outside .entry))) (now (sheet .entry)) (now (results .entry)) (now (nodes .entry)) (now (starts .exit)) (now (out .exit)) (row + 1) x) ⌝ }
 {
     let room = out.len() / 8;
     if room <= k {
         return room + 1;
     }
-    let parent = parent_of(s, t, ClassId(FIRST_CLASS + r));
-    let at = place_of(places, parent);
+    let parent = parent_of(sheet, results, ClassId(FIRST_CLASS + row));
+    let at = place_of(starts, parent);
     let fields = above_of(out, at, 10);
     let methods = above_of(out, at, 6);
-    let count = write_class(s, outside, t, q, marks, fields, methods, r, k, out);
+    let count = write_class(
+        sheet,
+        outside,
+        results,
+        nodes,
+        subclassed,
+        fields,
+        methods,
+        row,
+        k,
+        out,
+    );
     if room < count {
         return count;
     }
-    if !line_ends(s, at, parent, r) {
+    if !line_ends(sheet, at, parent, row) {
         return count;
     }
-    places[r as usize] = k + 1;
+    starts[row as usize] = k + 1;
     count
 }

@@ -21,40 +21,47 @@ use inherit::parent_of;
 
 // The names of the wanted class.
 pub fn put_line(
-    s: &[u32],
+    sheet: &[u32],
     outside: &[u32],
-    t: &[u32],
-    q: &[u32],
-    w: Wanted,
+    results: &[u32],
+    nodes: &[u32],
+    wanted: Wanted,
     a: Above,
     k: Written,
     out: &mut [u32],
 ) -> Written
-    requires { ⌜ (0 < rows (now s)) × (Shown (over (now outside)) (now s) (now t) (now q) (w .kind) (w .class .0) (now out) (k .count) a) ⌝ }
-    ensures { λ x. ⌜ ((o : Store) → filled x (now (out .exit)) ≡ putAll (nameRow (over (now (outside .entry))) (now (s .entry)) (storeOf o (now (t .entry)) (now (q .entry))) w) (namesIn (over (now (outside .entry))) (now (s .entry)) (storeOf o (now (t .entry)) (now (q .entry))) (w .kind) (rows (now (s .entry))) (w .class .0)) (filled k (now (out .entry)))) ⌝ }
+    requires { ⌜ (0 < rows (now sheet)) × (Shown (over (now outside)) (now sheet) (now results) (now nodes) (wanted .kind) (wanted .class .0) (now out) (k .count) a) ⌝ }
+    ensures { λ x. ⌜ ((o : Store) → filled x (now (out .exit)) ≡ putAll (nameRow (over (now (outside .entry))) (now (sheet .entry)) (storeOf o (now (results .entry)) (now (nodes .entry))) wanted) (namesIn (over (now (outside .entry))) (now (sheet .entry)) (storeOf o (now (results .entry)) (now (nodes .entry))) (wanted .kind) (rows (now (sheet .entry))) (wanted .class .0)) (filled k (now (out .entry)))) ⌝ }
 {
-    let n = s.len() / 8;
-    let c = w.class;
+    let n = sheet.len() / 8;
+    let c = wanted.class;
     if a.row == 0 {
-        return put_names(s, outside, t, q, w, n, c, k, out);
+        return put_names(sheet, outside, results, nodes, wanted, n, c, k, out);
     }
     let p = Passed {
-        class: parent_of(s, t, c),
+        class: parent_of(sheet, results, c),
         left: n - 1,
     };
-    let done = put_copied(s, outside, w, a.row, a.count, k, out);
-    put_own(s, outside, t, q, w, p, c, done, out)
+    let done = put_copied(sheet, outside, wanted, a.row, a.count, k, out);
+    put_own(sheet, outside, results, nodes, wanted, p, c, done, out)
 }
 
 // How many names the wanted class has, or the largest number of a word.
-pub fn count_line(s: &[u32], outside: &[u32], t: &[u32], q: &[u32], w: Wanted, a: Above) -> u32
-    requires { ⌜ (0 < rows (now s)) × (Counted (over (now outside)) (now s) (now t) (now q) (w .kind) (w .class .0) a) ⌝ }
-    ensures { λ x. ⌜ ((o : Store) → x ≡ min (length (namesIn (over (now (outside .entry))) (now (s .entry)) (storeOf o (now (t .entry)) (now (q .entry))) (w .kind) (rows (now (s .entry))) (w .class .0))) 4294967295) ⌝ }
+pub fn count_line(
+    sheet: &[u32],
+    outside: &[u32],
+    results: &[u32],
+    nodes: &[u32],
+    wanted: Wanted,
+    a: Above,
+) -> u32
+    requires { ⌜ (0 < rows (now sheet)) × (Counted (over (now outside)) (now sheet) (now results) (now nodes) (wanted .kind) (wanted .class .0) a) ⌝ }
+    ensures { λ x. ⌜ ((o : Store) → x ≡ min (length (namesIn (over (now (outside .entry))) (now (sheet .entry)) (storeOf o (now (results .entry)) (now (nodes .entry))) (wanted .kind) (rows (now (sheet .entry))) (wanted .class .0))) 4294967295) ⌝ }
 {
-    let n = s.len() / 8;
-    let c = w.class;
+    let n = sheet.len() / 8;
+    let c = wanted.class;
     if a.row == 0 {
-        return count_names(s, outside, t, q, w, n, c);
+        return count_names(sheet, outside, results, nodes, wanted, n, c);
     }
     let mut none = [0u32; 1];
     let start = Written {
@@ -62,8 +69,18 @@ pub fn count_line(s: &[u32], outside: &[u32], t: &[u32], q: &[u32], w: Wanted, a
         slot: a.count,
     };
     let p = Passed {
-        class: parent_of(s, t, c),
+        class: parent_of(sheet, results, c),
         left: n - 1,
     };
-    put_own(s, outside, t, q, w, p, c, start, &mut none).slot
+    put_own(
+        sheet,
+        outside,
+        results,
+        nodes,
+        wanted,
+        p,
+        c,
+        start,
+        &mut none,
+    ).slot
 }

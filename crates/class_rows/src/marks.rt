@@ -7,30 +7,30 @@ ghost use Rattle.class_rows.specs.Names.{ParentMarks, markParent};
 use ast::FIRST_CLASS;
 use tree::words::word;
 
-// Marks the row of the parent of row `r`, if row `r` is a class whose parent is of the sheet.
-fn mark_parent(s: &[u32], t: &[u32], r: u32, marks: &mut [u32])
-    ensures { λ _. ⌜ now (marks .exit) ≡ markParent (now (s .entry)) (now (t .entry)) r (now (marks .entry)) ⌝ }
+// Marks the row of the parent of `row`, if `row` is a class whose parent is of the sheet.
+fn mark_parent(sheet: &[u32], results: &[u32], row: u32, subclassed: &mut [u32])
+    ensures { λ _. ⌜ now (subclassed .exit) ≡ markParent (now (sheet .entry)) (now (results .entry)) row (now (subclassed .entry)) ⌝ }
 {
-    if word(s, r, 0) == 4 {
-        let parent = word(t, r, 1);
+    if word(sheet, row, 0) == 4 {
+        let parent = word(results, row, 1);
         if parent >= FIRST_CLASS {
             let i = (parent - FIRST_CLASS) as usize;
-            if i < marks.len() {
-                marks[i] = 1;
+            if i < subclassed.len() {
+                subclassed[i] = 1;
             }
         }
     }
 }
 
 // Marks the rows of all classes that have children.
-pub fn mark_parents(s: &[u32], t: &[u32], marks: &mut [u32])
-    requires { ⌜ (length (now s) ≤ 16384) × (rows (now s) ≤ length (now marks)) × ((j : ℕ) → getD (now marks) j 0 ≡ 0) ⌝ }
-    ensures { λ _. ⌜ ParentMarks (now (s .entry)) (now (t .entry)) (now (marks .exit)) ⌝ }
+pub fn mark_parents(sheet: &[u32], results: &[u32], subclassed: &mut [u32])
+    requires { ⌜ (length (now sheet) ≤ 16384) × (rows (now sheet) ≤ length (now subclassed)) × ((j : ℕ) → getD (now subclassed) j 0 ≡ 0) ⌝ }
+    ensures { λ _. ⌜ ParentMarks (now (sheet .entry)) (now (results .entry)) (now (subclassed .exit)) ⌝ }
 {
-    let n = (s.len() / 8) as u32;
+    let n = (sheet.len() / 8) as u32;
     let mut r = 0;
     while r < n {
-        mark_parent(s, t, r, marks);
+        mark_parent(sheet, results, r, subclassed);
         r += 1;
     }
 }

@@ -17,13 +17,13 @@ pub struct Above {
 }
 
 // The entry of class `c`: one more than the answer row where it begins, or 0.
-pub fn place_of(places: &[usize], c: ClassId) -> usize
-    ensures { λ x. ⌜ x ≡ placeOf (now (places .entry)) (c .0) ⌝ }
+pub fn place_of(starts: &[usize], c: ClassId) -> usize
+    ensures { λ x. ⌜ x ≡ placeOf (now (starts .entry)) (c .0) ⌝ }
 {
     if c.0 >= FIRST_CLASS {
         let i = (c.0 - FIRST_CLASS) as usize;
-        if i < places.len() {
-            return places[i];
+        if i < starts.len() {
+            return starts[i];
         }
     }
     0
@@ -51,16 +51,16 @@ pub fn above_of(out: &[u32], at: usize, kind: u32) -> Above
     }
 }
 
-// Is it known that the line of parents of the class of row `r` ends within `r + 1` classes? Its parent `c` has the entry `at`, or is
+// Is it known that the line of parents of the class of `row` ends within `r + 1` classes? Its parent `c` has the entry `at`, or is
 // none of the sheet and has no parent.
-pub fn line_ends(s: &[u32], at: usize, c: ClassId, r: u32) -> bool
-    ensures { λ x. ⌜ x ≡ (not (eqb at 0) || (not (ofSheet (now (s .entry)) (c .0)) && ltb 0 r)) ⌝ }
+pub fn line_ends(sheet: &[u32], at: usize, c: ClassId, row: u32) -> bool
+    ensures { λ x. ⌜ x ≡ (not (eqb at 0) || (not (ofSheet (now (sheet .entry)) (c .0)) && ltb 0 row)) ⌝ }
 {
     if at != 0 {
         return true;
     }
-    if !is_class_row(s, c) {
-        return 0 < r;
+    if !is_class_row(sheet, c) {
+        return 0 < row;
     }
     false
 }

@@ -48,12 +48,19 @@ pub struct Passed {
 }
 
 // The row that tells name `m` at slot `i`.
-fn name_row(s: &[u32], outside: &[u32], t: &[u32], w: Wanted, m: u32, i: u32) -> AnswerRow
-    ensures { λ x. ⌜ ((o : Store) (q : List ℕ) → wordsOf x ≡ nameRow (over (now (outside .entry))) (now (s .entry)) (storeOf o (now (t .entry)) q) w m i) ⌝ }
+fn name_row(
+    sheet: &[u32],
+    outside: &[u32],
+    results: &[u32],
+    wanted: Wanted,
+    m: u32,
+    i: u32,
+) -> AnswerRow
+    ensures { λ x. ⌜ ((o : Store) (nodes : List ℕ) → wordsOf x ≡ nameRow (over (now (outside .entry))) (now (sheet .entry)) (storeOf o (now (results .entry)) nodes) wanted m i) ⌝ }
 {
-    if w.kind == 10 {
+    if wanted.kind == 10 {
         return AnswerRow {
-            row: w.row,
+            row: wanted.row,
             code: 23,
             one: i,
             two: m,
@@ -61,9 +68,9 @@ fn name_row(s: &[u32], outside: &[u32], t: &[u32], w: Wanted, m: u32, i: u32) ->
             four: 0,
         };
     }
-    let fun = find_method(s, outside, t, w.class, m).fun;
+    let fun = find_method(sheet, outside, results, wanted.class, m).fun;
     AnswerRow {
-        row: w.row,
+        row: wanted.row,
         code: 24,
         one: m,
         two: fun.0,
@@ -74,17 +81,17 @@ fn name_row(s: &[u32], outside: &[u32], t: &[u32], w: Wanted, m: u32, i: u32) ->
 
 // One name more.
 fn put_name(
-    s: &[u32],
+    sheet: &[u32],
     outside: &[u32],
-    t: &[u32],
-    w: Wanted,
+    results: &[u32],
+    wanted: Wanted,
     m: u32,
     k: Written,
     out: &mut [u32],
 ) -> Written
-    ensures { λ x. ⌜ ((o : Store) (q : List ℕ) → filled x (now (out .exit)) ≡ put (nameRow (over (now (outside .entry))) (now (s .entry)) (storeOf o (now (t .entry)) q) w) m (filled k (now (out .entry)))) ⌝ }
+    ensures { λ x. ⌜ ((o : Store) (nodes : List ℕ) → filled x (now (out .exit)) ≡ put (nameRow (over (now (outside .entry))) (now (sheet .entry)) (storeOf o (now (results .entry)) nodes) wanted) m (filled k (now (out .entry)))) ⌝ }
 {
-    let x = name_row(s, outside, t, w, m, k.slot);
+    let x = name_row(sheet, outside, results, wanted, m, k.slot);
     let count = emit(out, k.count, x);
     let slot = one_more(k.slot);
     Written {
@@ -95,44 +102,63 @@ fn put_name(
 
 // One name more, unless it is inherited.
 fn put_new(
-    s: &[u32],
+    sheet: &[u32],
     outside: &[u32],
-    t: &[u32],
-    q: &[u32],
-    w: Wanted,
+    results: &[u32],
+    nodes: &[u32],
+    wanted: Wanted,
     p: Passed,
     m: u32,
     k: Written,
     out: &mut [u32],
 ) -> Written
-    ensures { λ x. ⌜ ((o : Store) → filled x (now (out .exit)) ≡ putNew (over (now (outside .entry))) (now (s .entry)) (storeOf o (now (t .entry)) (now (q .entry))) w p (m ∷ []) (filled k (now (out .entry)))) ⌝ }
+    ensures { λ x. ⌜ ((o : Store) → filled x (now (out .exit)) ≡ putNew (over (now (outside .entry))) (now (sheet .entry)) (storeOf o (now (results .entry)) (now (nodes .entry))) wanted p (m ∷ []) (filled k (now (out .entry)))) ⌝ }
 {
-    if is_inherited(s, outside, t, q, w.kind, p.left, p.class, m) {
+    if is_inherited(
+        sheet,
+        outside,
+        results,
+        nodes,
+        wanted.kind,
+        p.left,
+        p.class,
+        m,
+    ) {
         return k;
     }
-    put_name(s, outside, t, w, m, k, out)
+    put_name(sheet, outside, results, wanted, m, k, out)
 }
 
 // Names in the words from outside, in order.
 fn put_recorded(
-    s: &[u32],
+    sheet: &[u32],
     outside: &[u32],
-    t: &[u32],
-    q: &[u32],
-    w: Wanted,
+    results: &[u32],
+    nodes: &[u32],
+    wanted: Wanted,
     p: Passed,
     names: Listed,
     k: Written,
     out: &mut [u32],
 ) -> Written
-    ensures { λ x. ⌜ ((o : Store) → filled x (now (out .exit)) ≡ putNew (over (now (outside .entry))) (now (s .entry)) (storeOf o (now (t .entry)) (now (q .entry))) w p (listed (now (outside .entry)) names) (filled k (now (out .entry)))) ⌝ }
+    ensures { λ x. ⌜ ((o : Store) → filled x (now (out .exit)) ≡ putNew (over (now (outside .entry))) (now (sheet .entry)) (storeOf o (now (results .entry)) (now (nodes .entry))) wanted p (listed (now (outside .entry)) names) (filled k (now (out .entry)))) ⌝ }
 {
     let step = step_of(names.kind);
     let mut done = k;
     let mut at = names.at as usize;
     let mut left = names.count;
     while 0 < left {
-        done = put_new(s, outside, t, q, w, p, word_at(outside, at), done, out);
+        done = put_new(
+            sheet,
+            outside,
+            results,
+            nodes,
+            wanted,
+            p,
+            word_at(outside, at),
+            done,
+            out,
+        );
         at += step;
         left -= 1;
     }
@@ -141,30 +167,40 @@ fn put_recorded(
 
 // The names of the children of row `r`, in order.
 fn put_listed(
-    s: &[u32],
+    sheet: &[u32],
     outside: &[u32],
-    t: &[u32],
-    q: &[u32],
-    w: Wanted,
+    results: &[u32],
+    nodes: &[u32],
+    wanted: Wanted,
     p: Passed,
     r: u32,
     k: Written,
     out: &mut [u32],
 ) -> Written
-    ensures { λ x. ⌜ ((o : Store) → filled x (now (out .exit)) ≡ putNew (over (now (outside .entry))) (now (s .entry)) (storeOf o (now (t .entry)) (now (q .entry))) w p (map (a (now (s .entry))) (kidsOf (now (s .entry)) (w .kind) r)) (filled k (now (out .entry)))) ⌝ }
+    ensures { λ x. ⌜ ((o : Store) → filled x (now (out .exit)) ≡ putNew (over (now (outside .entry))) (now (sheet .entry)) (storeOf o (now (results .entry)) (now (nodes .entry))) wanted p (map (a (now (sheet .entry))) (kidsOf (now (sheet .entry)) (wanted .kind) r)) (filled k (now (out .entry)))) ⌝ }
 {
     let mut done = k;
-    let mut left = s.len() / 8;
-    let mut at = word(s, r, 2);
+    let mut left = sheet.len() / 8;
+    let mut at = word(sheet, r, 2);
     while 0 < left {
         if at == 0 {
             return done;
         }
         let row = at;
-        at = word(s, row, 1);
+        at = word(sheet, row, 1);
         left -= 1;
-        if word(s, row, 0) == w.kind {
-            done = put_new(s, outside, t, q, w, p, word(s, row, 6), done, out);
+        if word(sheet, row, 0) == wanted.kind {
+            done = put_new(
+                sheet,
+                outside,
+                results,
+                nodes,
+                wanted,
+                p,
+                word(sheet, row, 6),
+                done,
+                out,
+            );
         }
     }
     done
@@ -172,95 +208,125 @@ fn put_listed(
 
 // The keys of the list whose last node is node `last - 1`, in order.
 fn put_stored(
-    s: &[u32],
+    sheet: &[u32],
     outside: &[u32],
-    t: &[u32],
-    q: &[u32],
-    w: Wanted,
+    results: &[u32],
+    nodes: &[u32],
+    wanted: Wanted,
     p: Passed,
     last: u32,
     k: Written,
     out: &mut [u32],
 ) -> Written
-    ensures { λ x. ⌜ ((o : Store) → filled x (now (out .exit)) ≡ putNew (over (now (outside .entry))) (now (s .entry)) (storeOf o (now (t .entry)) (now (q .entry))) w p (map (λ y. y .key) (chainTo (now (q .entry)) last)) (filled k (now (out .entry)))) ⌝ }
+    ensures { λ x. ⌜ ((o : Store) → filled x (now (out .exit)) ≡ putNew (over (now (outside .entry))) (now (sheet .entry)) (storeOf o (now (results .entry)) (now (nodes .entry))) wanted p (map (λ y. y .key) (chainTo (now (nodes .entry)) last)) (filled k (now (out .entry)))) ⌝ }
 {
     if last == 0 {
         return k;
     }
     let i = last - 1;
-    let before = node_before(q, i);
-    let done = put_stored(s, outside, t, q, w, p, before, k, out);
-    put_new(s, outside, t, q, w, p, node_word(q, i, 1), done, out)
+    let before = node_before(nodes, i);
+    let done = put_stored(sheet, outside, results, nodes, wanted, p, before, k, out);
+    put_new(
+        sheet,
+        outside,
+        results,
+        nodes,
+        wanted,
+        p,
+        node_word(nodes, i, 1),
+        done,
+        out,
+    )
 }
 
 // The own names of a class.
 pub fn put_own(
-    s: &[u32],
+    sheet: &[u32],
     outside: &[u32],
-    t: &[u32],
-    q: &[u32],
-    w: Wanted,
+    results: &[u32],
+    nodes: &[u32],
+    wanted: Wanted,
     p: Passed,
     c: ClassId,
     k: Written,
     out: &mut [u32],
 ) -> Written
-    ensures { λ x. ⌜ ((o : Store) → filled x (now (out .exit)) ≡ putNew (over (now (outside .entry))) (now (s .entry)) (storeOf o (now (t .entry)) (now (q .entry))) w p (ownIn (over (now (outside .entry))) (now (s .entry)) (storeOf o (now (t .entry)) (now (q .entry))) (w .kind) (c .0)) (filled k (now (out .entry)))) ⌝ }
+    ensures { λ x. ⌜ ((o : Store) → filled x (now (out .exit)) ≡ putNew (over (now (outside .entry))) (now (sheet .entry)) (storeOf o (now (results .entry)) (now (nodes .entry))) wanted p (ownIn (over (now (outside .entry))) (now (sheet .entry)) (storeOf o (now (results .entry)) (now (nodes .entry))) (wanted .kind) (c .0)) (filled k (now (out .entry)))) ⌝ }
 {
-    if is_class_row(s, c) {
+    if is_class_row(sheet, c) {
         let r = c.0 - FIRST_CLASS;
-        let done = put_listed(s, outside, t, q, w, p, r, k, out);
-        if w.kind == 10 {
-            return put_stored(s, outside, t, q, w, p, word(t, r, 7), done, out);
+        let done = put_listed(sheet, outside, results, nodes, wanted, p, r, k, out);
+        if wanted.kind == 10 {
+            return put_stored(
+                sheet,
+                outside,
+                results,
+                nodes,
+                wanted,
+                p,
+                word(results, r, 7),
+                done,
+                out,
+            );
         }
         return done;
     }
-    let names = recorded_names(outside, w.kind, c);
-    put_recorded(s, outside, t, q, w, p, names, k, out)
+    let names = recorded_names(outside, wanted.kind, c);
+    put_recorded(sheet, outside, results, nodes, wanted, p, names, k, out)
 }
 
 // The names of class `c`: the inherited, then the own ones that are new. It climbs at most `n` classes.
 pub fn put_names(
-    s: &[u32],
+    sheet: &[u32],
     outside: &[u32],
-    t: &[u32],
-    q: &[u32],
-    w: Wanted,
+    results: &[u32],
+    nodes: &[u32],
+    wanted: Wanted,
     n: usize,
     c: ClassId,
     k: Written,
     out: &mut [u32],
 ) -> Written
-    ensures { λ x. ⌜ ((o : Store) → filled x (now (out .exit)) ≡ putAll (nameRow (over (now (outside .entry))) (now (s .entry)) (storeOf o (now (t .entry)) (now (q .entry))) w) (namesIn (over (now (outside .entry))) (now (s .entry)) (storeOf o (now (t .entry)) (now (q .entry))) (w .kind) n (c .0)) (filled k (now (out .entry)))) ⌝ }
+    ensures { λ x. ⌜ ((o : Store) → filled x (now (out .exit)) ≡ putAll (nameRow (over (now (outside .entry))) (now (sheet .entry)) (storeOf o (now (results .entry)) (now (nodes .entry))) wanted) (namesIn (over (now (outside .entry))) (now (sheet .entry)) (storeOf o (now (results .entry)) (now (nodes .entry))) (wanted .kind) n (c .0)) (filled k (now (out .entry)))) ⌝ }
 {
     if n == 0 {
         return k;
     }
-    let up = parent_of(s, t, c);
+    let up = parent_of(sheet, results, c);
     let p = Passed {
         class: up,
         left: n - 1,
     };
     if up.0 == 0 {
-        return put_own(s, outside, t, q, w, p, c, k, out);
+        return put_own(sheet, outside, results, nodes, wanted, p, c, k, out);
     }
-    let done = put_names(s, outside, t, q, w, n - 1, up, k, out);
-    put_own(s, outside, t, q, w, p, c, done, out)
+    let done = put_names(sheet, outside, results, nodes, wanted, n - 1, up, k, out);
+    put_own(sheet, outside, results, nodes, wanted, p, c, done, out)
 }
 
 // How many names class `c` has, or the largest number of a word. Nothing is written: not one row fits.
 pub fn count_names(
-    s: &[u32],
+    sheet: &[u32],
     outside: &[u32],
-    t: &[u32],
-    q: &[u32],
-    w: Wanted,
+    results: &[u32],
+    nodes: &[u32],
+    wanted: Wanted,
     n: usize,
     c: ClassId,
 ) -> u32
-    ensures { λ x. ⌜ ((o : Store) → x ≡ min (length (namesIn (over (now (outside .entry))) (now (s .entry)) (storeOf o (now (t .entry)) (now (q .entry))) (w .kind) n (c .0))) 4294967295) ⌝ }
+    ensures { λ x. ⌜ ((o : Store) → x ≡ min (length (namesIn (over (now (outside .entry))) (now (sheet .entry)) (storeOf o (now (results .entry)) (now (nodes .entry))) (wanted .kind) n (c .0))) 4294967295) ⌝ }
 {
     let mut none = [0u32; 1];
     let start = Written { count: 0, slot: 0 };
-    put_names(s, outside, t, q, w, n, c, start, &mut none).slot
+    put_names(
+        sheet,
+        outside,
+        results,
+        nodes,
+        wanted,
+        n,
+        c,
+        start,
+        &mut none,
+    ).slot
 }

@@ -9,64 +9,64 @@ ghost use Rattle.classes.specs.Table.{kidsClass, linked, rowDone, Clear,
 use tree::words::word;
 
 // Entry `i` of a table. An entry past the end reads as 0.
-pub fn entry_at(t: &[u32], i: u32) -> u32
-    ensures { λ x. ⌜ x ≡ getD (now (t .entry)) i 0 ⌝ }
+pub fn entry_at(table: &[u32], i: u32) -> u32
+    ensures { λ x. ⌜ x ≡ getD (now (table .entry)) i 0 ⌝ }
 {
     let at = i as usize;
-    if at < t.len() { t[at] } else { 0 }
+    if at < table.len() { table[at] } else { 0 }
 }
 
 // Writes entry `i`. Writing past the end does nothing.
-pub fn put_entry(t: &mut [u32], i: u32, x: u32)
-    ensures { λ _. ⌜ now (t .exit) ≡ set (now (t .entry)) i x ⌝ }
+pub fn put_entry(table: &mut [u32], i: u32, x: u32)
+    ensures { λ _. ⌜ now (table .exit) ≡ set (now (table .entry)) i x ⌝ }
 {
     let at = i as usize;
-    if at < t.len() {
-        t[at] = x;
+    if at < table.len() {
+        table[at] = x;
     }
 }
 
 // Writes the entry of row `i`, unless the link is 0.
-fn put_linked(t: &mut [u32], i: u32, x: u32)
-    ensures { λ _. ⌜ now (t .exit) ≡ linked i x (now (t .entry)) ⌝ }
+fn put_linked(classes: &mut [u32], i: u32, x: u32)
+    ensures { λ _. ⌜ now (classes .exit) ≡ linked i x (now (classes .entry)) ⌝ }
 {
     if i != 0 {
-        put_entry(t, i, x);
+        put_entry(classes, i, x);
     }
 }
 
-// The class of the children of row `r`: the row itself, or the class that a literal names, or 0.
-fn kids_class(s: &[u32], r: u32) -> u32
-    ensures { λ x. ⌜ x ≡ kidsClass (now (s .entry)) r ⌝ }
+// The class of the children of `row`: the row itself, or the class that a literal names, or 0.
+fn kids_class(sheet: &[u32], row: u32) -> u32
+    ensures { λ x. ⌜ x ≡ kidsClass (now (sheet .entry)) row ⌝ }
 {
-    let kind = word(s, r, 0);
+    let kind = word(sheet, row, 0);
     if kind == 4 {
-        return r;
+        return row;
     }
     if kind == 52 {
-        return word(s, r, 6);
+        return word(sheet, row, 6);
     }
     0
 }
 
-// Writes the entries of row `r`'s child and next. The next has the class of the row itself.
-fn fill_row(s: &[u32], r: u32, t: &mut [u32])
-    ensures { λ _. ⌜ now (t .exit) ≡ rowDone (now (s .entry)) r (now (t .entry)) ⌝ }
+// Writes the entries of `row`'s child and next. The next has the class of the row itself.
+fn fill_row(sheet: &[u32], row: u32, classes: &mut [u32])
+    ensures { λ _. ⌜ now (classes .exit) ≡ rowDone (now (sheet .entry)) row (now (classes .entry)) ⌝ }
 {
-    let child = word(s, r, 2);
-    let next = word(s, r, 1);
-    put_linked(t, child, kids_class(s, r));
-    put_linked(t, next, entry_at(t, r));
+    let child = word(sheet, row, 2);
+    let next = word(sheet, row, 1);
+    put_linked(classes, child, kids_class(sheet, row));
+    put_linked(classes, next, entry_at(classes, row));
 }
 
 // Fills a table of zeros. Links go to higher rows, so the entry of a row is final when the row is reached.
-pub fn class_table(s: &[u32], t: &mut [u32])
-    requires { ⌜ ((O : Outside) × PastFour O (now s)) × (rows (now s) ≤ length (now t)) × (Clear (now t)) ⌝ }
-    ensures { λ _. ⌜ ClassTable (now (s .entry)) (now (t .exit)) ⌝ }
+pub fn class_table(sheet: &[u32], classes: &mut [u32])
+    requires { ⌜ ((O : Outside) × PastFour O (now sheet)) × (rows (now sheet) ≤ length (now classes)) × (Clear (now classes)) ⌝ }
+    ensures { λ _. ⌜ ClassTable (now (sheet .entry)) (now (classes .exit)) ⌝ }
 {
     let mut r: u32 = 0;
-    while (r as usize) < s.len() / 8 {
-        fill_row(s, r, t);
+    while (r as usize) < sheet.len() / 8 {
+        fill_row(sheet, r, classes);
         r += 1;
     }
 }

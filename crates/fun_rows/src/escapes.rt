@@ -24,11 +24,11 @@ use symbols::decl::is_mutable;
 use tree::words::word;
 
 // Is node `i` of a capture list the mutable local of function `f` in slot `j`?
-fn is_slot(s: &[u32], q: &[u32], i: u32, f: FunId, j: u32) -> bool
-    ensures { λ x. ⌜ x ≡ (isMutable (now (s .entry)) (meaningOfNode (nodeAt (now (q .entry)) i)) && eqb (nodeAt (now (q .entry)) i .one) (f .0) && eqb (nodeAt (now (q .entry)) i .two) j) ⌝ }
+fn is_slot(sheet: &[u32], nodes: &[u32], i: u32, f: FunId, j: u32) -> bool
+    ensures { λ x. ⌜ x ≡ (isMutable (now (sheet .entry)) (meaningOfNode (nodeAt (now (nodes .entry)) i)) && eqb (nodeAt (now (nodes .entry)) i .one) (f .0) && eqb (nodeAt (now (nodes .entry)) i .two) j) ⌝ }
 {
-    let d = captured_at(q, i);
-    if !is_mutable(s, d) {
+    let d = captured_at(nodes, i);
+    if !is_mutable(sheet, d) {
         return false;
     }
     if d.second != f.0 {
@@ -38,63 +38,78 @@ fn is_slot(s: &[u32], q: &[u32], i: u32, f: FunId, j: u32) -> bool
 }
 
 // Is that local in the list whose last node is node `p - 1`?
-fn captures_slot(s: &[u32], q: &[u32], p: u32, f: FunId, j: u32) -> bool
-    ensures { λ x. ⌜ x ≡ handsOn (now (s .entry)) (f .0) j (chainTo (now (q .entry)) p) ⌝ }
+fn captures_slot(sheet: &[u32], nodes: &[u32], p: u32, f: FunId, j: u32) -> bool
+    ensures { λ x. ⌜ x ≡ handsOn (now (sheet .entry)) (f .0) j (chainTo (now (nodes .entry)) p) ⌝ }
 {
     let mut i = p;
     while 0 < i {
         i -= 1;
-        if is_slot(s, q, i, f, j) {
+        if is_slot(sheet, nodes, i, f, j) {
             return true;
         }
-        i = node_before(q, i);
+        i = node_before(nodes, i);
     }
     false
 }
 
 // Does slot `j` of function `f` escape? Asks the function of each literal that stands in `f`.
-fn hands_on(s: &[u32], t: &[u32], q: &[u32], heads: &[u32], nexts: &[u32], f: FunId, j: u32) -> bool
-    requires { ⌜ (f .0 < rows (now s)) × (LiteralChains (now s) (now t) (now heads) (now nexts)) ⌝ }
-    ensures { λ x. ⌜ x ≡ escapes (now (s .entry)) (now (t .entry)) (now (q .entry)) (f .0) j ⌝ }
+fn hands_on(
+    sheet: &[u32],
+    results: &[u32],
+    nodes: &[u32],
+    literals: &[u32],
+    siblings: &[u32],
+    f: FunId,
+    j: u32,
+) -> bool
+    requires { ⌜ (f .0 < rows (now sheet)) × (LiteralChains (now sheet) (now results) (now literals) (now siblings)) ⌝ }
+    ensures { λ x. ⌜ x ≡ escapes (now (sheet .entry)) (now (results .entry)) (now (nodes .entry)) (f .0) j ⌝ }
 {
-    let mut n = s.len() / 8;
-    let mut l = entry_at(heads, f.0);
+    let mut n = sheet.len() / 8;
+    let mut l = entry_at(literals, f.0);
     while 0 < n {
         if l == 0 {
             return false;
         }
         n -= 1;
-        let fun = word(s, l, 2);
-        if captures_slot(s, q, word(t, fun, 6), f, j) {
+        let fun = word(sheet, l, 2);
+        if captures_slot(sheet, nodes, word(results, fun, 6), f, j) {
             return true;
         }
-        l = entry_at(nexts, l);
+        l = entry_at(siblings, l);
     }
     false
 }
 
 // How many slots to ask: the local count, or none where no literal stands in function `f`.
-fn slots_asked(t: &[u32], heads: &[u32], f: FunId) -> u32
-    ensures { λ x. ⌜ x ≡ slotsAsked (now (t .entry)) (now (heads .entry)) (f .0) ⌝ }
+fn slots_asked(results: &[u32], literals: &[u32], f: FunId) -> u32
+    ensures { λ x. ⌜ x ≡ slotsAsked (now (results .entry)) (now (literals .entry)) (f .0) ⌝ }
 {
-    if entry_at(heads, f.0) == 0 {
+    if entry_at(literals, f.0) == 0 {
         return 0;
     }
-    word(t, f.0, 5)
+    word(results, f.0, 5)
 }
 
 // The number of escaping slots.
-pub fn count_escapes(s: &[u32], t: &[u32], q: &[u32], heads: &[u32], nexts: &[u32], f: FunId) -> u32
-    requires { ⌜ (f .0 < rows (now s)) × (LiteralChains (now s) (now t) (now heads) (now nexts)) ⌝ }
-    ensures { λ x. ⌜ ((o : Store) → x ≡ length (escapingSlots (now (s .entry)) (storeOf o (now (t .entry)) (now (q .entry))) (f .0))) ⌝ }
+pub fn count_escapes(
+    sheet: &[u32],
+    results: &[u32],
+    nodes: &[u32],
+    literals: &[u32],
+    siblings: &[u32],
+    f: FunId,
+) -> u32
+    requires { ⌜ (f .0 < rows (now sheet)) × (LiteralChains (now sheet) (now results) (now literals) (now siblings)) ⌝ }
+    ensures { λ x. ⌜ ((o : Store) → x ≡ length (escapingSlots (now (sheet .entry)) (storeOf o (now (results .entry)) (now (nodes .entry))) (f .0))) ⌝ }
 {
-    let n = slots_asked(t, heads, f);
+    let n = slots_asked(results, literals, f);
     let mut j = 0;
     let mut x = 0;
     while j < n {
         let slot = j;
         j += 1;
-        if hands_on(s, t, q, heads, nexts, f, slot) {
+        if hands_on(sheet, results, nodes, literals, siblings, f, slot) {
             x += 1;
         }
     }
@@ -103,26 +118,26 @@ pub fn count_escapes(s: &[u32], t: &[u32], q: &[u32], heads: &[u32], nexts: &[u3
 
 // A row for each escaping slot, in rising slot.
 pub fn emit_escapes(
-    s: &[u32],
-    t: &[u32],
-    q: &[u32],
-    heads: &[u32],
-    nexts: &[u32],
+    sheet: &[u32],
+    results: &[u32],
+    nodes: &[u32],
+    literals: &[u32],
+    siblings: &[u32],
     f: FunId,
     k: usize,
     out: &mut [u32],
 ) -> usize
-    requires { ⌜ (f .0 < rows (now s)) × (LiteralChains (now s) (now t) (now heads) (now nexts)) ⌝ }
+    requires { ⌜ (f .0 < rows (now sheet)) × (LiteralChains (now sheet) (now results) (now literals) (now siblings)) ⌝ }
     ensures { λ n. ⌜ ((o : Store) → sink n (now (out .exit))
-        ≡ emitAll (map (λ j. eight (f .0 ∷ 5 ∷ j ∷ f .0 ∷ 1 ∷ [])) (escapingSlots (now (s .entry)) (storeOf o (now (t .entry)) (now (q .entry))) (f .0))) (sink k (now (out .entry)))) ⌝ }
+        ≡ emitAll (map (λ j. eight (f .0 ∷ 5 ∷ j ∷ f .0 ∷ 1 ∷ [])) (escapingSlots (now (sheet .entry)) (storeOf o (now (results .entry)) (now (nodes .entry))) (f .0))) (sink k (now (out .entry)))) ⌝ }
 {
-    let last = slots_asked(t, heads, f);
+    let last = slots_asked(results, literals, f);
     let mut j = 0;
     let mut n = k;
     while j < last {
         let slot = j;
         j += 1;
-        if hands_on(s, t, q, heads, nexts, f, slot) {
+        if hands_on(sheet, results, nodes, literals, siblings, f, slot) {
             let x = Decl::Local {
                 idx: slot,
                 src_fun: f,

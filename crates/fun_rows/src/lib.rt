@@ -45,106 +45,136 @@ fn emit_words(r: u32, x: [u32; 4], k: usize, out: &mut [u32]) -> usize
     emit(out, k, row)
 }
 
-// The row of sheet row `r`, told as a declaration.
-fn emit_decl(r: u32, d: Decl, k: usize, out: &mut [u32]) -> usize
-    ensures { λ n. ⌜ sink n (now (out .exit)) ≡ emitted (answerRow r (codeAndValues d)) (sink k (now (out .entry))) ⌝ }
+// The row of sheet `row`, told as a declaration.
+fn emit_decl(row: u32, d: Decl, k: usize, out: &mut [u32]) -> usize
+    ensures { λ n. ⌜ sink n (now (out .exit)) ≡ emitted (answerRow row (codeAndValues d)) (sink k (now (out .entry))) ⌝ }
 {
-    emit_words(r, d.words(), k, out)
+    emit_words(row, d.words(), k, out)
 }
 
 // The row of a let, identifier, host constant, instanceof or member, as the table has it.
-pub fn emit_row(t: &[u32], r: u32, k: usize, out: &mut [u32]) -> usize
-    ensures { λ n. ⌜ sink n (now (out .exit)) ≡ emitted (answerRow r (rowWords (now (t .entry)) r)) (sink k (now (out .entry))) ⌝ }
+pub fn emit_row(results: &[u32], row: u32, k: usize, out: &mut [u32]) -> usize
+    ensures { λ n. ⌜ sink n (now (out .exit)) ≡ emitted (answerRow row (rowWords (now (results .entry)) row)) (sink k (now (out .entry))) ⌝ }
 {
-    let x = [word(t, r, 0), word(t, r, 1), word(t, r, 2), word(t, r, 3)];
-    emit_words(r, x, k, out)
+    let x = [
+        word(results, row, 0),
+        word(results, row, 1),
+        word(results, row, 2),
+        word(results, row, 3),
+    ];
+    emit_words(row, x, k, out)
 }
 
 // The local or argument that node `i` of a capture list stands for.
-fn captured_at(q: &[u32], i: u32) -> OpenDecl
-    ensures { λ x. ⌜ x ≡ record { tag = 6; first = nodeWord (now (q .entry)) i 1; second = nodeWord (now (q .entry)) i 2; slot = nodeWord (now (q .entry)) i 3 } ⌝ }
+fn captured_at(nodes: &[u32], i: u32) -> OpenDecl
+    ensures { λ x. ⌜ x ≡ record { tag = 6; first = nodeWord (now (nodes .entry)) i 1; second = nodeWord (now (nodes .entry)) i 2; slot = nodeWord (now (nodes .entry)) i 3 } ⌝ }
 {
     OpenDecl {
         tag: 6,
-        first: node_word(q, i, 1),
-        second: node_word(q, i, 2),
-        slot: node_word(q, i, 3),
+        first: node_word(nodes, i, 1),
+        second: node_word(nodes, i, 2),
+        slot: node_word(nodes, i, 3),
     }
 }
 
 // What a function captures, by rising index: the list whose last node is node `p - 1`.
-fn emit_captured(s: &[u32], q: &[u32], r: u32, p: u32, k: usize, out: &mut [u32]) -> usize
-    requires { ⌜ length (now s) ≤ 16384 ⌝ }
+fn emit_captured(sheet: &[u32], nodes: &[u32], row: u32, p: u32, k: usize, out: &mut [u32]) -> usize
+    requires { ⌜ length (now sheet) ≤ 16384 ⌝ }
     ensures { λ n. ⌜ sink n (now (out .exit))
-        ≡ emitAll (map (λ y. eight (r ∷ codeOf (now (s .entry)) (meaningOfNode y) (y .two) 0)) (chainTo (now (q .entry)) p)) (sink k (now (out .entry))) ⌝ }
+        ≡ emitAll (map (λ y. eight (row ∷ codeOf (now (sheet .entry)) (meaningOfNode y) (y .two) 0)) (chainTo (now (nodes .entry)) p)) (sink k (now (out .entry))) ⌝ }
 {
     if p == 0 {
         return k;
     }
     let i = p - 1;
-    let n = emit_captured(s, q, r, node_before(q, i), k, out);
-    let x = code_of(s, captured_at(q, i));
-    emit_decl(r, x, n, out)
+    let n = emit_captured(sheet, nodes, row, node_before(nodes, i), k, out);
+    let x = code_of(sheet, captured_at(nodes, i));
+    emit_decl(row, x, n, out)
 }
 
 // What a literal that stands in function `fun` hands on, in the same order.
 fn emit_sources(
-    s: &[u32],
-    t: &[u32],
-    q: &[u32],
-    r: u32,
+    sheet: &[u32],
+    results: &[u32],
+    nodes: &[u32],
+    row: u32,
     fun: FunId,
     p: u32,
     k: usize,
     out: &mut [u32],
 ) -> usize
-    requires { ⌜ length (now s) ≤ 16384 ⌝ }
+    requires { ⌜ length (now sheet) ≤ 16384 ⌝ }
     ensures { λ n. ⌜ ((o : Store) → sink n (now (out .exit))
-        ≡ emitAll (map (λ y. eight (r ∷ seenIn (now (s .entry)) (meaningOfNode y) (y .two) 0 (fun .0) (storeOf o (now (t .entry)) (now (q .entry))))) (chainTo (now (q .entry)) p)) (sink k (now (out .entry)))) ⌝ }
+        ≡ emitAll (map (λ y. eight (row ∷ seenIn (now (sheet .entry)) (meaningOfNode y) (y .two) 0 (fun .0) (storeOf o (now (results .entry)) (now (nodes .entry))))) (chainTo (now (nodes .entry)) p)) (sink k (now (out .entry)))) ⌝ }
 {
     if p == 0 {
         return k;
     }
     let i = p - 1;
-    let n = emit_sources(s, t, q, r, fun, node_before(q, i), k, out);
-    let x = seen_in(s, captured_at(q, i), fun, t, q);
-    emit_decl(r, x, n, out)
+    let n = emit_sources(
+        sheet,
+        results,
+        nodes,
+        row,
+        fun,
+        node_before(nodes, i),
+        k,
+        out,
+    );
+    let x = seen_in(sheet, captured_at(nodes, i), fun, results, nodes);
+    emit_decl(row, x, n, out)
 }
 
-// The rows of literal `r`: one for each source.
-pub fn emit_literal(s: &[u32], t: &[u32], q: &[u32], r: u32, k: usize, out: &mut [u32]) -> usize
-    requires { ⌜ length (now s) ≤ 16384 ⌝ }
+// The rows of literal `row`: one for each source.
+pub fn emit_literal(
+    sheet: &[u32],
+    results: &[u32],
+    nodes: &[u32],
+    row: u32,
+    k: usize,
+    out: &mut [u32],
+) -> usize
+    requires { ⌜ length (now sheet) ≤ 16384 ⌝ }
     ensures { λ n. ⌜ ((o : Store) → sink n (now (out .exit))
-        ≡ emitAll (map (λ vs. eight (r ∷ vs)) (literalRowsIn (now (s .entry)) (storeOf o (now (t .entry)) (now (q .entry))) r)) (sink k (now (out .entry)))) ⌝ }
+        ≡ emitAll (map (λ vs. eight (row ∷ vs)) (literalRowsIn (now (sheet .entry)) (storeOf o (now (results .entry)) (now (nodes .entry))) row)) (sink k (now (out .entry)))) ⌝ }
 {
-    let fun = FunId(word(t, r, 1));
-    let last = word(t, word(s, r, 2), 6);
-    emit_sources(s, t, q, r, fun, last, k, out)
+    let fun = FunId(word(results, row, 1));
+    let last = word(results, word(sheet, row, 2), 6);
+    emit_sources(sheet, results, nodes, row, fun, last, k, out)
 }
 
 // The rows of function `f`: its counts, what it captures, its escaping slots.
 pub fn emit_function(
-    s: &[u32],
-    t: &[u32],
-    q: &[u32],
-    heads: &[u32],
-    nexts: &[u32],
+    sheet: &[u32],
+    results: &[u32],
+    nodes: &[u32],
+    literals: &[u32],
+    siblings: &[u32],
     f: FunId,
     k: usize,
     out: &mut [u32],
 ) -> usize
-    requires { ⌜ (length (now s) ≤ 16384) × (f .0 < rows (now s)) × (LiteralChains (now s) (now t) (now heads) (now nexts)) ⌝ }
+    requires { ⌜ (length (now sheet) ≤ 16384) × (f .0 < rows (now sheet)) × (LiteralChains (now sheet) (now results) (now literals) (now siblings)) ⌝ }
     ensures { λ n. ⌜ ((o : Store) → sink n (now (out .exit))
-        ≡ emitAll (map (λ vs. eight (f .0 ∷ vs)) (functionRowsIn (now (s .entry)) (storeOf o (now (t .entry)) (now (q .entry))) (f .0))) (sink k (now (out .entry)))) ⌝ }
+        ≡ emitAll (map (λ vs. eight (f .0 ∷ vs)) (functionRowsIn (now (sheet .entry)) (storeOf o (now (results .entry)) (now (nodes .entry))) (f .0))) (sink k (now (out .entry)))) ⌝ }
 {
-    let last = word(t, f.0, 6);
+    let last = word(results, f.0, 6);
     let x = [
         20,
-        word(t, f.0, 5),
-        count_nodes(q, last),
-        count_escapes(s, t, q, heads, nexts, f),
+        word(results, f.0, 5),
+        count_nodes(nodes, last),
+        count_escapes(sheet, results, nodes, literals, siblings, f),
     ];
     let counted = emit_words(f.0, x, k, out);
-    let captured = emit_captured(s, q, f.0, last, counted, out);
-    emit_escapes(s, t, q, heads, nexts, f, captured, out)
+    let captured = emit_captured(sheet, nodes, f.0, last, counted, out);
+    emit_escapes(
+        sheet,
+        results,
+        nodes,
+        literals,
+        siblings,
+        f,
+        captured,
+        out,
+    )
 }

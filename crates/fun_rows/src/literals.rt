@@ -1,5 +1,5 @@
-// The literals that stand in each function, chained in rising row: entry `f` of the heads is the first that stands in function `f`, and
-// entry `l` of the nexts the one after literal `l`. An entry of 0 ends a chain.
+// The literals that stand in each function, chained in rising row: entry `f` of `literals` is the first that stands in function `f`, and
+// entry `l` of `siblings` the one after literal `l`. An entry of 0 ends a chain.
 ghost use mathlib.Core.Path.{_≡_};
 ghost use Prim.Native.Nat.{_≤_};
 ghost use lib.ListN.{length};
@@ -11,27 +11,32 @@ use classes::put_entry;
 use tree::words::word;
 
 // Is row `l` a literal that the walk reached?
-fn is_reached(s: &[u32], t: &[u32], l: u32) -> bool
-    ensures { λ x. ⌜ x ≡ isReached (now (s .entry)) (now (t .entry)) l ⌝ }
+fn is_reached(sheet: &[u32], results: &[u32], l: u32) -> bool
+    ensures { λ x. ⌜ x ≡ isReached (now (sheet .entry)) (now (results .entry)) l ⌝ }
 {
-    if word(s, l, 0) == 52 {
-        return word(t, l, 0) == 1;
+    if word(sheet, l, 0) == 52 {
+        return word(results, l, 0) == 1;
     }
     false
 }
 
 // Chains the literals, from the last row down. Row 0 is the header and no literal.
-pub fn link_literals(s: &[u32], t: &[u32], heads: &mut [u32], nexts: &mut [u32])
-    requires { ⌜ (length (now s) ≤ 16384) × (kind (now s) 0 ≡ 0) × (Clear (now heads)) × (rows (now s) ≤ length (now heads)) × (rows (now s) ≤ length (now nexts)) ⌝ }
-    ensures { λ _. ⌜ LiteralChains (now (s .entry)) (now (t .entry)) (now (heads .exit)) (now (nexts .exit)) ⌝ }
+pub fn link_literals(
+    sheet: &[u32],
+    results: &[u32],
+    literals: &mut [u32],
+    siblings: &mut [u32],
+)
+    requires { ⌜ (length (now sheet) ≤ 16384) × (kind (now sheet) 0 ≡ 0) × (Clear (now literals)) × (rows (now sheet) ≤ length (now literals)) × (rows (now sheet) ≤ length (now siblings)) ⌝ }
+    ensures { λ _. ⌜ LiteralChains (now (sheet .entry)) (now (results .entry)) (now (literals .exit)) (now (siblings .exit)) ⌝ }
 {
-    let mut l = (s.len() / 8) as u32;
+    let mut l = (sheet.len() / 8) as u32;
     while 1 < l {
         l -= 1;
-        if is_reached(s, t, l) {
-            let fun = word(t, l, 1);
-            put_entry(nexts, l, entry_at(heads, fun));
-            put_entry(heads, fun, l);
+        if is_reached(sheet, results, l) {
+            let fun = word(results, l, 1);
+            put_entry(siblings, l, entry_at(literals, fun));
+            put_entry(literals, fun, l);
         }
     }
 }

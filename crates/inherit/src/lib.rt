@@ -42,71 +42,71 @@ const NO_REFUSAL: Refusal = Refusal {
 };
 
 // The parent of a class as the walk stored it, or class 0.
-pub fn parent_of(s: &[u32], t: &[u32], c: ClassId) -> ClassId
-    ensures { λ x. ⌜ ((o : Store) (q : List ℕ) → x .0 ≡ parentIn (now (s .entry)) (storeOf o (now (t .entry)) q) (c .0)) ⌝ }
+pub fn parent_of(sheet: &[u32], results: &[u32], c: ClassId) -> ClassId
+    ensures { λ x. ⌜ ((o : Store) (nodes : List ℕ) → x .0 ≡ parentIn (now (sheet .entry)) (storeOf o (now (results .entry)) nodes) (c .0)) ⌝ }
 {
-    if is_class_row(s, c) {
-        return ClassId(word(t, c.0 - FIRST_CLASS, 1));
+    if is_class_row(sheet, c) {
+        return ClassId(word(results, c.0 - FIRST_CLASS, 1));
     }
     ClassId(0)
 }
 
 // Is a parent a class without a record? Class 0 is no parent.
-fn lacks_record(s: &[u32], outside: &[u32], c: ClassId) -> bool
-    ensures { λ x. ⌜ x ≡ lacksRecord (over (now (outside .entry))) (now (s .entry)) (c .0) ⌝ }
+fn lacks_record(sheet: &[u32], outside: &[u32], c: ClassId) -> bool
+    ensures { λ x. ⌜ x ≡ lacksRecord (over (now (outside .entry))) (now (sheet .entry)) (c .0) ⌝ }
 {
     if c.0 != 0 {
-        return !has_record(s, outside, c);
+        return !has_record(sheet, outside, c);
     }
     false
 }
 
-// A question on the class of row `r`, answered no.
-fn refuse_class(s: &[u32], number: u32, r: u32) -> Refusal
-    ensures { λ x. ⌜ refusalOf x ≡ ask number r (a (now (s .entry)) r) false ⌝ }
+// A question on the class of `row`, answered no.
+fn refuse_class(sheet: &[u32], number: u32, row: u32) -> Refusal
+    ensures { λ x. ⌜ refusalOf x ≡ ask number row (a (now (sheet .entry)) row) false ⌝ }
 {
     Refusal {
         number: number,
-        at: r,
-        name: word(s, r, 6),
+        at: row,
+        name: word(sheet, row, 6),
     }
 }
 
 // The questions 18 and 19 on the class of row `r` and then on its ancestors. A class climbed through is marked with `r + 1`. One with a
 // mark of an earlier climb was climbed through to the top without a no, so the climb stops there.
-fn climb(s: &[u32], outside: &[u32], t: &[u32], marks: &mut [u32], r: u32) -> Refusal
-    requires { ⌜ (length (now s) ≤ 8 * length (now marks)) × (r ≤ 2048) × (Marked r (now marks)) × (8 * rows (now s) ≡ length (now s)) × ((o : Store) (q : List ℕ) → Climbed (over (now outside)) (now s) (storeOf o (now t) q) (now marks)) ⌝ }
-    ensures { λ x. ⌜ ((o : Store) (q : List ℕ) → refusalOf x ≡ climbIn (over (now (outside .entry))) (now (s .entry)) (storeOf o (now (t .entry)) q) (suc (rows (now (s .entry)))) [] (256 + r)) × (Marked (r + 1) (now (marks .exit))) × (x .number ≡ 0 → (o : Store) (q : List ℕ) → Climbed (over (now (outside .entry))) (now (s .entry)) (storeOf o (now (t .entry)) q) (now (marks .exit))) ⌝ }
+fn climb(sheet: &[u32], outside: &[u32], results: &[u32], climbed: &mut [u32], r: u32) -> Refusal
+    requires { ⌜ (length (now sheet) ≤ 8 * length (now climbed)) × (r ≤ 2048) × (Marked r (now climbed)) × (8 * rows (now sheet) ≡ length (now sheet)) × ((o : Store) (nodes : List ℕ) → Climbed (over (now outside)) (now sheet) (storeOf o (now results) nodes) (now climbed)) ⌝ }
+    ensures { λ x. ⌜ ((o : Store) (nodes : List ℕ) → refusalOf x ≡ climbIn (over (now (outside .entry))) (now (sheet .entry)) (storeOf o (now (results .entry)) nodes) (suc (rows (now (sheet .entry)))) [] (256 + r)) × (Marked (r + 1) (now (climbed .exit))) × (x .number ≡ 0 → (o : Store) (nodes : List ℕ) → Climbed (over (now (outside .entry))) (now (sheet .entry)) (storeOf o (now (results .entry)) nodes) (now (climbed .exit))) ⌝ }
 {
     let mut c = FIRST_CLASS + r;
-    while is_class_row(s, ClassId(c)) {
+    while is_class_row(sheet, ClassId(c)) {
         let row = c - FIRST_CLASS;
-        let mark = marks[row as usize];
+        let mark = climbed[row as usize];
         if mark == r + 1 {
-            return refuse_class(s, 18, row);
+            return refuse_class(sheet, 18, row);
         }
         if mark != 0 {
             return NO_REFUSAL;
         }
-        let up = parent_of(s, t, ClassId(c));
-        if lacks_record(s, outside, up) {
-            return refuse_class(s, 19, row);
+        let up = parent_of(sheet, results, ClassId(c));
+        if lacks_record(sheet, outside, up) {
+            return refuse_class(sheet, 19, row);
         }
-        marks[row as usize] = r + 1;
+        climbed[row as usize] = r + 1;
         c = up.0;
     }
     NO_REFUSAL
 }
 
 // The first no of the questions 18 and 19, classes in row order.
-fn check_classes(s: &[u32], outside: &[u32], t: &[u32], marks: &mut [u32]) -> Refusal
-    requires { ⌜ (length (now s) ≤ 16384) × (length (now s) ≤ 8 * length (now marks)) × (Marked 0 (now marks)) × (8 * rows (now s) ≡ length (now s)) ⌝ }
-    ensures { λ x. ⌜ ((o : Store) (q : List ℕ) → refusalOf x ≡ classesRefusal (over (now (outside .entry))) (now (s .entry)) (storeOf o (now (t .entry)) q)) ⌝ }
+fn check_classes(sheet: &[u32], outside: &[u32], results: &[u32], climbed: &mut [u32]) -> Refusal
+    requires { ⌜ (length (now sheet) ≤ 16384) × (length (now sheet) ≤ 8 * length (now climbed)) × (Marked 0 (now climbed)) × (8 * rows (now sheet) ≡ length (now sheet)) ⌝ }
+    ensures { λ x. ⌜ ((o : Store) (nodes : List ℕ) → refusalOf x ≡ classesRefusal (over (now (outside .entry))) (now (sheet .entry)) (storeOf o (now (results .entry)) nodes)) ⌝ }
 {
     let mut r: u32 = 0;
-    while (r as usize) < s.len() / 8 {
-        if word(s, r, 0) == 4 {
-            let x = climb(s, outside, t, marks, r);
+    while (r as usize) < sheet.len() / 8 {
+        if word(sheet, r, 0) == 4 {
+            let x = climb(sheet, outside, results, climbed, r);
             if x.number != 0 {
                 return x;
             }
@@ -117,18 +117,18 @@ fn check_classes(s: &[u32], outside: &[u32], t: &[u32], marks: &mut [u32]) -> Re
 }
 
 // The method of name `n` that a class has, its own or inherited.
-pub fn find_method(s: &[u32], outside: &[u32], t: &[u32], c: ClassId, n: u32) -> Method
-    ensures { λ x. ⌜ ((o : Store) (q : List ℕ) → Tells n (methodsIn (over (now (outside .entry))) (now (s .entry)) (storeOf o (now (t .entry)) q) (rows (now (s .entry))) (c .0)) x) ⌝ }
+pub fn find_method(sheet: &[u32], outside: &[u32], results: &[u32], c: ClassId, n: u32) -> Method
+    ensures { λ x. ⌜ ((o : Store) (nodes : List ℕ) → Tells n (methodsIn (over (now (outside .entry))) (now (sheet .entry)) (storeOf o (now (results .entry)) nodes) (rows (now (sheet .entry))) (c .0)) x) ⌝ }
 {
-    let mut left = s.len() / 8;
+    let mut left = sheet.len() / 8;
     let mut at = c.0;
     while 0 < left {
-        let own = own_method(s, outside, ClassId(at), n);
+        let own = own_method(sheet, outside, ClassId(at), n);
         let fun = own.fun;
         if fun.0 != 0 {
             return own;
         }
-        let up = parent_of(s, t, ClassId(at));
+        let up = parent_of(sheet, results, ClassId(at));
         if up.0 == 0 {
             return own;
         }
@@ -138,13 +138,13 @@ pub fn find_method(s: &[u32], outside: &[u32], t: &[u32], c: ClassId, n: u32) ->
     NO_METHOD
 }
 
-// The questions 20 and 21 on constructor call `r` of a class. The constructor also takes the new object.
-fn check_call(s: &[u32], outside: &[u32], t: &[u32], r: u32, c: ClassId) -> Refusal
-    ensures { λ x. ⌜ ((o : Store) (q : List ℕ) (two : ℕ) → refusalOf x ≡ checkCallIn (over (now (outside .entry))) (now (s .entry)) (storeOf o (now (t .entry)) q) (record { key = r; one = c .0; two = two })) ⌝ }
+// The questions 20 and 21 on constructor call `row` of a class. The constructor also takes the new object.
+fn check_call(sheet: &[u32], outside: &[u32], results: &[u32], row: u32, c: ClassId) -> Refusal
+    ensures { λ x. ⌜ ((o : Store) (nodes : List ℕ) (two : ℕ) → refusalOf x ≡ checkCallIn (over (now (outside .entry))) (now (sheet .entry)) (storeOf o (now (results .entry)) nodes) (record { key = row; one = c .0; two = two })) ⌝ }
 {
-    let init = find_method(s, outside, t, c, INIT);
-    let at = word(s, r, 2);
-    let name = class_name(s, outside, c);
+    let init = find_method(sheet, outside, results, c, INIT);
+    let at = word(sheet, row, 2);
+    let name = class_name(sheet, outside, c);
     let fun = init.fun;
     if fun.0 == 0 {
         return Refusal {
@@ -153,7 +153,7 @@ fn check_call(s: &[u32], outside: &[u32], t: &[u32], r: u32, c: ClassId) -> Refu
             name: name,
         };
     }
-    if arguments(s, r) + 1 == init.params {
+    if arguments(sheet, row) + 1 == init.params {
         return NO_REFUSAL;
     }
     Refusal {
@@ -164,21 +164,27 @@ fn check_call(s: &[u32], outside: &[u32], t: &[u32], r: u32, c: ClassId) -> Refu
 }
 
 // The first no of the questions 20 and 21. The list is walked from the last call back, so that an earlier no replaces a later one.
-fn check_ctor_calls(s: &[u32], outside: &[u32], t: &[u32], q: &[u32], calls: u32) -> Refusal
-    ensures { λ x. ⌜ ((o : Store) → o .calls ≡ calls → refusalOf x ≡ callsRefusal (over (now (outside .entry))) (now (s .entry)) (storeOf o (now (t .entry)) (now (q .entry)))) ⌝ }
+fn check_ctor_calls(
+    sheet: &[u32],
+    outside: &[u32],
+    results: &[u32],
+    nodes: &[u32],
+    calls: u32,
+) -> Refusal
+    ensures { λ x. ⌜ ((o : Store) → o .calls ≡ calls → refusalOf x ≡ callsRefusal (over (now (outside .entry))) (now (sheet .entry)) (storeOf o (now (results .entry)) (now (nodes .entry)))) ⌝ }
 {
     let mut x = NO_REFUSAL;
     let mut i = calls;
     while 0 < i {
         i -= 1;
         let y = check_call(
-            s,
+            sheet,
             outside,
-            t,
-            node_word(q, i, 1),
-            ClassId(node_word(q, i, 2)),
+            results,
+            node_word(nodes, i, 1),
+            ClassId(node_word(nodes, i, 2)),
         );
-        i = node_before(q, i);
+        i = node_before(nodes, i);
         if y.number != 0 {
             x = y;
         }
@@ -188,19 +194,19 @@ fn check_ctor_calls(s: &[u32], outside: &[u32], t: &[u32], q: &[u32], calls: u32
 
 // The first no of the questions that follow the walk.
 pub fn later_refusal(
-    s: &[u32],
+    sheet: &[u32],
     outside: &[u32],
-    t: &[u32],
-    q: &[u32],
-    marks: &mut [u32],
+    results: &[u32],
+    nodes: &[u32],
+    climbed: &mut [u32],
     calls: u32,
 ) -> Refusal
-    requires { ⌜ (length (now s) ≤ 16384) × (length (now s) ≤ 8 * length (now marks)) × (Marked 0 (now marks)) × (8 * rows (now s) ≡ length (now s)) ⌝ }
-    ensures { λ x. ⌜ ((o : Store) → o .calls ≡ calls → refusalOf x ≡ firstNo (classesRefusal (over (now (outside .entry))) (now (s .entry)) (storeOf o (now (t .entry)) (now (q .entry))) ∷ callsRefusal (over (now (outside .entry))) (now (s .entry)) (storeOf o (now (t .entry)) (now (q .entry))) ∷ [])) ⌝ }
+    requires { ⌜ (length (now sheet) ≤ 16384) × (length (now sheet) ≤ 8 * length (now climbed)) × (Marked 0 (now climbed)) × (8 * rows (now sheet) ≡ length (now sheet)) ⌝ }
+    ensures { λ x. ⌜ ((o : Store) → o .calls ≡ calls → refusalOf x ≡ firstNo (classesRefusal (over (now (outside .entry))) (now (sheet .entry)) (storeOf o (now (results .entry)) (now (nodes .entry))) ∷ callsRefusal (over (now (outside .entry))) (now (sheet .entry)) (storeOf o (now (results .entry)) (now (nodes .entry))) ∷ [])) ⌝ }
 {
-    let x = check_classes(s, outside, t, marks);
+    let x = check_classes(sheet, outside, results, climbed);
     if x.number != 0 {
         return x;
     }
-    check_ctor_calls(s, outside, t, q, calls)
+    check_ctor_calls(sheet, outside, results, nodes, calls)
 }

@@ -88,21 +88,21 @@ fn find_record(outside: &[u32], c: ClassId) -> Recorded
 }
 
 // Has a class a record? Those of the sheet have, and some from outside.
-pub fn has_record(s: &[u32], outside: &[u32], c: ClassId) -> bool
-    ensures { λ x. ⌜ x ≡ hasRecord (over (now (outside .entry))) (now (s .entry)) (c .0) ⌝ }
+pub fn has_record(sheet: &[u32], outside: &[u32], c: ClassId) -> bool
+    ensures { λ x. ⌜ x ≡ hasRecord (over (now (outside .entry))) (now (sheet .entry)) (c .0) ⌝ }
 {
-    if is_class_row(s, c) {
+    if is_class_row(sheet, c) {
         return true;
     }
     find_record(outside, c).some
 }
 
 // The name of a class that has a record.
-pub fn class_name(s: &[u32], outside: &[u32], c: ClassId) -> u32
-    ensures { λ x. ⌜ x ≡ className (over (now (outside .entry))) (now (s .entry)) (c .0) ⌝ }
+pub fn class_name(sheet: &[u32], outside: &[u32], c: ClassId) -> u32
+    ensures { λ x. ⌜ x ≡ className (over (now (outside .entry))) (now (sheet .entry)) (c .0) ⌝ }
 {
-    if is_class_row(s, c) {
-        return word(s, c.0 - FIRST_CLASS, 6);
+    if is_class_row(sheet, c) {
+        return word(sheet, c.0 - FIRST_CLASS, 6);
     }
     find_record(outside, c).name
 }
@@ -127,24 +127,24 @@ fn recorded_method(outside: &[u32], at: u32, count: u32, n: u32) -> Method
 }
 
 // The method of the sheet that is function `f`; none for function 0.
-fn listed_method(s: &[u32], f: FunId) -> Method
-    ensures { λ x. ⌜ (x .fun .0 ≡ f .0) × (x .params ≡ (if eqb (f .0) 0 then 0 else arityOf (now (s .entry)) (f .0))) ⌝ }
+fn listed_method(sheet: &[u32], f: FunId) -> Method
+    ensures { λ x. ⌜ (x .fun .0 ≡ f .0) × (x .params ≡ (if eqb (f .0) 0 then 0 else arityOf (now (sheet .entry)) (f .0))) ⌝ }
 {
     if f.0 == 0 {
         return NO_METHOD;
     }
     Method {
         fun: f,
-        params: arity(s, f),
+        params: arity(sheet, f),
     }
 }
 
 // The own method of name `n` of a class.
-pub fn own_method(s: &[u32], outside: &[u32], c: ClassId, n: u32) -> Method
-    ensures { λ x. ⌜ Tells n (ownMethods (over (now (outside .entry))) (now (s .entry)) (c .0)) x ⌝ }
+pub fn own_method(sheet: &[u32], outside: &[u32], c: ClassId, n: u32) -> Method
+    ensures { λ x. ⌜ Tells n (ownMethods (over (now (outside .entry))) (now (sheet .entry)) (c .0)) x ⌝ }
 {
-    if is_class_row(s, c) {
-        return listed_method(s, FunId(first_named(s, c.0 - FIRST_CLASS, 6, n)));
+    if is_class_row(sheet, c) {
+        return listed_method(sheet, FunId(first_named(sheet, c.0 - FIRST_CLASS, 6, n)));
     }
     let x = find_record(outside, c);
     recorded_method(outside, x.method, x.methods, n)

@@ -24,175 +24,265 @@ use walk::scopes::close_scope;
 use walk::state::Walk;
 
 // The place of the next part after row `k`, which is part `i` if it is one.
-fn place_after(s: &[u32], k: u32, i: usize) -> usize
+fn place_after(sheet: &[u32], k: u32, i: usize) -> usize
     requires { ⌜ i ≤ 16384 ⌝ }
-    ensures { λ x. ⌜ x ≡ (if isPart (now (s .entry)) k then suc i else i) ⌝ }
+    ensures { λ x. ⌜ x ≡ (if isPart (now (sheet .entry)) k then suc i else i) ⌝ }
 {
-    if is_part(s, k) { i + 1 } else { i }
+    if is_part(sheet, k) { i + 1 } else { i }
 }
 
 // A unit: its imports and classes in a scope of their own, and its function.
 fn resolve_unit(
-    s: &[u32],
+    sheet: &[u32],
     outside: &[u32],
     classes: &[u32],
     row: u32,
     left: usize,
-    w: Walk,
-    v: &mut [u32],
-    t: &mut [u32],
-    q: &mut [u32],
+    walk: Walk,
+    entries: &mut [u32],
+    results: &mut [u32],
+    nodes: &mut [u32],
 ) -> Walk
-    requires { ⌜ (Prepared (now s) (now classes)) × (kind (now s) row ≡ 2) ⌝ }
-    ensures { λ x. ⌜ stateOf x (now (v .exit)) (now (t .exit)) (now (q .exit)) ≡ walked (over (now (outside .entry))) left (now (s .entry)) row (stateOf w (now (v .entry)) (now (t .entry)) (now (q .entry))) ⌝ }
+    requires { ⌜ (Prepared (now sheet) (now classes)) × (kind (now sheet) row ≡ 2) ⌝ }
+    ensures { λ x. ⌜ stateOf x (now (entries .exit)) (now (results .exit)) (now (nodes .exit)) ≡ walked (over (now (outside .entry))) left (now (sheet .entry)) row (stateOf walk (now (entries .entry)) (now (results .entry)) (now (nodes .entry))) ⌝ }
 {
     if left == 0 {
-        return w;
+        return walk;
     }
-    let a = before_unit(s, row, w, v, t);
-    let b = resolve_parts(s, outside, classes, row, left - 1, a, v, t, q);
-    close_scope(b, v)
+    let a = before_unit(sheet, row, walk, entries, results);
+    let b = resolve_parts(
+        sheet,
+        outside,
+        classes,
+        row,
+        left - 1,
+        a,
+        entries,
+        results,
+        nodes,
+    );
+    close_scope(b, entries)
 }
 
 // A function: its parameters and its body.
 fn resolve_fun(
-    s: &[u32],
+    sheet: &[u32],
     outside: &[u32],
     classes: &[u32],
     row: u32,
     left: usize,
-    w: Walk,
-    v: &mut [u32],
-    t: &mut [u32],
-    q: &mut [u32],
+    walk: Walk,
+    entries: &mut [u32],
+    results: &mut [u32],
+    nodes: &mut [u32],
 ) -> Walk
-    requires { ⌜ (Prepared (now s) (now classes)) × (kind (now s) row ≡ 6) ⌝ }
-    ensures { λ x. ⌜ stateOf x (now (v .exit)) (now (t .exit)) (now (q .exit)) ≡ walked (over (now (outside .entry))) left (now (s .entry)) row (stateOf w (now (v .entry)) (now (t .entry)) (now (q .entry))) ⌝ }
+    requires { ⌜ (Prepared (now sheet) (now classes)) × (kind (now sheet) row ≡ 6) ⌝ }
+    ensures { λ x. ⌜ stateOf x (now (entries .exit)) (now (results .exit)) (now (nodes .exit)) ≡ walked (over (now (outside .entry))) left (now (sheet .entry)) row (stateOf walk (now (entries .entry)) (now (results .entry)) (now (nodes .entry))) ⌝ }
 {
     if left == 0 {
-        return w;
+        return walk;
     }
-    let a = before_fun(s, row, w, v, t);
-    let b = resolve_parts(s, outside, classes, row, left - 1, a, v, t, q);
-    close_scope(b, v)
+    let a = before_fun(sheet, row, walk, entries, results);
+    let b = resolve_parts(
+        sheet,
+        outside,
+        classes,
+        row,
+        left - 1,
+        a,
+        entries,
+        results,
+        nodes,
+    );
+    close_scope(b, entries)
 }
 
 // A statement: its parts left to right, then the check on it.
 fn resolve_stmt(
-    s: &[u32],
+    sheet: &[u32],
     outside: &[u32],
     classes: &[u32],
     row: u32,
     left: usize,
-    w: Walk,
-    v: &mut [u32],
-    t: &mut [u32],
-    q: &mut [u32],
+    walk: Walk,
+    entries: &mut [u32],
+    results: &mut [u32],
+    nodes: &mut [u32],
 ) -> Walk
-    requires { ⌜ (Prepared (now s) (now classes)) × (7 < kind (now s) row) × (kind (now s) row < 40) ⌝ }
-    ensures { λ x. ⌜ stateOf x (now (v .exit)) (now (t .exit)) (now (q .exit)) ≡ walked (over (now (outside .entry))) left (now (s .entry)) row (stateOf w (now (v .entry)) (now (t .entry)) (now (q .entry))) ⌝ }
+    requires { ⌜ (Prepared (now sheet) (now classes)) × (7 < kind (now sheet) row) × (kind (now sheet) row < 40) ⌝ }
+    ensures { λ x. ⌜ stateOf x (now (entries .exit)) (now (results .exit)) (now (nodes .exit)) ≡ walked (over (now (outside .entry))) left (now (sheet .entry)) row (stateOf walk (now (entries .entry)) (now (results .entry)) (now (nodes .entry))) ⌝ }
 {
     if left == 0 {
-        return w;
+        return walk;
     }
-    let a = before_stmt(s, row, w, v, t);
-    let b = resolve_parts(s, outside, classes, row, left - 1, a, v, t, q);
-    after_stmt(s, classes, row, b, v, t, q)
+    let a = before_stmt(sheet, row, walk, entries, results);
+    let b = resolve_parts(
+        sheet,
+        outside,
+        classes,
+        row,
+        left - 1,
+        a,
+        entries,
+        results,
+        nodes,
+    );
+    after_stmt(sheet, classes, row, b, entries, results, nodes)
 }
 
 // An expression: its parts left to right, then what it means.
 fn resolve_expr(
-    s: &[u32],
+    sheet: &[u32],
     outside: &[u32],
     classes: &[u32],
     row: u32,
     left: usize,
-    w: Walk,
-    v: &mut [u32],
-    t: &mut [u32],
-    q: &mut [u32],
+    walk: Walk,
+    entries: &mut [u32],
+    results: &mut [u32],
+    nodes: &mut [u32],
 ) -> Walk
-    requires { ⌜ (Prepared (now s) (now classes)) × (39 < kind (now s) row) ⌝ }
-    ensures { λ x. ⌜ stateOf x (now (v .exit)) (now (t .exit)) (now (q .exit)) ≡ walked (over (now (outside .entry))) left (now (s .entry)) row (stateOf w (now (v .entry)) (now (t .entry)) (now (q .entry))) ⌝ }
+    requires { ⌜ (Prepared (now sheet) (now classes)) × (39 < kind (now sheet) row) ⌝ }
+    ensures { λ x. ⌜ stateOf x (now (entries .exit)) (now (results .exit)) (now (nodes .exit)) ≡ walked (over (now (outside .entry))) left (now (sheet .entry)) row (stateOf walk (now (entries .entry)) (now (results .entry)) (now (nodes .entry))) ⌝ }
 {
     if left == 0 {
-        return w;
+        return walk;
     }
-    let b = resolve_parts(s, outside, classes, row, left - 1, w, v, t, q);
-    after_expr(s, row, b, v, t, q)
+    let b = resolve_parts(
+        sheet,
+        outside,
+        classes,
+        row,
+        left - 1,
+        walk,
+        entries,
+        results,
+        nodes,
+    );
+    after_expr(sheet, row, b, entries, results, nodes)
 }
 
 // A row that is walked as a part, by its kind.
 fn resolve_any(
-    s: &[u32],
+    sheet: &[u32],
     outside: &[u32],
     classes: &[u32],
     row: u32,
     left: usize,
-    w: Walk,
-    v: &mut [u32],
-    t: &mut [u32],
-    q: &mut [u32],
+    walk: Walk,
+    entries: &mut [u32],
+    results: &mut [u32],
+    nodes: &mut [u32],
 ) -> Walk
-    requires { ⌜ (Prepared (now s) (now classes)) × (isPart (now s) row ≡ true) ⌝ }
-    ensures { λ x. ⌜ stateOf x (now (v .exit)) (now (t .exit)) (now (q .exit)) ≡ walked (over (now (outside .entry))) left (now (s .entry)) row (stateOf w (now (v .entry)) (now (t .entry)) (now (q .entry))) ⌝ }
+    requires { ⌜ (Prepared (now sheet) (now classes)) × (isPart (now sheet) row ≡ true) ⌝ }
+    ensures { λ x. ⌜ stateOf x (now (entries .exit)) (now (results .exit)) (now (nodes .exit)) ≡ walked (over (now (outside .entry))) left (now (sheet .entry)) row (stateOf walk (now (entries .entry)) (now (results .entry)) (now (nodes .entry))) ⌝ }
 {
-    let kind = word(s, row, 0);
+    let kind = word(sheet, row, 0);
     if kind == 2 {
-        return resolve_unit(s, outside, classes, row, left, w, v, t, q);
+        return resolve_unit(
+            sheet,
+            outside,
+            classes,
+            row,
+            left,
+            walk,
+            entries,
+            results,
+            nodes,
+        );
     }
     if kind == 6 {
-        return resolve_fun(s, outside, classes, row, left, w, v, t, q);
+        return resolve_fun(
+            sheet,
+            outside,
+            classes,
+            row,
+            left,
+            walk,
+            entries,
+            results,
+            nodes,
+        );
     }
     if kind < 40 {
-        return resolve_stmt(s, outside, classes, row, left, w, v, t, q);
+        return resolve_stmt(
+            sheet,
+            outside,
+            classes,
+            row,
+            left,
+            walk,
+            entries,
+            results,
+            nodes,
+        );
     }
-    resolve_expr(s, outside, classes, row, left, w, v, t, q)
+    resolve_expr(
+        sheet,
+        outside,
+        classes,
+        row,
+        left,
+        walk,
+        entries,
+        results,
+        nodes,
+    )
 }
 
 // Row `k` of a part list of row `row`, as its part `i` if it is one.
 fn resolve_part(
-    s: &[u32],
+    sheet: &[u32],
     outside: &[u32],
     classes: &[u32],
     row: u32,
     i: usize,
     k: u32,
     left: usize,
-    w: Walk,
-    v: &mut [u32],
-    t: &mut [u32],
-    q: &mut [u32],
+    walk: Walk,
+    entries: &mut [u32],
+    results: &mut [u32],
+    nodes: &mut [u32],
 ) -> Walk
-    requires { ⌜ Prepared (now s) (now classes) ⌝ }
-    ensures { λ x. ⌜ stateOf x (now (v .exit)) (now (t .exit)) (now (q .exit)) ≡ partWalked (over (now (outside .entry))) left (now (s .entry)) row i k (stateOf w (now (v .entry)) (now (t .entry)) (now (q .entry))) ⌝ }
+    requires { ⌜ Prepared (now sheet) (now classes) ⌝ }
+    ensures { λ x. ⌜ stateOf x (now (entries .exit)) (now (results .exit)) (now (nodes .exit)) ≡ partWalked (over (now (outside .entry))) left (now (sheet .entry)) row i k (stateOf walk (now (entries .entry)) (now (results .entry)) (now (nodes .entry))) ⌝ }
 {
-    if !is_part(s, k) {
-        return w;
+    if !is_part(sheet, k) {
+        return walk;
     }
-    let a = resolve_any(s, outside, classes, k, left, w, v, t, q);
-    after_part(s, outside, row, i, a, v, t, q)
+    let a = resolve_any(
+        sheet,
+        outside,
+        classes,
+        k,
+        left,
+        walk,
+        entries,
+        results,
+        nodes,
+    );
+    after_part(sheet, outside, row, i, a, entries, results, nodes)
 }
 
 // The parts of row `row`, left to right. A refused walk returns at once.
 pub fn resolve_parts(
-    s: &[u32],
+    sheet: &[u32],
     outside: &[u32],
     classes: &[u32],
     row: u32,
     left: usize,
-    w: Walk,
-    v: &mut [u32],
-    t: &mut [u32],
-    q: &mut [u32],
+    walk: Walk,
+    entries: &mut [u32],
+    results: &mut [u32],
+    nodes: &mut [u32],
 ) -> Walk
-    requires { ⌜ Prepared (now s) (now classes) ⌝ }
-    ensures { λ x. ⌜ stateOf x (now (v .exit)) (now (t .exit)) (now (q .exit)) ≡ partsWalked (over (now (outside .entry))) left (now (s .entry)) row (stateOf w (now (v .entry)) (now (t .entry)) (now (q .entry))) ⌝ }
+    requires { ⌜ Prepared (now sheet) (now classes) ⌝ }
+    ensures { λ x. ⌜ stateOf x (now (entries .exit)) (now (results .exit)) (now (nodes .exit)) ≡ partsWalked (over (now (outside .entry))) left (now (sheet .entry)) row (stateOf walk (now (entries .entry)) (now (results .entry)) (now (nodes .entry))) ⌝ }
 {
-    let mut n = s.len() / 8;
-    let mut k = part_list(s, row);
+    let mut n = sheet.len() / 8;
+    let mut k = part_list(sheet, row);
     let mut i: usize = 0;
-    let mut a = w;
+    let mut a = walk;
     while 0 < n {
         if k == 0 {
             return a;
@@ -200,9 +290,21 @@ pub fn resolve_parts(
         if a.number != 0 {
             return a;
         }
-        a = resolve_part(s, outside, classes, row, i, k, left, a, v, t, q);
-        i = place_after(s, k, i);
-        k = word(s, k, 1);
+        a = resolve_part(
+            sheet,
+            outside,
+            classes,
+            row,
+            i,
+            k,
+            left,
+            a,
+            entries,
+            results,
+            nodes,
+        );
+        i = place_after(sheet, k, i);
+        k = word(sheet, k, 1);
         n -= 1;
     }
     a

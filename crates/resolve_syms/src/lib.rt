@@ -24,8 +24,8 @@ use tree::words::word;
 use walk::state::Walk;
 
 // What the name of row `i` of the outside means, as the next entry of the open scopes holds it.
-fn visible_at(outside: &[u32], i: u32, e: Env) -> OpenDecl
-    ensures { λ x. ⌜ ((v : List ℕ) → x ≡ entryFor (nameAt (now (outside .entry)) i .means) (scopesOf e v)) ⌝ }
+fn visible_at(outside: &[u32], i: u32, env: Env) -> OpenDecl
+    ensures { λ x. ⌜ ((entries : List ℕ) → x ≡ entryFor (nameAt (now (outside .entry)) i .means) (scopesOf env entries)) ⌝ }
 {
     let number = word(outside, i, 2);
     match word(outside, i, 1) {
@@ -33,28 +33,28 @@ fn visible_at(outside: &[u32], i: u32, e: Env) -> OpenDecl
             tag: 3,
             first: number,
             second: 0,
-            slot: e.slot,
+            slot: env.slot,
         },
         2 => OpenDecl {
             tag: 4,
             first: number,
             second: 0,
-            slot: e.slot,
+            slot: env.slot,
         },
         _ => OpenDecl {
             tag: 5,
             first: number,
             second: word(outside, i, 3),
-            slot: e.slot,
+            slot: env.slot,
         },
     }
 }
 
 // The outermost scope: the names from outside, the first of them innermost. Their rows are those before the first record.
-fn open_names(s: &[u32], outside: &[u32], v: &mut [u32]) -> Env
-    ensures { λ x. ⌜ scopesOf x (now (v .exit)) ≡ openNames (now (s .entry)) (over (now (outside .entry)) .names) (noScopes (now (s .entry)) (now (v .entry))) ⌝ }
+fn open_names(sheet: &[u32], outside: &[u32], entries: &mut [u32]) -> Env
+    ensures { λ x. ⌜ scopesOf x (now (entries .exit)) ≡ openNames (now (sheet .entry)) (over (now (outside .entry)) .names) (noScopes (now (sheet .entry)) (now (entries .entry))) ⌝ }
 {
-    let globals = word(s, 0, 6);
+    let globals = word(sheet, 0, 6);
     let mut e = Env {
         count: 0,
         slot: 0,
@@ -64,7 +64,13 @@ fn open_names(s: &[u32], outside: &[u32], v: &mut [u32]) -> Env
     let mut i = word(outside, 0, 0);
     while 1 < i {
         i -= 1;
-        e = define(s, word(outside, i, 0), visible_at(outside, i, e), e, v);
+        e = define(
+            sheet,
+            word(outside, i, 0),
+            visible_at(outside, i, e),
+            e,
+            entries,
+        );
     }
     e
 }
@@ -72,18 +78,18 @@ fn open_names(s: &[u32], outside: &[u32], v: &mut [u32]) -> Env
 // The units of a sheet resolved, over a table of classes, open entries, a table of results and nodes: refused with the first no of
 // questions 5 to 17, or the buffers hold what the definition's answer rows say.
 pub fn resolve_units(
-    s: &[u32],
+    sheet: &[u32],
     outside: &[u32],
     classes: &mut [u32],
-    v: &mut [u32],
-    t: &mut [u32],
-    q: &mut [u32],
+    entries: &mut [u32],
+    results: &mut [u32],
+    nodes: &mut [u32],
 ) -> Walk
-    requires { ⌜ (PastFour (over (now outside)) (now s)) × (Lent (over (now outside)) (now s) (now classes) (now v) (now t) (now q)) ⌝ }
-    ensures { λ x. ⌜ Walked (over (now (outside .entry))) (now (s .entry)) (stateOf x (now (v .exit)) (now (t .exit)) (now (q .exit))) ⌝ }
+    requires { ⌜ (PastFour (over (now outside)) (now sheet)) × (Lent (over (now outside)) (now sheet) (now classes) (now entries) (now results) (now nodes)) ⌝ }
+    ensures { λ x. ⌜ Walked (over (now (outside .entry))) (now (sheet .entry)) (stateOf x (now (entries .exit)) (now (results .exit)) (now (nodes .exit))) ⌝ }
 {
-    class_table(s, classes);
-    let env = open_names(s, outside, v);
+    class_table(sheet, classes);
+    let env = open_names(sheet, outside, entries);
     let store = Store { used: 0, calls: 0 };
     let w = Walk {
         env: env,
@@ -92,5 +98,15 @@ pub fn resolve_units(
         at: 0,
         name: 0,
     };
-    resolve_parts(s, outside, classes, 0, s.len() / 8 - 1, w, v, t, q)
+    resolve_parts(
+        sheet,
+        outside,
+        classes,
+        0,
+        sheet.len() / 8 - 1,
+        w,
+        entries,
+        results,
+        nodes,
+    )
 }

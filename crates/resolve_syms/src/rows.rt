@@ -32,153 +32,184 @@ use walk::visits::resolve_ident;
 use walk::visits::resolve_parent;
 
 // A unit opens a scope for its imports and classes.
-pub fn before_unit(s: &[u32], r: u32, w: Walk, v: &mut [u32], t: &mut [u32]) -> Walk
-    requires { ⌜ (length (now s) ≤ 16384) × (kind (now s) r ≡ 2) ⌝ }
-    ensures { λ x. ⌜ ((O : Outside) (q : List ℕ) → stateOf x (now (v .exit)) (now (t .exit)) q ≡ runState O (now (s .entry)) (before (now (s .entry)) r) (stateOf w (now (v .entry)) (now (t .entry)) q)) ⌝ }
+pub fn before_unit(
+    sheet: &[u32],
+    row: u32,
+    walk: Walk,
+    entries: &mut [u32],
+    results: &mut [u32],
+) -> Walk
+    requires { ⌜ (length (now sheet) ≤ 16384) × (kind (now sheet) row ≡ 2) ⌝ }
+    ensures { λ x. ⌜ ((O : Outside) (nodes : List ℕ) → stateOf x (now (entries .exit)) (now (results .exit)) nodes ≡ runState O (now (sheet .entry)) (before (now (sheet .entry)) row) (stateOf walk (now (entries .entry)) (now (results .entry)) nodes)) ⌝ }
 {
-    let a = open_scope(s, r, w, v);
-    let b = define_imports(s, r, a, v);
-    declare_kind(s, r, 4, b, v, t)
+    let a = open_scope(sheet, row, walk, entries);
+    let b = define_imports(sheet, row, a, entries);
+    declare_kind(sheet, row, 4, b, entries, results)
 }
 
 // A function opens a scope for its parameters.
-pub fn before_fun(s: &[u32], r: u32, w: Walk, v: &mut [u32], t: &mut [u32]) -> Walk
-    requires { ⌜ (length (now s) ≤ 16384) × (kind (now s) r ≡ 6) ⌝ }
-    ensures { λ x. ⌜ ((O : Outside) (q : List ℕ) → stateOf x (now (v .exit)) (now (t .exit)) q ≡ runState O (now (s .entry)) (before (now (s .entry)) r) (stateOf w (now (v .entry)) (now (t .entry)) q)) ⌝ }
+pub fn before_fun(
+    sheet: &[u32],
+    row: u32,
+    walk: Walk,
+    entries: &mut [u32],
+    results: &mut [u32],
+) -> Walk
+    requires { ⌜ (length (now sheet) ≤ 16384) × (kind (now sheet) row ≡ 6) ⌝ }
+    ensures { λ x. ⌜ ((O : Outside) (nodes : List ℕ) → stateOf x (now (entries .exit)) (now (results .exit)) nodes ≡ runState O (now (sheet .entry)) (before (now (sheet .entry)) row) (stateOf walk (now (entries .entry)) (now (results .entry)) nodes)) ⌝ }
 {
-    let a = open_scope(s, r, w, v);
-    declare_kind(s, r, 11, a, v, t)
+    let a = open_scope(sheet, row, walk, entries);
+    declare_kind(sheet, row, 11, a, entries, results)
 }
 
 // A block opens a scope and declares its literal lets first.
-fn before_block(s: &[u32], r: u32, w: Walk, v: &mut [u32], t: &mut [u32]) -> Walk
-    requires { ⌜ (length (now s) ≤ 16384) × (kind (now s) r ≡ 25) ⌝ }
-    ensures { λ x. ⌜ ((O : Outside) (q : List ℕ) → stateOf x (now (v .exit)) (now (t .exit)) q ≡ runState O (now (s .entry)) (before (now (s .entry)) r) (stateOf w (now (v .entry)) (now (t .entry)) q)) ⌝ }
+fn before_block(
+    sheet: &[u32],
+    row: u32,
+    walk: Walk,
+    entries: &mut [u32],
+    results: &mut [u32],
+) -> Walk
+    requires { ⌜ (length (now sheet) ≤ 16384) × (kind (now sheet) row ≡ 25) ⌝ }
+    ensures { λ x. ⌜ ((O : Outside) (nodes : List ℕ) → stateOf x (now (entries .exit)) (now (results .exit)) nodes ≡ runState O (now (sheet .entry)) (before (now (sheet .entry)) row) (stateOf walk (now (entries .entry)) (now (results .entry)) nodes)) ⌝ }
 {
-    let a = open_scope(s, r, w, v);
-    hoist_literals(s, r, a, v, t)
+    let a = open_scope(sheet, row, walk, entries);
+    hoist_literals(sheet, row, a, entries, results)
 }
 
 // A block or `for` opens a scope; a class declaration asks for its parent.
-pub fn before_stmt(s: &[u32], r: u32, w: Walk, v: &mut [u32], t: &mut [u32]) -> Walk
-    requires { ⌜ (length (now s) ≤ 16384) × (7 < kind (now s) r) ⌝ }
-    ensures { λ x. ⌜ ((O : Outside) (q : List ℕ) → stateOf x (now (v .exit)) (now (t .exit)) q ≡ runState O (now (s .entry)) (before (now (s .entry)) r) (stateOf w (now (v .entry)) (now (t .entry)) q)) ⌝ }
+pub fn before_stmt(
+    sheet: &[u32],
+    row: u32,
+    walk: Walk,
+    entries: &mut [u32],
+    results: &mut [u32],
+) -> Walk
+    requires { ⌜ (length (now sheet) ≤ 16384) × (7 < kind (now sheet) row) ⌝ }
+    ensures { λ x. ⌜ ((O : Outside) (nodes : List ℕ) → stateOf x (now (entries .exit)) (now (results .exit)) nodes ≡ runState O (now (sheet .entry)) (before (now (sheet .entry)) row) (stateOf walk (now (entries .entry)) (now (results .entry)) nodes)) ⌝ }
 {
-    let kind = word(s, r, 0);
+    let kind = word(sheet, row, 0);
     match kind {
-        25 => before_block(s, r, w, v, t),
-        27 => open_scope(s, r, w, v),
-        30 => resolve_parent(s, r, w, v, t),
-        _ => w,
+        25 => before_block(sheet, row, walk, entries, results),
+        27 => open_scope(sheet, row, walk, entries),
+        30 => resolve_parent(sheet, row, walk, entries, results),
+        _ => walk,
     }
 }
 
 // A let declares its name, unless its value is a literal: then the block has done so, or nothing does.
-fn after_let(s: &[u32], r: u32, w: Walk, v: &mut [u32], t: &mut [u32]) -> Walk
-    requires { ⌜ (length (now s) ≤ 16384) × (kind (now s) r ≡ 29) ⌝ }
-    ensures { λ x. ⌜ ((O : Outside) (q : List ℕ) → stateOf x (now (v .exit)) (now (t .exit)) q ≡ runState O (now (s .entry)) (after (now (s .entry)) r) (stateOf w (now (v .entry)) (now (t .entry)) q)) ⌝ }
+fn after_let(sheet: &[u32], row: u32, walk: Walk, entries: &mut [u32], results: &mut [u32]) -> Walk
+    requires { ⌜ (length (now sheet) ≤ 16384) × (kind (now sheet) row ≡ 29) ⌝ }
+    ensures { λ x. ⌜ ((O : Outside) (nodes : List ℕ) → stateOf x (now (entries .exit)) (now (results .exit)) nodes ≡ runState O (now (sheet .entry)) (after (now (sheet .entry)) row) (stateOf walk (now (entries .entry)) (now (results .entry)) nodes)) ⌝ }
 {
-    if word(s, word(s, r, 2), 0) == 52 {
-        return w;
+    if word(sheet, word(sheet, row, 2), 0) == 52 {
+        return walk;
     }
-    declare(s, r, w, v, t)
+    declare(sheet, row, walk, entries, results)
 }
 
 // A block or `for` closes its scope; a let declares its name; an assignment, break or continue is asked about.
 pub fn after_stmt(
-    s: &[u32],
+    sheet: &[u32],
     classes: &[u32],
-    r: u32,
-    w: Walk,
-    v: &mut [u32],
-    t: &mut [u32],
-    q: &mut [u32],
+    row: u32,
+    walk: Walk,
+    entries: &mut [u32],
+    results: &mut [u32],
+    nodes: &mut [u32],
 ) -> Walk
-    requires { ⌜ (Prepared (now s) (now classes)) × (7 < kind (now s) r) × (kind (now s) r < 40) ⌝ }
-    ensures { λ x. ⌜ ((O : Outside) → stateOf x (now (v .exit)) (now (t .exit)) (now (q .exit)) ≡ runState O (now (s .entry)) (after (now (s .entry)) r) (stateOf w (now (v .entry)) (now (t .entry)) (now (q .entry)))) ⌝ }
+    requires { ⌜ (Prepared (now sheet) (now classes)) × (7 < kind (now sheet) row) × (kind (now sheet) row < 40) ⌝ }
+    ensures { λ x. ⌜ ((O : Outside) → stateOf x (now (entries .exit)) (now (results .exit)) (now (nodes .exit)) ≡ runState O (now (sheet .entry)) (after (now (sheet .entry)) row) (stateOf walk (now (entries .entry)) (now (results .entry)) (now (nodes .entry)))) ⌝ }
 {
-    let kind = word(s, r, 0);
+    let kind = word(sheet, row, 0);
     match kind {
-        21 => check_assign(s, classes, r, w, v, t, q),
-        23 => check_jump(s, r, w, v),
-        24 => check_jump(s, r, w, v),
-        25 => close_scope(w, v),
-        27 => close_scope(w, v),
-        29 => after_let(s, r, w, v, t),
-        _ => w,
+        21 => check_assign(sheet, classes, row, walk, entries, results, nodes),
+        23 => check_jump(sheet, row, walk, entries),
+        24 => check_jump(sheet, row, walk, entries),
+        25 => close_scope(walk, entries),
+        27 => close_scope(walk, entries),
+        29 => after_let(sheet, row, walk, entries, results),
+        _ => walk,
     }
 }
 
 // An identifier, host constant or instanceof is looked up; a literal notes where it stands.
-pub fn after_expr(s: &[u32], r: u32, w: Walk, v: &[u32], t: &mut [u32], q: &mut [u32]) -> Walk
-    requires { ⌜ (length (now s) ≤ 16384) × (39 < kind (now s) r) ⌝ }
-    ensures { λ x. ⌜ ((O : Outside) → stateOf x (now (v .entry)) (now (t .exit)) (now (q .exit)) ≡ runState O (now (s .entry)) (after (now (s .entry)) r) (stateOf w (now (v .entry)) (now (t .entry)) (now (q .entry)))) ⌝ }
+pub fn after_expr(
+    sheet: &[u32],
+    row: u32,
+    walk: Walk,
+    entries: &[u32],
+    results: &mut [u32],
+    nodes: &mut [u32],
+) -> Walk
+    requires { ⌜ (length (now sheet) ≤ 16384) × (39 < kind (now sheet) row) ⌝ }
+    ensures { λ x. ⌜ ((O : Outside) → stateOf x (now (entries .entry)) (now (results .exit)) (now (nodes .exit)) ≡ runState O (now (sheet .entry)) (after (now (sheet .entry)) row) (stateOf walk (now (entries .entry)) (now (results .entry)) (now (nodes .entry)))) ⌝ }
 {
-    let kind = word(s, r, 0);
+    let kind = word(sheet, row, 0);
     match kind {
-        50 => resolve_ident(s, r, w, v, t, q),
-        51 => resolve_host_const(s, r, w, t),
-        52 => note_literal(s, r, w, t),
-        55 => check_instanceof(s, r, w, v, t),
-        _ => w,
+        50 => resolve_ident(sheet, row, walk, entries, results, nodes),
+        51 => resolve_host_const(sheet, row, walk, results),
+        52 => note_literal(sheet, row, walk, results),
+        55 => check_instanceof(sheet, row, walk, entries, results),
+        _ => walk,
     }
 }
 
-// After part `i` of row `r`: the checks on a call's callee; a `for` comes to its loop after init and test.
+// After part `i` of `row`: the checks on a call's callee; a `for` comes to its loop after init and test.
 pub fn after_part(
-    s: &[u32],
+    sheet: &[u32],
     outside: &[u32],
-    r: u32,
+    row: u32,
     i: usize,
-    w: Walk,
-    v: &mut [u32],
-    t: &mut [u32],
-    q: &mut [u32],
+    walk: Walk,
+    entries: &mut [u32],
+    results: &mut [u32],
+    nodes: &mut [u32],
 ) -> Walk
-    ensures { λ x. ⌜ stateOf x (now (v .exit)) (now (t .exit)) (now (q .exit)) ≡ runState (over (now (outside .entry))) (now (s .entry)) (afterPart (now (s .entry)) r i) (stateOf w (now (v .entry)) (now (t .entry)) (now (q .entry))) ⌝ }
+    ensures { λ x. ⌜ stateOf x (now (entries .exit)) (now (results .exit)) (now (nodes .exit)) ≡ runState (over (now (outside .entry))) (now (sheet .entry)) (afterPart (now (sheet .entry)) row i) (stateOf walk (now (entries .entry)) (now (results .entry)) (now (nodes .entry))) ⌝ }
 {
-    let kind = word(s, r, 0);
+    let kind = word(sheet, row, 0);
     match kind {
-        59 => after_callee(s, outside, r, i, w, v, t, q),
-        27 => after_test(s, r, i, w, v),
-        _ => w,
+        59 => after_callee(sheet, outside, row, i, walk, entries, results, nodes),
+        27 => after_test(sheet, row, i, walk, entries),
+        _ => walk,
     }
 }
 
 fn after_callee(
-    s: &[u32],
+    sheet: &[u32],
     outside: &[u32],
-    r: u32,
+    row: u32,
     i: usize,
-    w: Walk,
-    v: &[u32],
-    t: &mut [u32],
-    q: &mut [u32],
+    walk: Walk,
+    entries: &[u32],
+    results: &mut [u32],
+    nodes: &mut [u32],
 ) -> Walk
-    requires { ⌜ kind (now s) r ≡ 59 ⌝ }
-    ensures { λ x. ⌜ stateOf x (now (v .entry)) (now (t .exit)) (now (q .exit)) ≡ runState (over (now (outside .entry))) (now (s .entry)) (afterPart (now (s .entry)) r i) (stateOf w (now (v .entry)) (now (t .entry)) (now (q .entry))) ⌝ }
+    requires { ⌜ kind (now sheet) row ≡ 59 ⌝ }
+    ensures { λ x. ⌜ stateOf x (now (entries .entry)) (now (results .exit)) (now (nodes .exit)) ≡ runState (over (now (outside .entry))) (now (sheet .entry)) (afterPart (now (sheet .entry)) row i) (stateOf walk (now (entries .entry)) (now (results .entry)) (now (nodes .entry))) ⌝ }
 {
     if i == 0 {
-        return check_callee(s, outside, r, w, v, t, q);
+        return check_callee(sheet, outside, row, walk, entries, results, nodes);
     }
-    w
+    walk
 }
 
-fn after_test(s: &[u32], r: u32, i: usize, w: Walk, v: &mut [u32]) -> Walk
-    requires { ⌜ kind (now s) r ≡ 27 ⌝ }
-    ensures { λ x. ⌜ ((O : Outside) (t q : List ℕ) → stateOf x (now (v .exit)) t q ≡ runState O (now (s .entry)) (afterPart (now (s .entry)) r i) (stateOf w (now (v .entry)) t q)) ⌝ }
+fn after_test(sheet: &[u32], row: u32, i: usize, walk: Walk, entries: &mut [u32]) -> Walk
+    requires { ⌜ kind (now sheet) row ≡ 27 ⌝ }
+    ensures { λ x. ⌜ ((O : Outside) (results nodes : List ℕ) → stateOf x (now (entries .exit)) results nodes ≡ runState O (now (sheet .entry)) (afterPart (now (sheet .entry)) row i) (stateOf walk (now (entries .entry)) results nodes)) ⌝ }
 {
     if i == 1 {
-        return begin_loop(w, v);
+        return begin_loop(walk, entries);
     }
-    w
+    walk
 }
 
 // Is row `k` walked as a part: a unit, a function, a statement, an expression or a pair?
-pub fn is_part(s: &[u32], k: u32) -> bool
-    ensures { λ x. ⌜ x ≡ isPart (now (s .entry)) k ⌝ }
+pub fn is_part(sheet: &[u32], k: u32) -> bool
+    ensures { λ x. ⌜ x ≡ isPart (now (sheet .entry)) k ⌝ }
 {
-    let kind = word(s, k, 0);
+    let kind = word(sheet, k, 0);
     if kind == 2 {
         return true;
     }
@@ -188,12 +219,12 @@ pub fn is_part(s: &[u32], k: u32) -> bool
     20 <= kind
 }
 
-// The first row of the list in which the parts of row `r` stand: a class declaration's are the methods of its class.
-pub fn part_list(s: &[u32], r: u32) -> u32
-    ensures { λ x. ⌜ x ≡ child (now (s .entry)) (if is (now (s .entry)) 30 r then a (now (s .entry)) r else r) ⌝ }
+// The first row of the list in which the parts of `row` stand: a class declaration's are the methods of its class.
+pub fn part_list(sheet: &[u32], row: u32) -> u32
+    ensures { λ x. ⌜ x ≡ child (now (sheet .entry)) (if is (now (sheet .entry)) 30 row then a (now (sheet .entry)) row else row) ⌝ }
 {
-    if word(s, r, 0) == 30 {
-        return word(s, word(s, r, 6), 2);
+    if word(sheet, row, 0) == 30 {
+        return word(sheet, word(sheet, row, 6), 2);
     }
-    word(s, r, 2)
+    word(sheet, row, 2)
 }

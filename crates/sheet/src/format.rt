@@ -18,78 +18,78 @@ use crate::pass::fill;
 use tree::words::word;
 
 // Row 0 is the header.
-fn header_first(s: &[u32]) -> bool
-    ensures { λ x. ⌜ x ≡ headerFirst (now (s .entry)) ⌝ }
+fn header_first(sheet: &[u32]) -> bool
+    ensures { λ x. ⌜ x ≡ headerFirst (now (sheet .entry)) ⌝ }
 {
-    word(s, 0, 0) == 0 && word(s, 0, 1) == 0
+    word(sheet, 0, 0) == 0 && word(sheet, 0, 1) == 0
 }
 
 // The main function, if the header names one, is a unit's.
-fn main_marked(s: &[u32]) -> bool
-    ensures { λ x. ⌜ x ≡ mainMarked (now (s .entry)) ⌝ }
+fn main_marked(sheet: &[u32]) -> bool
+    ensures { λ x. ⌜ x ≡ mainMarked (now (sheet .entry)) ⌝ }
 {
-    let main = word(s, 0, 7);
-    main == 0 || word(s, main, 7) == 1
+    let main = word(sheet, 0, 7);
+    main == 0 || word(sheet, main, 7) == 1
 }
 
 // `seen` has a zero for each row.
-fn links_fit(s: &[u32], n: usize, seen: &mut [u32]) -> bool
-    requires { ⌜ (length (now s) ≡ 8 * n) × (n ≤ 2048) × (now seen ≡ replicate 2048 0) ⌝ }
-    ensures { λ x. ⌜ x ≡ linksOk (now (s .entry)) ⌝ }
+fn links_fit(sheet: &[u32], n: usize, seen: &mut [u32]) -> bool
+    requires { ⌜ (length (now sheet) ≡ 8 * n) × (n ≤ 2048) × (now seen ≡ replicate 2048 0) ⌝ }
+    ensures { λ x. ⌜ x ≡ linksOk (now (sheet .entry)) ⌝ }
 {
-    if !header_first(s) {
+    if !header_first(sheet) {
         return false;
     }
-    if !main_marked(s) {
+    if !main_marked(sheet) {
         return false;
     }
-    if !links_rise(s, n) {
+    if !links_rise(sheet, n) {
         return false;
     }
-    linked_once(s, n, seen)
+    linked_once(sheet, n, seen)
 }
 
 // The passes over the rows of a sheet whose links rise, with a table and marks of zeros. The table is filled.
-fn rows_fit(s: &[u32], last: u32, t: &mut [u32], marks: &mut [u32]) -> bool
-    requires { ⌜ Rising (now s) × (rows (now s) ≤ 2048) ⌝ }
-    ensures { λ x. ⌜ x ≡ rowsAll (now (s .entry)) last (now (t .entry)) (now (marks .entry)) ⌝ }
-    ensures { λ x. ⌜ (x ≡ true → now (t .exit) ≡ rowsNoted (now (s .entry)) (rows (now (s .entry))) 0 (now (t .entry))) ⌝ }
+fn rows_fit(sheet: &[u32], last: u32, table: &mut [u32], marks: &mut [u32]) -> bool
+    requires { ⌜ Rising (now sheet) × (rows (now sheet) ≤ 2048) ⌝ }
+    ensures { λ x. ⌜ x ≡ rowsAll (now (sheet .entry)) last (now (table .entry)) (now (marks .entry)) ⌝ }
+    ensures { λ x. ⌜ (x ≡ true → now (table .exit) ≡ rowsNoted (now (sheet .entry)) (rows (now (sheet .entry))) 0 (now (table .entry))) ⌝ }
 {
-    let n = (s.len() / 8) as u32;
-    if !fill(s, n, last, t) {
+    let n = (sheet.len() / 8) as u32;
+    if !fill(sheet, n, last, table) {
         return false;
     }
-    if !all_apart(s, n, marks) {
+    if !all_apart(sheet, n, marks) {
         return false;
     }
-    all_cross(s, n, t)
+    all_cross(sheet, n, table)
 }
 
 // The first of questions 3 and 4 that gets a no, or 0, with scratch space of zeros; `last` is the number of the last name.
-fn ask(s: &[u32], last: u32, seen: &mut [u32], t: &mut [u32], marks: &mut [u32]) -> u32
-    requires { ⌜ (length (now s) ≡ 8 * rows (now s)) × (0 < rows (now s)) × (rows (now s) ≤ 2048) × (last < 1049) ⌝ }
-    requires { ⌜ (now seen ≡ replicate 2048 0) × (now t ≡ replicate 16384 0) × (now marks ≡ replicate 1049 0) ⌝ }
-    ensures { λ x. ⌜ x ≡ formatQuestion last (now (s .entry)) ⌝ }
+fn ask(sheet: &[u32], last: u32, seen: &mut [u32], table: &mut [u32], marks: &mut [u32]) -> u32
+    requires { ⌜ (length (now sheet) ≡ 8 * rows (now sheet)) × (0 < rows (now sheet)) × (rows (now sheet) ≤ 2048) × (last < 1049) ⌝ }
+    requires { ⌜ (now seen ≡ replicate 2048 0) × (now table ≡ replicate 16384 0) × (now marks ≡ replicate 1049 0) ⌝ }
+    ensures { λ x. ⌜ x ≡ formatQuestion last (now (sheet .entry)) ⌝ }
 {
-    let n = s.len() / 8;
-    if !links_fit(s, n, seen) {
+    let n = sheet.len() / 8;
+    if !links_fit(sheet, n, seen) {
         return 3;
     }
-    if !rows_fit(s, last, t, marks) {
+    if !rows_fit(sheet, last, table, marks) {
         return 3;
     }
-    if !all_depths(n as u32, t) {
+    if !all_depths(n as u32, table) {
         return 4;
     }
     0
 }
 
-pub fn format_question(s: &[u32], last: u32) -> u32
-    requires { ⌜ (length (now s) ≡ 8 * rows (now s)) × (0 < rows (now s)) × (rows (now s) ≤ 2048) × (last < 1049) ⌝ }
-    ensures { λ x. ⌜ x ≡ formatQuestion last (now (s .entry)) ⌝ }
+pub fn format_question(sheet: &[u32], last: u32) -> u32
+    requires { ⌜ (length (now sheet) ≡ 8 * rows (now sheet)) × (0 < rows (now sheet)) × (rows (now sheet) ≤ 2048) × (last < 1049) ⌝ }
+    ensures { λ x. ⌜ x ≡ formatQuestion last (now (sheet .entry)) ⌝ }
 {
     let mut seen = [0u32; 2048];
     let mut t = [0u32; 16384];
     let mut marks = [0u32; 1049];
-    ask(s, last, &mut seen, &mut t, &mut marks)
+    ask(sheet, last, &mut seen, &mut t, &mut marks)
 }

@@ -16,14 +16,14 @@ fn link_rises(n: usize, r: usize, l: usize) -> bool
     l == 0 || r < l && l < n
 }
 
-pub fn links_rise(s: &[u32], n: usize) -> bool
-    requires { ⌜ (length (now s) ≡ 8 * n) × (n ≤ 2048) ⌝ }
-    ensures { λ b. ⌜ b ≡ all (linksRise (now (s .entry))) (from 0 (rows (now (s .entry)))) ⌝ }
+pub fn links_rise(sheet: &[u32], n: usize) -> bool
+    requires { ⌜ (length (now sheet) ≡ 8 * n) × (n ≤ 2048) ⌝ }
+    ensures { λ b. ⌜ b ≡ all (linksRise (now (sheet .entry))) (from 0 (rows (now (sheet .entry)))) ⌝ }
 {
     let mut r: usize = 0;
     while r < n {
-        let next = s[8 * r + 1] as usize;
-        let child = s[8 * r + 2] as usize;
+        let next = sheet[8 * r + 1] as usize;
+        let child = sheet[8 * r + 2] as usize;
         if !link_rises(n, r, next) {
             return false;
         }
@@ -36,14 +36,14 @@ pub fn links_rise(s: &[u32], n: usize) -> bool
 }
 
 // Counts the links to each row in `seen`, all zero at first; the missing links count for row 0.
-fn count_links(s: &[u32], n: usize, seen: &mut [u32])
-    requires { ⌜ (length (now s) ≡ 8 * n) × (n ≤ 2048) × (n ≤ length (now seen)) × (all (linksRise (now s)) (from 0 (rows (now s))) ≡ true) × ((k : ℕ) → k < n → getD (now seen) k 0 ≡ 0) ⌝ }
-    ensures { λ _. ⌜ Counts (now (s .entry)) n (now (seen .exit)) ⌝ }
+fn count_links(sheet: &[u32], n: usize, seen: &mut [u32])
+    requires { ⌜ (length (now sheet) ≡ 8 * n) × (n ≤ 2048) × (n ≤ length (now seen)) × (all (linksRise (now sheet)) (from 0 (rows (now sheet))) ≡ true) × ((k : ℕ) → k < n → getD (now seen) k 0 ≡ 0) ⌝ }
+    ensures { λ _. ⌜ Counts (now (sheet .entry)) n (now (seen .exit)) ⌝ }
 {
     let mut r: usize = 0;
     while r < n {
-        let next = s[8 * r + 1] as usize;
-        let child = s[8 * r + 2] as usize;
+        let next = sheet[8 * r + 1] as usize;
+        let child = sheet[8 * r + 2] as usize;
         seen[next] += 1;
         seen[child] += 1;
         r += 1;
@@ -66,10 +66,10 @@ fn all_once(n: usize, seen: &[u32]) -> bool
 }
 
 // Is every row but 0 linked exactly once? `seen` has a zero for each row.
-pub fn linked_once(s: &[u32], n: usize, seen: &mut [u32]) -> bool
-    requires { ⌜ (length (now s) ≡ 8 * n) × (n ≤ 2048) × (n ≤ length (now seen)) × (all (linksRise (now s)) (from 0 (rows (now s))) ≡ true) × ((k : ℕ) → k < n → getD (now seen) k 0 ≡ 0) ⌝ }
-    ensures { λ b. ⌜ b ≡ all (linkedOnce (links (now (s .entry)))) (from 0 (rows (now (s .entry)))) ⌝ }
+pub fn linked_once(sheet: &[u32], n: usize, seen: &mut [u32]) -> bool
+    requires { ⌜ (length (now sheet) ≡ 8 * n) × (n ≤ 2048) × (n ≤ length (now seen)) × (all (linksRise (now sheet)) (from 0 (rows (now sheet))) ≡ true) × ((k : ℕ) → k < n → getD (now seen) k 0 ≡ 0) ⌝ }
+    ensures { λ b. ⌜ b ≡ all (linkedOnce (links (now (sheet .entry)))) (from 0 (rows (now (sheet .entry)))) ⌝ }
 {
-    count_links(s, n, seen);
+    count_links(sheet, n, seen);
     all_once(n, seen)
 }

@@ -8,86 +8,86 @@ use crate::row::row_fits;
 use tree::words::word;
 
 // Do the rows fit as they are reached, in rising order? Each tells the table what it knows of its next row and first child.
-pub fn fill(s: &[u32], n: u32, last: u32, t: &mut [u32]) -> bool
-    ensures { λ x. ⌜ x ≡ rowsOk (now (s .entry)) last n 0 (now (t .entry)) ⌝ }
-    ensures { λ x. ⌜ (x ≡ true → now (t .exit) ≡ rowsNoted (now (s .entry)) n 0 (now (t .entry))) ⌝ }
+pub fn fill(sheet: &[u32], n: u32, last: u32, table: &mut [u32]) -> bool
+    ensures { λ x. ⌜ x ≡ rowsOk (now (sheet .entry)) last n 0 (now (table .entry)) ⌝ }
+    ensures { λ x. ⌜ (x ≡ true → now (table .exit) ≡ rowsNoted (now (sheet .entry)) n 0 (now (table .entry))) ⌝ }
 {
     let mut r: u32 = 0;
     while r < n {
-        if !row_fits(s, last, r, t) {
+        if !row_fits(sheet, last, r, table) {
             return false;
         }
-        note_row(s, r, t);
+        note_row(sheet, r, table);
         r += 1;
     }
     true
 }
 
-fn literal_fits(s: &[u32], t: &[u32], r: u32) -> bool
-    ensures { λ x. ⌜ x ≡ literalOk (now (s .entry)) (now (t .entry)) r ⌝ }
+fn literal_fits(sheet: &[u32], table: &[u32], row: u32) -> bool
+    ensures { λ x. ⌜ x ≡ literalOk (now (sheet .entry)) (now (table .entry)) row ⌝ }
 {
-    if word(s, r, 0) != 52 {
+    if word(sheet, row, 0) != 52 {
         return true;
     }
-    let class = word(s, r, 6);
+    let class = word(sheet, row, 6);
     if class == 0 {
         return true;
     }
-    word(t, class, 2) == word(t, r, 2)
+    word(table, class, 2) == word(table, row, 2)
 }
 
-fn declaration_fits(s: &[u32], t: &[u32], r: u32) -> bool
-    ensures { λ x. ⌜ x ≡ declarationOk (now (s .entry)) (now (t .entry)) r ⌝ }
+fn declaration_fits(sheet: &[u32], table: &[u32], row: u32) -> bool
+    ensures { λ x. ⌜ x ≡ declarationOk (now (sheet .entry)) (now (table .entry)) row ⌝ }
 {
-    if word(s, r, 0) != 30 {
+    if word(sheet, row, 0) != 30 {
         return true;
     }
-    let fun = word(t, r, 3);
-    let class = word(s, r, 6);
-    word(t, fun, 0) == word(t, class, 0)
+    let fun = word(table, row, 3);
+    let class = word(sheet, row, 6);
+    word(table, fun, 0) == word(table, class, 0)
 }
 
-fn class_fits(s: &[u32], t: &[u32], r: u32) -> bool
-    ensures { λ x. ⌜ x ≡ classOk (now (s .entry)) (now (t .entry)) r ⌝ }
+fn class_fits(sheet: &[u32], table: &[u32], row: u32) -> bool
+    ensures { λ x. ⌜ x ≡ classOk (now (sheet .entry)) (now (table .entry)) row ⌝ }
 {
-    if word(s, r, 0) != 4 {
+    if word(sheet, row, 0) != 4 {
         return true;
     }
-    word(t, r, 7) != 0
+    word(table, row, 7) != 0
 }
 
-fn method_fits(t: &[u32], r: u32) -> bool
-    ensures { λ x. ⌜ x ≡ methodOk (now (t .entry)) r ⌝ }
+fn method_fits(table: &[u32], row: u32) -> bool
+    ensures { λ x. ⌜ x ≡ methodOk (now (table .entry)) row ⌝ }
 {
-    let class = word(t, r, 4);
+    let class = word(table, row, 4);
     if class == 0 {
         return true;
     }
-    r < word(t, class, 7)
+    row < word(table, class, 7)
 }
 
-fn cross_fits(s: &[u32], t: &[u32], r: u32) -> bool
-    ensures { λ x. ⌜ x ≡ crossOk (now (s .entry)) (now (t .entry)) r ⌝ }
+fn cross_fits(sheet: &[u32], table: &[u32], row: u32) -> bool
+    ensures { λ x. ⌜ x ≡ crossOk (now (sheet .entry)) (now (table .entry)) row ⌝ }
 {
-    if !literal_fits(s, t, r) {
+    if !literal_fits(sheet, table, row) {
         return false;
     }
-    if !declaration_fits(s, t, r) {
+    if !declaration_fits(sheet, table, row) {
         return false;
     }
-    if !class_fits(s, t, r) {
+    if !class_fits(sheet, table, row) {
         return false;
     }
-    method_fits(t, r)
+    method_fits(table, row)
 }
 
 // Does what the table says of two rows fit, for every row?
-pub fn all_cross(s: &[u32], n: u32, t: &[u32]) -> bool
-    ensures { λ x. ⌜ x ≡ all (crossOk (now (s .entry)) (now (t .entry))) (from 0 n) ⌝ }
+pub fn all_cross(sheet: &[u32], n: u32, table: &[u32]) -> bool
+    ensures { λ x. ⌜ x ≡ all (crossOk (now (sheet .entry)) (now (table .entry))) (from 0 n) ⌝ }
 {
     let mut r: u32 = 0;
     while r < n {
-        if !cross_fits(s, t, r) {
+        if !cross_fits(sheet, table, r) {
             return false;
         }
         r += 1;
@@ -95,19 +95,19 @@ pub fn all_cross(s: &[u32], n: u32, t: &[u32]) -> bool
     true
 }
 
-fn depth_fits(t: &[u32], r: u32) -> bool
-    ensures { λ x. ⌜ x ≡ depthOk (now (t .entry)) r ⌝ }
+fn depth_fits(table: &[u32], row: u32) -> bool
+    ensures { λ x. ⌜ x ≡ depthOk (now (table .entry)) row ⌝ }
 {
-    word(t, r, 1) <= 64
+    word(table, row, 1) <= 64
 }
 
 // Question 4: is every depth at most 64?
-pub fn all_depths(n: u32, t: &[u32]) -> bool
-    ensures { λ x. ⌜ x ≡ all (depthOk (now (t .entry))) (from 0 n) ⌝ }
+pub fn all_depths(n: u32, table: &[u32]) -> bool
+    ensures { λ x. ⌜ x ≡ all (depthOk (now (table .entry))) (from 0 n) ⌝ }
 {
     let mut r: u32 = 0;
     while r < n {
-        if !depth_fits(t, r) {
+        if !depth_fits(table, r) {
             return false;
         }
         r += 1;

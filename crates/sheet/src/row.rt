@@ -36,114 +36,114 @@ pub struct Entry {
     pub state: u32,
 }
 
-fn row_at(s: &[u32], r: u32) -> Row
-    ensures { λ x. ⌜ x ≡ rowIn (now (s .entry)) r ⌝ }
+fn row_at(sheet: &[u32], row: u32) -> Row
+    ensures { λ x. ⌜ x ≡ rowIn (now (sheet .entry)) row ⌝ }
 {
     Row {
-        kind: word(s, r, 0),
-        next: word(s, r, 1),
-        child: word(s, r, 2),
-        file: word(s, r, 3),
-        a: word(s, r, 6),
-        b: word(s, r, 7),
+        kind: word(sheet, row, 0),
+        next: word(sheet, row, 1),
+        child: word(sheet, row, 2),
+        file: word(sheet, row, 3),
+        a: word(sheet, row, 6),
+        b: word(sheet, row, 7),
     }
 }
 
-fn entry_at(t: &[u32], r: u32) -> Entry
-    ensures { λ x. ⌜ x ≡ entryIn (now (t .entry)) r ⌝ }
+fn entry_at(table: &[u32], row: u32) -> Entry
+    ensures { λ x. ⌜ x ≡ entryIn (now (table .entry)) row ⌝ }
 {
     Entry {
-        parent: word(t, r, 0),
-        depth: word(t, r, 1),
-        unit: word(t, r, 2),
-        fun: word(t, r, 3),
-        class: word(t, r, 4),
-        state: word(t, r, 5),
+        parent: word(table, row, 0),
+        depth: word(table, row, 1),
+        unit: word(table, row, 2),
+        fun: word(table, row, 3),
+        class: word(table, row, 4),
+        state: word(table, row, 5),
     }
 }
 
-fn put_entry(t: &mut [u32], r: u32, e: Entry)
-    ensures { λ _. ⌜ now (t .exit) ≡ putEntry (now (t .entry)) r e ⌝ }
+fn put_entry(table: &mut [u32], row: u32, e: Entry)
+    ensures { λ _. ⌜ now (table .exit) ≡ putEntry (now (table .entry)) row e ⌝ }
 {
-    put(t, r, 0, e.parent);
-    put(t, r, 1, e.depth);
-    put(t, r, 2, e.unit);
-    put(t, r, 3, e.fun);
-    put(t, r, 4, e.class);
-    put(t, r, 5, e.state);
+    put(table, row, 0, e.parent);
+    put(table, row, 1, e.depth);
+    put(table, row, 2, e.unit);
+    put(table, row, 3, e.fun);
+    put(table, row, 4, e.class);
+    put(table, row, 5, e.state);
 }
 
-// Is `v` a row of kind `k`?
-fn is_row(s: &[u32], k: u32, v: u32) -> bool
-    ensures { λ x. ⌜ x ≡ (ltb v (rows (now (s .entry))) && is (now (s .entry)) k v) ⌝ }
+// Is `mark` a row of kind `k`?
+fn is_row(sheet: &[u32], k: u32, mark: u32) -> bool
+    ensures { λ x. ⌜ x ≡ (ltb mark (rows (now (sheet .entry))) && is (now (sheet .entry)) k mark) ⌝ }
 {
-    if (v as usize) < s.len() / 8 {
-        return word(s, v, 0) == k;
-    }
-    false
-}
-
-// Is `v` a name's number, where `last` is the last?
-fn is_name(last: u32, v: u32) -> bool
-    ensures { λ x. ⌜ x ≡ (leb 1 v && leb v last) ⌝ }
-{
-    if 1 <= v {
-        return v <= last;
+    if (mark as usize) < sheet.len() / 8 {
+        return word(sheet, mark, 0) == k;
     }
     false
 }
 
-fn zero_or(v: u32, x: bool) -> bool
-    ensures { λ y. ⌜ y ≡ (eqb v 0 || x) ⌝ }
+// Is `mark` a name's number, where `last` is the last?
+fn is_name(last: u32, mark: u32) -> bool
+    ensures { λ x. ⌜ x ≡ (leb 1 mark && leb mark last) ⌝ }
 {
-    if v == 0 {
+    if 1 <= mark {
+        return mark <= last;
+    }
+    false
+}
+
+fn zero_or(mark: u32, x: bool) -> bool
+    ensures { λ y. ⌜ y ≡ (eqb mark 0 || x) ⌝ }
+{
+    if mark == 0 {
         return true;
     }
     x
 }
 
-// Is `v` a let's mode: 0, 1, or 2 + g for a global g below `start`?
-fn is_mode(start: u32, v: u32) -> bool
-    ensures { λ x. ⌜ x ≡ (leb v 1 || ltb (v - 2) start) ⌝ }
+// Is `mark` a let's mode: 0, 1, or 2 + g for a global g below `start`?
+fn is_mode(start: u32, mark: u32) -> bool
+    ensures { λ x. ⌜ x ≡ (leb mark 1 || ltb (mark - 2) start) ⌝ }
 {
-    if v <= 1 {
+    if mark <= 1 {
         return true;
     }
-    v - 2 < start
+    mark - 2 < start
 }
 
-// Does value `v` fit a rule of columns, where `last` is the last name?
-fn holds(s: &[u32], last: u32, rule: u32, v: u32) -> bool
-    ensures { λ x. ⌜ x ≡ holdsRule (now (s .entry)) last (ruleAt rule) v ⌝ }
+// Does value `mark` fit a rule of columns, where `last` is the last name?
+fn holds(sheet: &[u32], last: u32, rule: u32, mark: u32) -> bool
+    ensures { λ x. ⌜ x ≡ holdsRule (now (sheet .entry)) last (ruleAt rule) mark ⌝ }
 {
     match rule {
         1 => true,
-        2 => v <= 1,
-        3 => is_name(last, v),
-        4 => zero_or(v, is_name(last, v)),
-        5 => v <= 1000000,
-        6 => is_row(s, 2, v),
-        7 => is_row(s, 6, v),
-        8 => is_row(s, 4, v),
-        9 => zero_or(v, is_row(s, 4, v)),
-        10 => zero_or(v, is_row(s, 6, v)),
-        11 => v < word(s, 0, 6),
-        12 => is_mode(word(s, 0, 6), v),
-        _ => v <= 0,
+        2 => mark <= 1,
+        3 => is_name(last, mark),
+        4 => zero_or(mark, is_name(last, mark)),
+        5 => mark <= 1000000,
+        6 => is_row(sheet, 2, mark),
+        7 => is_row(sheet, 6, mark),
+        8 => is_row(sheet, 4, mark),
+        9 => zero_or(mark, is_row(sheet, 4, mark)),
+        10 => zero_or(mark, is_row(sheet, 6, mark)),
+        11 => mark < word(sheet, 0, 6),
+        12 => is_mode(word(sheet, 0, 6), mark),
+        _ => mark <= 0,
     }
 }
 
-fn columns_fit(s: &[u32], last: u32, w: Row) -> bool
-    ensures { λ x. ⌜ x ≡ columnsOk (now (s .entry)) last (w .kind) (w .a) (w .b) ⌝ }
+fn columns_fit(sheet: &[u32], last: u32, w: Row) -> bool
+    ensures { λ x. ⌜ x ≡ columnsOk (now (sheet .entry)) last (w .kind) (w .a) (w .b) ⌝ }
 {
-    if holds(s, last, rule_a(w.kind), w.a) {
-        return holds(s, last, rule_b(w.kind), w.b);
+    if holds(sheet, last, rule_a(w.kind), w.a) {
+        return holds(sheet, last, rule_b(w.kind), w.b);
     }
     false
 }
 
-fn plain_fits(s: &[u32], w: Row) -> bool
-    ensures { λ x. ⌜ x ≡ plainOk (now (s .entry)) w ⌝ }
+fn plain_fits(sheet: &[u32], w: Row) -> bool
+    ensures { λ x. ⌜ x ≡ plainOk (now (sheet .entry)) w ⌝ }
 {
     if w.file >= 262144 {
         return false;
@@ -154,31 +154,31 @@ fn plain_fits(s: &[u32], w: Row) -> bool
     if w.b < 2 {
         return true;
     }
-    word(s, w.child, 0) != 52
+    word(sheet, w.child, 0) != 52
 }
 
 // A unit's function has a block and nothing else.
-fn unit_function_fits(s: &[u32], w: Row) -> bool
-    ensures { λ x. ⌜ x ≡ (eqb (w .b) 1 && (eqb (kind (now (s .entry)) (w .child)) 25 && eqb (next (now (s .entry)) (w .child)) 0)) ⌝ }
+fn unit_function_fits(sheet: &[u32], w: Row) -> bool
+    ensures { λ x. ⌜ x ≡ (eqb (w .b) 1 && (eqb (kind (now (sheet .entry)) (w .child)) 25 && eqb (next (now (sheet .entry)) (w .child)) 0)) ⌝ }
 {
     if w.b != 1 {
         return false;
     }
-    if word(s, w.child, 0) != 25 {
+    if word(sheet, w.child, 0) != 25 {
         return false;
     }
-    word(s, w.child, 1) == 0
+    word(sheet, w.child, 1) == 0
 }
 
-fn function_fits(s: &[u32], w: Row, p: u32) -> bool
-    ensures { λ x. ⌜ x ≡ functionOk (now (s .entry)) w p ⌝ }
+fn function_fits(sheet: &[u32], w: Row, p: u32) -> bool
+    ensures { λ x. ⌜ x ≡ functionOk (now (sheet .entry)) w p ⌝ }
 {
     if w.kind != 6 {
         return true;
     }
-    let holder = word(s, p, 0);
+    let holder = word(sheet, p, 0);
     if holder == 2 {
-        return unit_function_fits(s, w);
+        return unit_function_fits(sheet, w);
     }
     if w.b != 0 {
         return false;
@@ -196,10 +196,10 @@ fn state_after(q: u32, kind: u32) -> u32
 }
 
 // May the list that a row is in, with state `q` before it, end after it if it does? Row 0 is in none.
-fn list_ends(w: Row, r: u32, q: u32) -> bool
-    ensures { λ x. ⌜ x ≡ (eqb r 0 || (not (eqb (w .next) 0) || endsIn (stateAfter q (w .kind)))) ⌝ }
+fn list_ends(w: Row, row: u32, q: u32) -> bool
+    ensures { λ x. ⌜ x ≡ (eqb row 0 || (not (eqb (w .next) 0) || endsIn (stateAfter q (w .kind)))) ⌝ }
 {
-    if r == 0 {
+    if row == 0 {
         return true;
     }
     if w.next != 0 {
@@ -218,51 +218,51 @@ fn child_list_ends(w: Row) -> bool
     may_end(start_of(w.kind))
 }
 
-fn ends_fit(w: Row, r: u32, q: u32) -> bool
-    ensures { λ x. ⌜ x ≡ endsOk w r q ⌝ }
+fn ends_fit(w: Row, row: u32, q: u32) -> bool
+    ensures { λ x. ⌜ x ≡ endsOk w row q ⌝ }
 {
     if !child_list_ends(w) {
         return false;
     }
-    list_ends(w, r, q)
+    list_ends(w, row, q)
 }
 
-fn first_declared(t: &[u32], w: Row) -> bool
-    ensures { λ x. ⌜ x ≡ newOk (now (t .entry)) w ⌝ }
+fn first_declared(table: &[u32], w: Row) -> bool
+    ensures { λ x. ⌜ x ≡ newOk (now (table .entry)) w ⌝ }
 {
     if w.kind != 30 {
         return true;
     }
-    word(t, w.a, 7) == 0
+    word(table, w.a, 7) == 0
 }
 
-// What question 3 asks of row `r` with words `w`, parent `p` and the state `q` of its list before it.
-fn row_asked(s: &[u32], last: u32, w: Row, r: u32, p: u32, q: u32, t: &[u32]) -> bool
-    ensures { λ x. ⌜ x ≡ rowAsked (now (s .entry)) last w r p q (now (t .entry)) ⌝ }
+// What question 3 asks of `row` with words `w`, parent `p` and the state `q` of its list before it.
+fn row_asked(sheet: &[u32], last: u32, w: Row, row: u32, p: u32, q: u32, table: &[u32]) -> bool
+    ensures { λ x. ⌜ x ≡ rowAsked (now (sheet .entry)) last w row p q (now (table .entry)) ⌝ }
 {
-    if !columns_fit(s, last, w) {
+    if !columns_fit(sheet, last, w) {
         return false;
     }
-    if !plain_fits(s, w) {
+    if !plain_fits(sheet, w) {
         return false;
     }
-    if !function_fits(s, w, p) {
+    if !function_fits(sheet, w, p) {
         return false;
     }
-    if !ends_fit(w, r, q) {
+    if !ends_fit(w, row, q) {
         return false;
     }
-    first_declared(t, w)
+    first_declared(table, w)
 }
 
-// The same when the pass reaches row `r`.
-pub fn row_fits(s: &[u32], last: u32, r: u32, t: &[u32]) -> bool
-    ensures { λ x. ⌜ x ≡ rowOk (now (s .entry)) last r (now (t .entry)) ⌝ }
+// The same when the pass reaches `row`.
+pub fn row_fits(sheet: &[u32], last: u32, row: u32, table: &[u32]) -> bool
+    ensures { λ x. ⌜ x ≡ rowOk (now (sheet .entry)) last row (now (table .entry)) ⌝ }
 {
-    let w = row_at(s, r);
-    let p = word(t, r, 0);
-    let q = word(t, r, 5);
-    row_asked(s, last, w, r, p, q, t)
+    let w = row_at(sheet, row);
+    let p = word(table, row, 0);
+    let q = word(table, row, 5);
+    row_asked(sheet, last, w, row, p, q, table)
 }
 
 fn deeper(d: u32) -> u32
@@ -271,40 +271,40 @@ fn deeper(d: u32) -> u32
     if d < 4294967295 { d + 1 } else { d }
 }
 
-fn class_here(s: &[u32], kind: u32, e: Entry) -> u32
-    ensures { λ x. ⌜ x ≡ classHere (now (s .entry)) kind e ⌝ }
+fn class_here(sheet: &[u32], kind: u32, e: Entry) -> u32
+    ensures { λ x. ⌜ x ≡ classHere (now (sheet .entry)) kind e ⌝ }
 {
     if kind != 6 {
         return e.class;
     }
-    if word(s, e.parent, 0) != 4 {
+    if word(sheet, e.parent, 0) != 4 {
         return e.class;
     }
     e.parent
 }
 
-fn unit_here(r: u32, kind: u32, e: Entry) -> u32
-    ensures { λ x. ⌜ x ≡ unitHere r kind e ⌝ }
+fn unit_here(row: u32, kind: u32, e: Entry) -> u32
+    ensures { λ x. ⌜ x ≡ unitHere row kind e ⌝ }
 {
-    if kind == 2 { r } else { e.unit }
+    if kind == 2 { row } else { e.unit }
 }
 
-// The innermost function around what row `r` holds.
-fn fun_inside(r: u32, kind: u32, e: Entry) -> u32
-    ensures { λ x. ⌜ x ≡ funInside r kind e ⌝ }
+// The innermost function around what `row` holds.
+fn fun_inside(row: u32, kind: u32, e: Entry) -> u32
+    ensures { λ x. ⌜ x ≡ funInside row kind e ⌝ }
 {
-    if kind == 6 { r } else { e.fun }
+    if kind == 6 { row } else { e.fun }
 }
 
-fn child_entry(s: &[u32], r: u32, kind: u32, e: Entry) -> Entry
-    ensures { λ x. ⌜ x ≡ childEntry (now (s .entry)) r kind e ⌝ }
+fn child_entry(sheet: &[u32], row: u32, kind: u32, e: Entry) -> Entry
+    ensures { λ x. ⌜ x ≡ childEntry (now (sheet .entry)) row kind e ⌝ }
 {
     Entry {
-        parent: r,
+        parent: row,
         depth: deeper(e.depth),
-        unit: unit_here(r, kind, e),
-        fun: fun_inside(r, kind, e),
-        class: class_here(s, kind, e),
+        unit: unit_here(row, kind, e),
+        fun: fun_inside(row, kind, e),
+        class: class_here(sheet, kind, e),
         state: start_of(kind),
     }
 }
@@ -322,47 +322,47 @@ fn next_entry(kind: u32, e: Entry) -> Entry
     }
 }
 
-fn note_next(next: u32, kind: u32, e: Entry, t: &mut [u32])
-    ensures { λ _. ⌜ now (t .exit) ≡ noteNext next kind e (now (t .entry)) ⌝ }
+fn note_next(next: u32, kind: u32, e: Entry, table: &mut [u32])
+    ensures { λ _. ⌜ now (table .exit) ≡ noteNext next kind e (now (table .entry)) ⌝ }
 {
     if next != 0 {
-        put_entry(t, next, next_entry(kind, e));
+        put_entry(table, next, next_entry(kind, e));
     }
 }
 
-fn note_child(s: &[u32], r: u32, w: Row, e: Entry, t: &mut [u32])
-    ensures { λ _. ⌜ now (t .exit) ≡ noteChild (now (s .entry)) r w e (now (t .entry)) ⌝ }
+fn note_child(sheet: &[u32], row: u32, w: Row, e: Entry, table: &mut [u32])
+    ensures { λ _. ⌜ now (table .exit) ≡ noteChild (now (sheet .entry)) row w e (now (table .entry)) ⌝ }
 {
     if w.child != 0 {
-        put_entry(t, w.child, child_entry(s, r, w.kind, e));
+        put_entry(table, w.child, child_entry(sheet, row, w.kind, e));
     }
 }
 
-fn note_own(s: &[u32], r: u32, kind: u32, e: Entry, t: &mut [u32])
-    ensures { λ _. ⌜ now (t .exit) ≡ noteOwn (now (s .entry)) r kind e (now (t .entry)) ⌝ }
+fn note_own(sheet: &[u32], row: u32, kind: u32, e: Entry, table: &mut [u32])
+    ensures { λ _. ⌜ now (table .exit) ≡ noteOwn (now (sheet .entry)) row kind e (now (table .entry)) ⌝ }
 {
-    let unit = unit_here(r, kind, e);
-    let class = class_here(s, kind, e);
-    put(t, r, 2, unit);
-    put(t, r, 4, class);
+    let unit = unit_here(row, kind, e);
+    let class = class_here(sheet, kind, e);
+    put(table, row, 2, unit);
+    put(table, row, 4, class);
 }
 
-fn note_declared(r: u32, w: Row, t: &mut [u32])
-    ensures { λ _. ⌜ now (t .exit) ≡ noteDeclared r w (now (t .entry)) ⌝ }
+fn note_declared(row: u32, w: Row, table: &mut [u32])
+    ensures { λ _. ⌜ now (table .exit) ≡ noteDeclared row w (now (table .entry)) ⌝ }
 {
     if w.kind == 30 {
-        put(t, w.a, 7, r);
+        put(table, w.a, 7, row);
     }
 }
 
-// What row `r` tells: the entries of its next row and first child, its own unit and class, the class that it declares.
-pub fn note_row(s: &[u32], r: u32, t: &mut [u32])
-    ensures { λ _. ⌜ now (t .exit) ≡ noteRow (now (s .entry)) r (now (t .entry)) ⌝ }
+// What `row` tells: the entries of its next row and first child, its own unit and class, the class that it declares.
+pub fn note_row(sheet: &[u32], row: u32, table: &mut [u32])
+    ensures { λ _. ⌜ now (table .exit) ≡ noteRow (now (sheet .entry)) row (now (table .entry)) ⌝ }
 {
-    let w = row_at(s, r);
-    let e = entry_at(t, r);
-    note_next(w.next, w.kind, e, t);
-    note_child(s, r, w, e, t);
-    note_own(s, r, w.kind, e, t);
-    note_declared(r, w, t);
+    let w = row_at(sheet, row);
+    let e = entry_at(table, row);
+    note_next(w.next, w.kind, e, table);
+    note_child(sheet, row, w, e, table);
+    note_own(sheet, row, w.kind, e, table);
+    note_declared(row, w, table);
 }

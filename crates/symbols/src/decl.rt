@@ -28,12 +28,12 @@ pub struct OpenDecl {
 }
 
 // What name `m` means: the innermost open declaration of it.
-pub fn lookup(e: Env, v: &[u32], m: u32) -> OpenDecl
-    ensures { λ x. ⌜ (means x ≡ lookupMeaning (scopesOf e (now (v .entry))) m)
-        × (x .slot ≡ lookupSlot (scopesOf e (now (v .entry))) m)
-        × (x .second ≡ lookupGlobal (scopesOf e (now (v .entry))) m) ⌝ }
+pub fn lookup(env: Env, entries: &[u32], m: u32) -> OpenDecl
+    ensures { λ x. ⌜ (means x ≡ lookupMeaning (scopesOf env (now (entries .entry))) m)
+        × (x .slot ≡ lookupSlot (scopesOf env (now (entries .entry))) m)
+        × (x .second ≡ lookupGlobal (scopesOf env (now (entries .entry))) m) ⌝ }
 {
-    let k = find_name(v, m, e.count);
+    let k = find_name(entries, m, env.count);
     if k == 0 {
         return OpenDecl {
             tag: 2,
@@ -44,10 +44,10 @@ pub fn lookup(e: Env, v: &[u32], m: u32) -> OpenDecl
     }
     let i = k - 1;
     OpenDecl {
-        tag: entry_word(v, i, 0),
-        first: entry_word(v, i, 2),
-        second: entry_word(v, i, 3),
-        slot: entry_word(v, i, 4),
+        tag: entry_word(entries, i, 0),
+        first: entry_word(entries, i, 2),
+        second: entry_word(entries, i, 3),
+        slot: entry_word(entries, i, 4),
     }
 }
 
@@ -78,41 +78,41 @@ pub fn class_number(d: OpenDecl) -> ClassId
 }
 
 // Is it a local, and no argument?
-pub fn is_local(s: &[u32], d: OpenDecl) -> bool
-    ensures { λ x. ⌜ x ≡ isLocal (now (s .entry)) (means d) ⌝ }
+pub fn is_local(sheet: &[u32], d: OpenDecl) -> bool
+    ensures { λ x. ⌜ x ≡ isLocal (now (sheet .entry)) (means d) ⌝ }
 {
     if d.tag == 6 {
-        word(s, d.first, 0) == 29
+        word(sheet, d.first, 0) == 29
     } else {
         false
     }
 }
 
 // May it be assigned to?
-pub fn is_mutable(s: &[u32], d: OpenDecl) -> bool
-    ensures { λ x. ⌜ x ≡ isMutable (now (s .entry)) (means d) ⌝ }
+pub fn is_mutable(sheet: &[u32], d: OpenDecl) -> bool
+    ensures { λ x. ⌜ x ≡ isMutable (now (sheet .entry)) (means d) ⌝ }
 {
     if d.tag == 5 {
         return d.second == 1;
     }
     if d.tag == 7 {
-        return word(s, d.first, 7) == 1;
+        return word(sheet, d.first, 7) == 1;
     }
-    if is_local(s, d) {
-        return word(s, d.first, 7) == 1;
+    if is_local(sheet, d) {
+        return word(sheet, d.first, 7) == 1;
     }
     false
 }
 
 // What a let declares: its constant's global; in a unit function the function of a hoisted immutable literal, or else a new global; a
 // local in any other.
-fn declared_let(s: &[u32], r: u32, e: Env) -> OpenDecl
-    requires { ⌜ wordAt (now s) r 0 ≡ 29 ⌝ }
-    ensures { λ x. ⌜ ((v : List ℕ) → x ≡ entryFor (newMeaning (now (s .entry)) r (scopesOf e v)) (scopesOf e v)) ⌝ }
+fn declared_let(sheet: &[u32], row: u32, env: Env) -> OpenDecl
+    requires { ⌜ wordAt (now sheet) row 0 ≡ 29 ⌝ }
+    ensures { λ x. ⌜ ((entries : List ℕ) → x ≡ entryFor (newMeaning (now (sheet .entry)) row (scopesOf env entries)) (scopesOf env entries)) ⌝ }
 {
-    let slot = e.slot;
-    let fun = e.fun;
-    let b = word(s, r, 7);
+    let slot = env.slot;
+    let fun = env.fun;
+    let b = word(sheet, row, 7);
     if 1 < b {
         return OpenDecl {
             tag: 5,
@@ -121,20 +121,20 @@ fn declared_let(s: &[u32], r: u32, e: Env) -> OpenDecl
             slot: slot,
         };
     }
-    if word(s, fun.0, 7) != 1 {
+    if word(sheet, fun.0, 7) != 1 {
         return OpenDecl {
             tag: 6,
-            first: r,
+            first: row,
             second: fun.0,
             slot: slot,
         };
     }
-    let value = word(s, r, 2);
+    let value = word(sheet, row, 2);
     if b == 0 {
-        if word(s, value, 0) == 52 {
+        if word(sheet, value, 0) == 52 {
             return OpenDecl {
                 tag: 3,
-                first: word(s, value, 2),
+                first: word(sheet, value, 2),
                 second: 0,
                 slot: slot,
             };
@@ -142,34 +142,34 @@ fn declared_let(s: &[u32], r: u32, e: Env) -> OpenDecl
     }
     OpenDecl {
         tag: 7,
-        first: r,
-        second: e.globals,
+        first: row,
+        second: env.globals,
         slot: slot,
     }
 }
 
 // What a class, parameter or let row declares in the innermost function.
-pub fn declared_by(s: &[u32], r: u32, e: Env) -> OpenDecl
-    requires { ⌜ length (now s) ≤ 16384 ⌝ }
-    ensures { λ x. ⌜ ((v : List ℕ) → x ≡ entryFor (newMeaning (now (s .entry)) r (scopesOf e v)) (scopesOf e v)) ⌝ }
+pub fn declared_by(sheet: &[u32], row: u32, env: Env) -> OpenDecl
+    requires { ⌜ length (now sheet) ≤ 16384 ⌝ }
+    ensures { λ x. ⌜ ((entries : List ℕ) → x ≡ entryFor (newMeaning (now (sheet .entry)) row (scopesOf env entries)) (scopesOf env entries)) ⌝ }
 {
-    let kind = word(s, r, 0);
+    let kind = word(sheet, row, 0);
     if kind == 29 {
-        return declared_let(s, r, e);
+        return declared_let(sheet, row, env);
     }
-    let slot = e.slot;
-    let fun = e.fun;
+    let slot = env.slot;
+    let fun = env.fun;
     if kind == 4 {
         return OpenDecl {
             tag: 4,
-            first: FIRST_CLASS + r,
+            first: FIRST_CLASS + row,
             second: 0,
             slot: slot,
         };
     }
     OpenDecl {
         tag: 6,
-        first: r,
+        first: row,
         second: fun.0,
         slot: slot,
     }
@@ -183,10 +183,10 @@ pub fn one_more(n: u32) -> u32
 }
 
 // The next slot after `d` is declared: a local takes one.
-fn slot_after(s: &[u32], d: OpenDecl, n: u32) -> u32
-    ensures { λ x. ⌜ x ≡ (if isLocal (now (s .entry)) (means d) then oneMore n else n) ⌝ }
+fn slot_after(sheet: &[u32], d: OpenDecl, n: u32) -> u32
+    ensures { λ x. ⌜ x ≡ (if isLocal (now (sheet .entry)) (means d) then oneMore n else n) ⌝ }
 {
-    if is_local(s, d) { one_more(n) } else { n }
+    if is_local(sheet, d) { one_more(n) } else { n }
 }
 
 // The next global number after `d` is declared: a let of a unit takes one.
@@ -198,14 +198,14 @@ fn global_after(d: OpenDecl, n: u32) -> u32
 
 // Declares name `m` as `d`, which must be what the next entry of the open scopes holds of some meaning (`entryFor`: its slot is the next
 // one, a let of a unit has the next global number). Of any other `d` the contract says nothing.
-pub fn define(s: &[u32], m: u32, d: OpenDecl, e: Env, v: &mut [u32]) -> Env
-    ensures { λ x. ⌜ ((k : Meaning) → d ≡ entryFor k (scopesOf e (now (v .entry)))
-        → scopesOf x (now (v .exit)) ≡ pushName (now (s .entry)) m k (scopesOf e (now (v .entry)))) ⌝ }
+pub fn define(sheet: &[u32], m: u32, d: OpenDecl, env: Env, entries: &mut [u32]) -> Env
+    ensures { λ x. ⌜ ((k : Meaning) → d ≡ entryFor k (scopesOf env (now (entries .entry)))
+        → scopesOf x (now (entries .exit)) ≡ pushName (now (sheet .entry)) m k (scopesOf env (now (entries .entry)))) ⌝ }
 {
-    let fun = e.fun;
-    let slot = slot_after(s, d, e.slot);
-    let globals = global_after(d, e.globals);
-    let count = push_entry(v, e.count, d.tag, m, d.first, d.second, e.slot);
+    let fun = env.fun;
+    let slot = slot_after(sheet, d, env.slot);
+    let globals = global_after(d, env.globals);
+    let count = push_entry(entries, env.count, d.tag, m, d.first, d.second, env.slot);
     Env {
         count: count,
         slot: slot,

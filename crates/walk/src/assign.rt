@@ -18,66 +18,73 @@ use tree::lists::has_named;
 use tree::words::word;
 
 // Question 6: is an assigned identifier mutable?
-fn assign_name(s: &[u32], r: u32, w: Walk, v: &[u32]) -> Walk
-    requires { ⌜ (kind (now s) r ≡ 21) × (kind (now s) (child (now s) r) ≡ 50) ⌝ }
-    ensures { λ x. ⌜ ((O : Outside) (t q : List ℕ) → stateOf x (now (v .entry)) t q ≡ stepState O (now (s .entry)) (visit r) (stateOf w (now (v .entry)) t q)) ⌝ }
+fn assign_name(sheet: &[u32], row: u32, walk: Walk, entries: &[u32]) -> Walk
+    requires { ⌜ (kind (now sheet) row ≡ 21) × (kind (now sheet) (child (now sheet) row) ≡ 50) ⌝ }
+    ensures { λ x. ⌜ ((O : Outside) (results nodes : List ℕ) → stateOf x (now (entries .entry)) results nodes ≡ stepState O (now (sheet .entry)) (visit row) (stateOf walk (now (entries .entry)) results nodes)) ⌝ }
 {
-    if w.number != 0 {
-        return w;
+    if walk.number != 0 {
+        return walk;
     }
-    let target = word(s, r, 2);
-    let m = word(s, target, 6);
-    if is_mutable(s, lookup(w.env, v, m)) {
-        return w;
+    let target = word(sheet, row, 2);
+    let m = word(sheet, target, 6);
+    if is_mutable(sheet, lookup(walk.env, entries, m)) {
+        return walk;
     }
-    refuse(w, 6, r, m)
+    refuse(walk, 6, row, m)
 }
 
 // A member that is assigned to is a field of the innermost function's class, if it has one and does not list it.
-fn assign_member(s: &[u32], classes: &[u32], r: u32, w: Walk, t: &mut [u32], q: &mut [u32]) -> Walk
-    requires { ⌜ (ClassTable (now s) (now classes)) × (kind (now s) r ≡ 21) × (kind (now s) (child (now s) r) ≡ 54) ⌝ }
-    ensures { λ x. ⌜ ((O : Outside) (v : List ℕ) → stateOf x v (now (t .exit)) (now (q .exit)) ≡ stepState O (now (s .entry)) (visit r) (stateOf w v (now (t .entry)) (now (q .entry)))) ⌝ }
+fn assign_member(
+    sheet: &[u32],
+    classes: &[u32],
+    row: u32,
+    walk: Walk,
+    results: &mut [u32],
+    nodes: &mut [u32],
+) -> Walk
+    requires { ⌜ (ClassTable (now sheet) (now classes)) × (kind (now sheet) row ≡ 21) × (kind (now sheet) (child (now sheet) row) ≡ 54) ⌝ }
+    ensures { λ x. ⌜ ((O : Outside) (entries : List ℕ) → stateOf x entries (now (results .exit)) (now (nodes .exit)) ≡ stepState O (now (sheet .entry)) (visit row) (stateOf walk entries (now (results .entry)) (now (nodes .entry)))) ⌝ }
 {
-    if w.number != 0 {
-        return w;
+    if walk.number != 0 {
+        return walk;
     }
-    let e = w.env;
+    let e = walk.env;
     let class = entry_at(classes, e.fun.0);
     if class == 0 {
-        return w;
+        return walk;
     }
-    let target = word(s, r, 2);
-    let m = word(s, target, 6);
-    if has_named(s, class, 10, m) {
-        return w;
+    let target = word(sheet, row, 2);
+    let m = word(sheet, target, 6);
+    if has_named(sheet, class, 10, m) {
+        return walk;
     }
-    let store = reg_field(w.store, t, q, class, m);
+    let store = reg_field(walk.store, results, nodes, class, m);
     Walk {
         env: e,
         store: store,
-        number: w.number,
-        at: w.at,
-        name: w.name,
+        number: walk.number,
+        at: walk.at,
+        name: walk.name,
     }
 }
 
 // An assignment, after its sides are resolved.
 pub fn check_assign(
-    s: &[u32],
+    sheet: &[u32],
     classes: &[u32],
-    r: u32,
-    w: Walk,
-    v: &[u32],
-    t: &mut [u32],
-    q: &mut [u32],
+    row: u32,
+    walk: Walk,
+    entries: &[u32],
+    results: &mut [u32],
+    nodes: &mut [u32],
 ) -> Walk
-    requires { ⌜ (ClassTable (now s) (now classes)) × (kind (now s) r ≡ 21) ⌝ }
-    ensures { λ x. ⌜ ((O : Outside) → stateOf x (now (v .entry)) (now (t .exit)) (now (q .exit)) ≡ stepState O (now (s .entry)) (visit r) (stateOf w (now (v .entry)) (now (t .entry)) (now (q .entry)))) ⌝ }
+    requires { ⌜ (ClassTable (now sheet) (now classes)) × (kind (now sheet) row ≡ 21) ⌝ }
+    ensures { λ x. ⌜ ((O : Outside) → stateOf x (now (entries .entry)) (now (results .exit)) (now (nodes .exit)) ≡ stepState O (now (sheet .entry)) (visit row) (stateOf walk (now (entries .entry)) (now (results .entry)) (now (nodes .entry)))) ⌝ }
 {
-    let kind = word(s, word(s, r, 2), 0);
+    let kind = word(sheet, word(sheet, row, 2), 0);
     match kind {
-        50 => assign_name(s, r, w, v),
-        54 => assign_member(s, classes, r, w, t, q),
-        _ => w,
+        50 => assign_name(sheet, row, walk, entries),
+        54 => assign_member(sheet, classes, row, walk, results, nodes),
+        _ => walk,
     }
 }

@@ -26,124 +26,138 @@ use symbols::env::Env;
 use tree::lists::arguments;
 use tree::words::word;
 
-// The class that call `r` constructs, or 0: its callee is an identifier that means it.
-fn constructed_class(s: &[u32], r: u32, e: Env, v: &[u32]) -> ClassId
-    ensures { λ x. ⌜ x .0 ≡ constructedClass (now (s .entry)) r (scopesOf e (now (v .entry))) ⌝ }
+// The class that call `row` constructs, or 0: its callee is an identifier that means it.
+fn constructed_class(sheet: &[u32], row: u32, env: Env, entries: &[u32]) -> ClassId
+    ensures { λ x. ⌜ x .0 ≡ constructedClass (now (sheet .entry)) row (scopesOf env (now (entries .entry))) ⌝ }
 {
-    let callee = word(s, r, 2);
-    if word(s, callee, 0) != 50 {
+    let callee = word(sheet, row, 2);
+    if word(sheet, callee, 0) != 50 {
         return ClassId(0);
     }
-    let m = word(s, callee, 6);
-    class_number(lookup(e, v, m))
+    let m = word(sheet, callee, 6);
+    class_number(lookup(env, entries, m))
 }
 
-// The class on which call `r` calls a method, or 0: its callee is a member of an identifier that means the class.
-fn receiver_class(s: &[u32], r: u32, e: Env, v: &[u32]) -> ClassId
-    ensures { λ x. ⌜ x .0 ≡ receiverClass (now (s .entry)) r (scopesOf e (now (v .entry))) ⌝ }
+// The class on which call `row` calls a method, or 0: its callee is a member of an identifier that means the class.
+fn receiver_class(sheet: &[u32], row: u32, env: Env, entries: &[u32]) -> ClassId
+    ensures { λ x. ⌜ x .0 ≡ receiverClass (now (sheet .entry)) row (scopesOf env (now (entries .entry))) ⌝ }
 {
-    let callee = word(s, r, 2);
-    if word(s, callee, 0) != 54 {
+    let callee = word(sheet, row, 2);
+    if word(sheet, callee, 0) != 54 {
         return ClassId(0);
     }
-    let base = word(s, callee, 2);
-    if word(s, base, 0) != 50 {
+    let base = word(sheet, callee, 2);
+    if word(sheet, base, 0) != 50 {
         return ClassId(0);
     }
-    let m = word(s, base, 6);
-    class_number(lookup(e, v, m))
+    let m = word(sheet, base, 6);
+    class_number(lookup(env, entries, m))
 }
 
 // Question 12: has a class called as a constructor a record? The call is kept: 20 and 21 are asked after the walk.
-fn construct(s: &[u32], outside: &[u32], r: u32, class: ClassId, w: Walk, q: &mut [u32]) -> Walk
-    requires { ⌜ (kind (now s) r ≡ 59) × (class .0 ≡ 0 → ⊥) ⌝ }
-    ensures { λ x. ⌜ ((v t : List ℕ) → class .0 ≡ constructedClass (now (s .entry)) r (scopesOf (w .env) v)
-        → stateOf x v t (now (q .exit)) ≡ stepState (over (now (outside .entry))) (now (s .entry)) (visit r) (stateOf w v t (now (q .entry)))) ⌝ }
+fn construct(
+    sheet: &[u32],
+    outside: &[u32],
+    row: u32,
+    class: ClassId,
+    walk: Walk,
+    nodes: &mut [u32],
+) -> Walk
+    requires { ⌜ (kind (now sheet) row ≡ 59) × (class .0 ≡ 0 → ⊥) ⌝ }
+    ensures { λ x. ⌜ ((entries results : List ℕ) → class .0 ≡ constructedClass (now (sheet .entry)) row (scopesOf (walk .env) entries)
+        → stateOf x entries results (now (nodes .exit)) ≡ stepState (over (now (outside .entry))) (now (sheet .entry)) (visit row) (stateOf walk entries results (now (nodes .entry)))) ⌝ }
 {
-    if w.number != 0 {
-        return w;
+    if walk.number != 0 {
+        return walk;
     }
-    let callee = word(s, r, 2);
-    if !has_record(s, outside, class) {
-        return refuse(w, 12, callee, word(s, callee, 6));
+    let callee = word(sheet, row, 2);
+    if !has_record(sheet, outside, class) {
+        return refuse(walk, 12, callee, word(sheet, callee, 6));
     }
     let call = Node {
-        key: r,
+        key: row,
         one: class.0,
         two: 0,
     };
-    let env = w.env;
-    let store = append_call(w.store, q, call);
+    let env = walk.env;
+    let store = append_call(walk.store, nodes, call);
     Walk {
         env: env,
         store: store,
-        number: w.number,
-        at: w.at,
-        name: w.name,
+        number: walk.number,
+        at: walk.at,
+        name: walk.name,
     }
 }
 
-// The question that the call `r` of method `m` on a class gets a no to: 17, has the class a record? 13, has it the method? 14, with as
+// The question that the call `row` of method `m` on a class gets a no to: 17, has the class a record? 13, has it the method? 14, with as
 // many parameters as arguments? Or 0.
-fn method_question(s: &[u32], outside: &[u32], r: u32, class: ClassId, m: Method) -> u32
-    ensures { λ x. ⌜ x ≡ methodQuestion (over (now (outside .entry))) (now (s .entry)) r (class .0) (m .fun .0) (m .params) ⌝ }
+fn method_question(sheet: &[u32], outside: &[u32], row: u32, class: ClassId, m: Method) -> u32
+    ensures { λ x. ⌜ x ≡ methodQuestion (over (now (outside .entry))) (now (sheet .entry)) row (class .0) (m .fun .0) (m .params) ⌝ }
 {
-    if !has_record(s, outside, class) {
+    if !has_record(sheet, outside, class) {
         return 17;
     }
     let f = m.fun;
     if f.0 == 0 {
         return 13;
     }
-    if arguments(s, r) != m.params {
+    if arguments(sheet, row) != m.params {
         return 14;
     }
     0
 }
 
 // A method called on a class: its questions; then the callee means the method, and its base gives no answer row.
-fn call_method(s: &[u32], outside: &[u32], r: u32, class: ClassId, w: Walk, t: &mut [u32]) -> Walk
-    requires { ⌜ (kind (now s) r ≡ 59) × (class .0 ≡ 0 → ⊥) ⌝ }
-    ensures { λ x. ⌜ ((v q : List ℕ) → class .0 ≡ receiverClass (now (s .entry)) r (scopesOf (w .env) v)
-        → stateOf x v (now (t .exit)) q ≡ stepState (over (now (outside .entry))) (now (s .entry)) (visit r) (stateOf w v (now (t .entry)) q)) ⌝ }
+fn call_method(
+    sheet: &[u32],
+    outside: &[u32],
+    row: u32,
+    class: ClassId,
+    walk: Walk,
+    results: &mut [u32],
+) -> Walk
+    requires { ⌜ (kind (now sheet) row ≡ 59) × (class .0 ≡ 0 → ⊥) ⌝ }
+    ensures { λ x. ⌜ ((entries nodes : List ℕ) → class .0 ≡ receiverClass (now (sheet .entry)) row (scopesOf (walk .env) entries)
+        → stateOf x entries (now (results .exit)) nodes ≡ stepState (over (now (outside .entry))) (now (sheet .entry)) (visit row) (stateOf walk entries (now (results .entry)) nodes)) ⌝ }
 {
-    if w.number != 0 {
-        return w;
+    if walk.number != 0 {
+        return walk;
     }
-    let callee = word(s, r, 2);
-    let m = word(s, callee, 6);
-    let method = own_method(s, outside, class, m);
-    let no = method_question(s, outside, r, class, method);
+    let callee = word(sheet, row, 2);
+    let m = word(sheet, callee, 6);
+    let method = own_method(sheet, outside, class, m);
+    let no = method_question(sheet, outside, row, class, method);
     if no != 0 {
-        return refuse(w, no, callee, m);
+        return refuse(walk, no, callee, m);
     }
-    mark_hidden(t, word(s, callee, 2));
+    mark_hidden(results, word(sheet, callee, 2));
     let f = method.fun;
-    write_decl(t, callee, Decl::Fun { id: f });
-    w
+    write_decl(results, callee, Decl::Fun { id: f });
+    walk
 }
 
-// The checks on the callee of call `r`.
+// The checks on the callee of call `row`.
 pub fn check_callee(
-    s: &[u32],
+    sheet: &[u32],
     outside: &[u32],
-    r: u32,
-    w: Walk,
-    v: &[u32],
-    t: &mut [u32],
-    q: &mut [u32],
+    row: u32,
+    walk: Walk,
+    entries: &[u32],
+    results: &mut [u32],
+    nodes: &mut [u32],
 ) -> Walk
-    requires { ⌜ kind (now s) r ≡ 59 ⌝ }
-    ensures { λ x. ⌜ stateOf x (now (v .entry)) (now (t .exit)) (now (q .exit)) ≡ stepState (over (now (outside .entry))) (now (s .entry)) (visit r) (stateOf w (now (v .entry)) (now (t .entry)) (now (q .entry))) ⌝ }
+    requires { ⌜ kind (now sheet) row ≡ 59 ⌝ }
+    ensures { λ x. ⌜ stateOf x (now (entries .entry)) (now (results .exit)) (now (nodes .exit)) ≡ stepState (over (now (outside .entry))) (now (sheet .entry)) (visit row) (stateOf walk (now (entries .entry)) (now (results .entry)) (now (nodes .entry))) ⌝ }
 {
-    let e = w.env;
-    let class = constructed_class(s, r, e, v);
+    let e = walk.env;
+    let class = constructed_class(sheet, row, e, entries);
     if class.0 != 0 {
-        return construct(s, outside, r, class, w, q);
+        return construct(sheet, outside, row, class, walk, nodes);
     }
-    let receiver = receiver_class(s, r, e, v);
+    let receiver = receiver_class(sheet, row, e, entries);
     if receiver.0 != 0 {
-        return call_method(s, outside, r, receiver, w, t);
+        return call_method(sheet, outside, row, receiver, walk, results);
     }
-    w
+    walk
 }

@@ -30,135 +30,167 @@ use symbols::env::Env;
 use symbols::env::has_local;
 use tree::words::word;
 
-// Is row `r` a let whose value is a function literal?
-fn is_literal_let(s: &[u32], r: u32) -> bool
-    ensures { λ x. ⌜ x ≡ literalLet (now (s .entry)) r ⌝ }
+// Is `row` a let whose value is a function literal?
+fn is_literal_let(sheet: &[u32], row: u32) -> bool
+    ensures { λ x. ⌜ x ≡ literalLet (now (sheet .entry)) row ⌝ }
 {
-    if word(s, r, 0) != 29 {
+    if word(sheet, row, 0) != 29 {
         return false;
     }
-    word(s, word(s, r, 2), 0) == 52
+    word(sheet, word(sheet, row, 2), 0) == 52
 }
 
 // The question on a name that is taken: 7 for a let whose value is no function literal, 16 for any other row.
-fn declare_question(s: &[u32], r: u32) -> u32
-    ensures { λ x. ⌜ x ≡ (if is (now (s .entry)) 29 r && not (literalLet (now (s .entry)) r) then 7 else 16) ⌝ }
+fn declare_question(sheet: &[u32], row: u32) -> u32
+    ensures { λ x. ⌜ x ≡ (if is (now (sheet .entry)) 29 row && not (literalLet (now (sheet .entry)) row) then 7 else 16) ⌝ }
 {
-    if word(s, r, 0) != 29 {
+    if word(sheet, row, 0) != 29 {
         return 16;
     }
-    if is_literal_let(s, r) { 16 } else { 7 }
+    if is_literal_let(sheet, row) { 16 } else { 7 }
 }
 
 // A local is counted in the innermost function.
-fn count_local(s: &[u32], e: Env, d: OpenDecl, t: &mut [u32])
-    ensures { λ _. ⌜ ((o : Store) (q : List ℕ) → storeOf o (now (t .exit)) q
-        ≡ (if isLocal (now (s .entry)) (means d) then raiseLocals (e .fun .0) (oneMore (e .slot)) (storeOf o (now (t .entry)) q) else storeOf o (now (t .entry)) q)) ⌝ }
+fn count_local(sheet: &[u32], env: Env, d: OpenDecl, results: &mut [u32])
+    ensures { λ _. ⌜ ((o : Store) (nodes : List ℕ) → storeOf o (now (results .exit)) nodes
+        ≡ (if isLocal (now (sheet .entry)) (means d) then raiseLocals (env .fun .0) (oneMore (env .slot)) (storeOf o (now (results .entry)) nodes) else storeOf o (now (results .entry)) nodes)) ⌝ }
 {
-    if is_local(s, d) {
-        let fun = e.fun;
-        raise_locals(t, fun, one_more(e.slot));
+    if is_local(sheet, d) {
+        let fun = env.fun;
+        raise_locals(results, fun, one_more(env.slot));
     }
 }
 
 // What a let stores when it is declared as `d`: its local, and its code and values. Any other row stores nothing.
-fn store_let(s: &[u32], r: u32, e: Env, d: OpenDecl, t: &mut [u32])
-    requires { ⌜ (length (now s) ≤ 16384) × (isDeclared (means d) ≡ true) ⌝ }
-    ensures { λ _. ⌜ ((O : Outside) (o : Store) (v q : List ℕ) → d ≡ entryFor (newMeaning (now (s .entry)) r (scopesOf e v)) (scopesOf e v)
-        → storeOf o (now (t .exit)) q ≡ stepStore O (now (s .entry)) (declare r) (scopesOf e v) (storeOf o (now (t .entry)) q)) ⌝ }
+fn store_let(sheet: &[u32], row: u32, env: Env, d: OpenDecl, results: &mut [u32])
+    requires { ⌜ (length (now sheet) ≤ 16384) × (isDeclared (means d) ≡ true) ⌝ }
+    ensures { λ _. ⌜ ((O : Outside) (o : Store) (entries nodes : List ℕ) → d ≡ entryFor (newMeaning (now (sheet .entry)) row (scopesOf env entries)) (scopesOf env entries)
+        → storeOf o (now (results .exit)) nodes ≡ stepStore O (now (sheet .entry)) (declare row) (scopesOf env entries) (storeOf o (now (results .entry)) nodes)) ⌝ }
 {
-    if word(s, r, 0) != 29 {
+    if word(sheet, row, 0) != 29 {
         return;
     }
-    count_local(s, e, d, t);
-    write_decl(t, r, code_of(s, d));
+    count_local(sheet, env, d, results);
+    write_decl(results, row, code_of(sheet, d));
 }
 
-// Row `r` declares its name: questions 7 and 16.
-pub fn declare(s: &[u32], r: u32, w: Walk, v: &mut [u32], t: &mut [u32]) -> Walk
-    requires { ⌜ length (now s) ≤ 16384 ⌝ }
-    ensures { λ x. ⌜ ((O : Outside) (q : List ℕ) → stateOf x (now (v .exit)) (now (t .exit)) q ≡ stepState O (now (s .entry)) (declare r) (stateOf w (now (v .entry)) (now (t .entry)) q)) ⌝ }
+// `row` declares its name: questions 7 and 16.
+pub fn declare(
+    sheet: &[u32],
+    row: u32,
+    walk: Walk,
+    entries: &mut [u32],
+    results: &mut [u32],
+) -> Walk
+    requires { ⌜ length (now sheet) ≤ 16384 ⌝ }
+    ensures { λ x. ⌜ ((O : Outside) (nodes : List ℕ) → stateOf x (now (entries .exit)) (now (results .exit)) nodes ≡ stepState O (now (sheet .entry)) (declare row) (stateOf walk (now (entries .entry)) (now (results .entry)) nodes)) ⌝ }
 {
-    if w.number != 0 {
-        return w;
+    if walk.number != 0 {
+        return walk;
     }
-    let e = w.env;
-    let store = w.store;
-    let m = word(s, r, 6);
-    if has_local(v, m, e.count) {
-        return refuse(w, declare_question(s, r), r, m);
+    let e = walk.env;
+    let store = walk.store;
+    let m = word(sheet, row, 6);
+    if has_local(entries, m, e.count) {
+        return refuse(walk, declare_question(sheet, row), row, m);
     }
-    let d = declared_by(s, r, e);
-    store_let(s, r, e, d, t);
-    let env = define(s, m, d, e, v);
+    let d = declared_by(sheet, row, e);
+    store_let(sheet, row, e, d, results);
+    let env = define(sheet, m, d, e, entries);
     Walk {
         env: env,
         store: store,
-        number: w.number,
-        at: w.at,
-        name: w.name,
+        number: walk.number,
+        at: walk.at,
+        name: walk.name,
     }
 }
 
 // Declares row `k`, if it is of a kind.
-fn declare_if(s: &[u32], k: u32, kind: u32, w: Walk, v: &mut [u32], t: &mut [u32]) -> Walk
-    requires { ⌜ length (now s) ≤ 16384 ⌝ }
-    ensures { λ x. ⌜ ((O : Outside) (q : List ℕ) → stateOf x (now (v .exit)) (now (t .exit)) q
-        ≡ runState O (now (s .entry)) (if is (now (s .entry)) kind k then declare k ∷ [] else []) (stateOf w (now (v .entry)) (now (t .entry)) q)) ⌝ }
+fn declare_if(
+    sheet: &[u32],
+    k: u32,
+    kind: u32,
+    walk: Walk,
+    entries: &mut [u32],
+    results: &mut [u32],
+) -> Walk
+    requires { ⌜ length (now sheet) ≤ 16384 ⌝ }
+    ensures { λ x. ⌜ ((O : Outside) (nodes : List ℕ) → stateOf x (now (entries .exit)) (now (results .exit)) nodes
+        ≡ runState O (now (sheet .entry)) (if is (now (sheet .entry)) kind k then declare k ∷ [] else []) (stateOf walk (now (entries .entry)) (now (results .entry)) nodes)) ⌝ }
 {
-    if word(s, k, 0) != kind {
-        return w;
+    if word(sheet, k, 0) != kind {
+        return walk;
     }
-    declare(s, k, w, v, t)
+    declare(sheet, k, walk, entries, results)
 }
 
-// Declares the children of row `r` that are of a kind: the classes of a unit, the parameters of a function.
-pub fn declare_kind(s: &[u32], r: u32, kind: u32, w: Walk, v: &mut [u32], t: &mut [u32]) -> Walk
-    requires { ⌜ length (now s) ≤ 16384 ⌝ }
-    ensures { λ x. ⌜ ((O : Outside) (q : List ℕ) → stateOf x (now (v .exit)) (now (t .exit)) q
-        ≡ runState O (now (s .entry)) (map declare (kidsOf (now (s .entry)) kind r)) (stateOf w (now (v .entry)) (now (t .entry)) q)) ⌝ }
+// Declares the children of `row` that are of a kind: the classes of a unit, the parameters of a function.
+pub fn declare_kind(
+    sheet: &[u32],
+    row: u32,
+    kind: u32,
+    walk: Walk,
+    entries: &mut [u32],
+    results: &mut [u32],
+) -> Walk
+    requires { ⌜ length (now sheet) ≤ 16384 ⌝ }
+    ensures { λ x. ⌜ ((O : Outside) (nodes : List ℕ) → stateOf x (now (entries .exit)) (now (results .exit)) nodes
+        ≡ runState O (now (sheet .entry)) (map declare (kidsOf (now (sheet .entry)) kind row)) (stateOf walk (now (entries .entry)) (now (results .entry)) nodes)) ⌝ }
 {
-    let mut n = s.len() / 8;
-    let mut k = word(s, r, 2);
-    let mut a = w;
+    let mut n = sheet.len() / 8;
+    let mut k = word(sheet, row, 2);
+    let mut a = walk;
     while 0 < n {
         if k == 0 {
             return a;
         }
-        a = declare_if(s, k, kind, a, v, t);
-        k = word(s, k, 1);
+        a = declare_if(sheet, k, kind, a, entries, results);
+        k = word(sheet, k, 1);
         n -= 1;
     }
     a
 }
 
 // Declares row `k`, if it is a let whose value is a function literal.
-fn declare_literal(s: &[u32], k: u32, w: Walk, v: &mut [u32], t: &mut [u32]) -> Walk
-    requires { ⌜ length (now s) ≤ 16384 ⌝ }
-    ensures { λ x. ⌜ ((O : Outside) (q : List ℕ) → stateOf x (now (v .exit)) (now (t .exit)) q
-        ≡ runState O (now (s .entry)) (if literalLet (now (s .entry)) k then declare k ∷ [] else []) (stateOf w (now (v .entry)) (now (t .entry)) q)) ⌝ }
+fn declare_literal(
+    sheet: &[u32],
+    k: u32,
+    walk: Walk,
+    entries: &mut [u32],
+    results: &mut [u32],
+) -> Walk
+    requires { ⌜ length (now sheet) ≤ 16384 ⌝ }
+    ensures { λ x. ⌜ ((O : Outside) (nodes : List ℕ) → stateOf x (now (entries .exit)) (now (results .exit)) nodes
+        ≡ runState O (now (sheet .entry)) (if literalLet (now (sheet .entry)) k then declare k ∷ [] else []) (stateOf walk (now (entries .entry)) (now (results .entry)) nodes)) ⌝ }
 {
-    if !is_literal_let(s, k) {
-        return w;
+    if !is_literal_let(sheet, k) {
+        return walk;
     }
-    declare(s, k, w, v, t)
+    declare(sheet, k, walk, entries, results)
 }
 
-// Declares the lets of block `r` whose values are function literals: they come first.
-pub fn hoist_literals(s: &[u32], r: u32, w: Walk, v: &mut [u32], t: &mut [u32]) -> Walk
-    requires { ⌜ length (now s) ≤ 16384 ⌝ }
-    ensures { λ x. ⌜ ((O : Outside) (q : List ℕ) → stateOf x (now (v .exit)) (now (t .exit)) q
-        ≡ runState O (now (s .entry)) (map declare (filter (literalLet (now (s .entry))) (kids (now (s .entry)) r))) (stateOf w (now (v .entry)) (now (t .entry)) q)) ⌝ }
+// Declares the lets of block `row` whose values are function literals: they come first.
+pub fn hoist_literals(
+    sheet: &[u32],
+    row: u32,
+    walk: Walk,
+    entries: &mut [u32],
+    results: &mut [u32],
+) -> Walk
+    requires { ⌜ length (now sheet) ≤ 16384 ⌝ }
+    ensures { λ x. ⌜ ((O : Outside) (nodes : List ℕ) → stateOf x (now (entries .exit)) (now (results .exit)) nodes
+        ≡ runState O (now (sheet .entry)) (map declare (filter (literalLet (now (sheet .entry))) (kids (now (sheet .entry)) row))) (stateOf walk (now (entries .entry)) (now (results .entry)) nodes)) ⌝ }
 {
-    let mut n = s.len() / 8;
-    let mut k = word(s, r, 2);
-    let mut a = w;
+    let mut n = sheet.len() / 8;
+    let mut k = word(sheet, row, 2);
+    let mut a = walk;
     while 0 < n {
         if k == 0 {
             return a;
         }
-        a = declare_literal(s, k, a, v, t);
-        k = word(s, k, 1);
+        a = declare_literal(sheet, k, a, entries, results);
+        k = word(sheet, k, 1);
         n -= 1;
     }
     a

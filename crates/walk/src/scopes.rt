@@ -12,56 +12,56 @@ use symbols::env::pop_scope;
 use symbols::env::push_loop;
 use symbols::env::push_scope;
 
-// The scope of row `r` opens.
-pub fn open_scope(s: &[u32], r: u32, w: Walk, v: &mut [u32]) -> Walk
-    ensures { λ x. ⌜ ((O : Outside) (t q : List ℕ) → stateOf x (now (v .exit)) t q ≡ stepState O (now (s .entry)) (enter r) (stateOf w (now (v .entry)) t q)) ⌝ }
+// The scope of `row` opens.
+pub fn open_scope(sheet: &[u32], row: u32, walk: Walk, entries: &mut [u32]) -> Walk
+    ensures { λ x. ⌜ ((O : Outside) (results nodes : List ℕ) → stateOf x (now (entries .exit)) results nodes ≡ stepState O (now (sheet .entry)) (enter row) (stateOf walk (now (entries .entry)) results nodes)) ⌝ }
 {
-    if w.number != 0 {
-        return w;
+    if walk.number != 0 {
+        return walk;
     }
-    let store = w.store;
-    let env = push_scope(s, r, w.env, v);
+    let store = walk.store;
+    let env = push_scope(sheet, row, walk.env, entries);
     Walk {
         env: env,
         store: store,
-        number: w.number,
-        at: w.at,
-        name: w.name,
+        number: walk.number,
+        at: walk.at,
+        name: walk.name,
     }
 }
 
 // The innermost scope closes.
-pub fn close_scope(w: Walk, v: &[u32]) -> Walk
-    ensures { λ x. ⌜ ((O : Outside) (s : Sheet) (t q : List ℕ) → stateOf x (now (v .entry)) t q ≡ stepState O s leave (stateOf w (now (v .entry)) t q)) ⌝ }
+pub fn close_scope(walk: Walk, entries: &[u32]) -> Walk
+    ensures { λ x. ⌜ ((O : Outside) (s : Sheet) (results nodes : List ℕ) → stateOf x (now (entries .entry)) results nodes ≡ stepState O s leave (stateOf walk (now (entries .entry)) results nodes)) ⌝ }
 {
-    if w.number != 0 {
-        return w;
+    if walk.number != 0 {
+        return walk;
     }
-    let store = w.store;
-    let env = pop_scope(w.env, v);
+    let store = walk.store;
+    let env = pop_scope(walk.env, entries);
     Walk {
         env: env,
         store: store,
-        number: w.number,
-        at: w.at,
-        name: w.name,
+        number: walk.number,
+        at: walk.at,
+        name: walk.name,
     }
 }
 
 // The rest of the innermost scope is in a loop.
-pub fn begin_loop(w: Walk, v: &mut [u32]) -> Walk
-    ensures { λ x. ⌜ ((O : Outside) (s : Sheet) (t q : List ℕ) → stateOf x (now (v .exit)) t q ≡ stepState O s loop (stateOf w (now (v .entry)) t q)) ⌝ }
+pub fn begin_loop(walk: Walk, entries: &mut [u32]) -> Walk
+    ensures { λ x. ⌜ ((O : Outside) (s : Sheet) (results nodes : List ℕ) → stateOf x (now (entries .exit)) results nodes ≡ stepState O s loop (stateOf walk (now (entries .entry)) results nodes)) ⌝ }
 {
-    if w.number != 0 {
-        return w;
+    if walk.number != 0 {
+        return walk;
     }
-    let store = w.store;
-    let env = push_loop(w.env, v);
+    let store = walk.store;
+    let env = push_loop(walk.env, entries);
     Walk {
         env: env,
         store: store,
-        number: w.number,
-        at: w.at,
-        name: w.name,
+        number: walk.number,
+        at: walk.at,
+        name: walk.name,
     }
 }

@@ -16,11 +16,11 @@ pub struct Walk {
 }
 
 // The walk refused by a question.
-pub fn refuse(w: Walk, number: u32, at: u32, name: u32) -> Walk
-    ensures { λ x. ⌜ ((v t q : List ℕ) → stateOf x v t q ≡ refusedBy number at name (stateOf w v t q)) ⌝ }
+pub fn refuse(walk: Walk, number: u32, at: u32, name: u32) -> Walk
+    ensures { λ x. ⌜ ((entries results nodes : List ℕ) → stateOf x entries results nodes ≡ refusedBy number at name (stateOf walk entries results nodes)) ⌝ }
 {
-    let env = w.env;
-    let store = w.store;
+    let env = walk.env;
+    let store = walk.store;
     Walk {
         env: env,
         store: store,

@@ -35,18 +35,18 @@ use symbols::env::in_loop;
 use tree::words::word;
 
 // Question 5: does a break or continue stand in a loop?
-pub fn check_jump(s: &[u32], r: u32, w: Walk, v: &[u32]) -> Walk
-    requires { ⌜ (is (now s) 23 r || is (now s) 24 r) ≡ true ⌝ }
-    ensures { λ x. ⌜ ((O : Outside) (t q : List ℕ) → stateOf x (now (v .entry)) t q ≡ stepState O (now (s .entry)) (visit r) (stateOf w (now (v .entry)) t q)) ⌝ }
+pub fn check_jump(sheet: &[u32], row: u32, walk: Walk, entries: &[u32]) -> Walk
+    requires { ⌜ (is (now sheet) 23 row || is (now sheet) 24 row) ≡ true ⌝ }
+    ensures { λ x. ⌜ ((O : Outside) (results nodes : List ℕ) → stateOf x (now (entries .entry)) results nodes ≡ stepState O (now (sheet .entry)) (visit row) (stateOf walk (now (entries .entry)) results nodes)) ⌝ }
 {
-    if w.number != 0 {
-        return w;
+    if walk.number != 0 {
+        return walk;
     }
-    let e = w.env;
-    if in_loop(s, v, e.count) {
-        return w;
+    let e = walk.env;
+    if in_loop(sheet, entries, e.count) {
+        return walk;
     }
-    refuse(w, 5, r, 0)
+    refuse(walk, 5, row, 0)
 }
 
 // The question on an undeclared name: 9 for null, 8 for any other.
@@ -59,116 +59,129 @@ fn undeclared(m: u32) -> u32
 // A local or argument that is used is captured by every function around, out to its own. Most belong to the innermost function,
 // where none captures them: then the open entries are not searched.
 fn capture(
-    s: &[u32],
-    v: &[u32],
-    e: Env,
+    sheet: &[u32],
+    entries: &[u32],
+    env: Env,
     d: OpenDecl,
-    o: Store,
-    t: &mut [u32],
-    q: &mut [u32],
+    store: Store,
+    results: &mut [u32],
+    nodes: &mut [u32],
 ) -> Store
-    ensures { λ x. ⌜ storeOf x (now (t .exit)) (now (q .exit))
-        ≡ (if isOuterVariable (means d) (e .fun .0)
-        then addCapture (openFunctions (now (s .entry)) (scopesOf e (now (v .entry)))) (record { key = rowOf (means d); one = ownerOf (means d); two = d .slot }) (storeOf o (now (t .entry)) (now (q .entry)))
-        else storeOf o (now (t .entry)) (now (q .entry))) ⌝ }
+    ensures { λ x. ⌜ storeOf x (now (results .exit)) (now (nodes .exit))
+        ≡ (if isOuterVariable (means d) (env .fun .0)
+        then addCapture (openFunctions (now (sheet .entry)) (scopesOf env (now (entries .entry)))) (record { key = rowOf (means d); one = ownerOf (means d); two = d .slot }) (storeOf store (now (results .entry)) (now (nodes .entry)))
+        else storeOf store (now (results .entry)) (now (nodes .entry))) ⌝ }
 {
     if d.tag != 6 {
-        return o;
+        return store;
     }
-    let fun = e.fun;
+    let fun = env.fun;
     if d.second == fun.0 {
-        return o;
+        return store;
     }
     let x = Node {
         key: d.first,
         one: d.second,
         two: d.slot,
     };
-    reg_captured(s, v, e.count, x, o, t, q)
+    reg_captured(sheet, entries, env.count, x, store, results, nodes)
 }
 
 // An identifier: questions 8 and 9, the captures, and what it means.
-pub fn resolve_ident(s: &[u32], r: u32, w: Walk, v: &[u32], t: &mut [u32], q: &mut [u32]) -> Walk
-    requires { ⌜ (length (now s) ≤ 16384) × (kind (now s) r ≡ 50) ⌝ }
-    ensures { λ x. ⌜ ((O : Outside) → stateOf x (now (v .entry)) (now (t .exit)) (now (q .exit)) ≡ stepState O (now (s .entry)) (visit r) (stateOf w (now (v .entry)) (now (t .entry)) (now (q .entry)))) ⌝ }
+pub fn resolve_ident(
+    sheet: &[u32],
+    row: u32,
+    walk: Walk,
+    entries: &[u32],
+    results: &mut [u32],
+    nodes: &mut [u32],
+) -> Walk
+    requires { ⌜ (length (now sheet) ≤ 16384) × (kind (now sheet) row ≡ 50) ⌝ }
+    ensures { λ x. ⌜ ((O : Outside) → stateOf x (now (entries .entry)) (now (results .exit)) (now (nodes .exit)) ≡ stepState O (now (sheet .entry)) (visit row) (stateOf walk (now (entries .entry)) (now (results .entry)) (now (nodes .entry)))) ⌝ }
 {
-    if w.number != 0 {
-        return w;
+    if walk.number != 0 {
+        return walk;
     }
-    let e = w.env;
-    let o = w.store;
-    let m = word(s, r, 6);
-    let d = lookup(e, v, m);
+    let e = walk.env;
+    let o = walk.store;
+    let m = word(sheet, row, 6);
+    let d = lookup(e, entries, m);
     if !is_declared(d) {
-        return refuse(w, undeclared(m), r, m);
+        return refuse(walk, undeclared(m), row, m);
     }
     let fun = e.fun;
-    let store = capture(s, v, e, d, o, t, q);
-    let x = seen_in(s, d, fun, t, q);
-    write_decl(t, r, x);
+    let store = capture(sheet, entries, e, d, o, results, nodes);
+    let x = seen_in(sheet, d, fun, results, nodes);
+    write_decl(results, row, x);
     Walk {
         env: e,
         store: store,
-        number: w.number,
-        at: w.at,
-        name: w.name,
+        number: walk.number,
+        at: walk.at,
+        name: walk.name,
     }
 }
 
 // Question 10: does instanceof name a class?
-pub fn check_instanceof(s: &[u32], r: u32, w: Walk, v: &[u32], t: &mut [u32]) -> Walk
-    requires { ⌜ kind (now s) r ≡ 55 ⌝ }
-    ensures { λ x. ⌜ ((O : Outside) (q : List ℕ) → stateOf x (now (v .entry)) (now (t .exit)) q ≡ stepState O (now (s .entry)) (visit r) (stateOf w (now (v .entry)) (now (t .entry)) q)) ⌝ }
+pub fn check_instanceof(
+    sheet: &[u32],
+    row: u32,
+    walk: Walk,
+    entries: &[u32],
+    results: &mut [u32],
+) -> Walk
+    requires { ⌜ kind (now sheet) row ≡ 55 ⌝ }
+    ensures { λ x. ⌜ ((O : Outside) (nodes : List ℕ) → stateOf x (now (entries .entry)) (now (results .exit)) nodes ≡ stepState O (now (sheet .entry)) (visit row) (stateOf walk (now (entries .entry)) (now (results .entry)) nodes)) ⌝ }
 {
-    if w.number != 0 {
-        return w;
+    if walk.number != 0 {
+        return walk;
     }
-    let m = word(s, r, 6);
-    let class = class_number(lookup(w.env, v, m));
+    let m = word(sheet, row, 6);
+    let class = class_number(lookup(walk.env, entries, m));
     if class.0 == 0 {
-        return refuse(w, 10, r, m);
+        return refuse(walk, 10, row, m);
     }
-    write_decl(t, r, Decl::Class { id: class });
-    w
+    write_decl(results, row, Decl::Class { id: class });
+    walk
 }
 
 // Code 7 in the main unit's function itself, else 8.
-fn main_unit_code(s: &[u32], fun: FunId) -> u32
-    ensures { λ x. ⌜ x ≡ (if eqb (fun .0) (b (now (s .entry)) 0) then 7 else 8) ⌝ }
+fn main_unit_code(sheet: &[u32], fun: FunId) -> u32
+    ensures { λ x. ⌜ x ≡ (if eqb (fun .0) (b (now (sheet .entry)) 0) then 7 else 8) ⌝ }
 {
-    if fun.0 == word(s, 0, 7) { 7 } else { 8 }
+    if fun.0 == word(sheet, 0, 7) { 7 } else { 8 }
 }
 
 // Question 17: is a host constant MAIN_UNIT?
-pub fn resolve_host_const(s: &[u32], r: u32, w: Walk, t: &mut [u32]) -> Walk
-    requires { ⌜ kind (now s) r ≡ 51 ⌝ }
-    ensures { λ x. ⌜ ((O : Outside) (v q : List ℕ) → stateOf x v (now (t .exit)) q ≡ stepState O (now (s .entry)) (visit r) (stateOf w v (now (t .entry)) q)) ⌝ }
+pub fn resolve_host_const(sheet: &[u32], row: u32, walk: Walk, results: &mut [u32]) -> Walk
+    requires { ⌜ kind (now sheet) row ≡ 51 ⌝ }
+    ensures { λ x. ⌜ ((O : Outside) (entries nodes : List ℕ) → stateOf x entries (now (results .exit)) nodes ≡ stepState O (now (sheet .entry)) (visit row) (stateOf walk entries (now (results .entry)) nodes)) ⌝ }
 {
-    if w.number != 0 {
-        return w;
+    if walk.number != 0 {
+        return walk;
     }
-    let m = word(s, r, 6);
+    let m = word(sheet, row, 6);
     if m != 24 {
-        return refuse(w, 17, r, m);
+        return refuse(walk, 17, row, m);
     }
-    let e = w.env;
-    let code = main_unit_code(s, e.fun);
-    write_row(t, r, [code, 0, 0, 0]);
-    w
+    let e = walk.env;
+    let code = main_unit_code(sheet, e.fun);
+    write_row(results, row, [code, 0, 0, 0]);
+    walk
 }
 
 // A literal notes the function in which it stands.
-pub fn note_literal(s: &[u32], r: u32, w: Walk, t: &mut [u32]) -> Walk
-    requires { ⌜ kind (now s) r ≡ 52 ⌝ }
-    ensures { λ x. ⌜ ((O : Outside) (v q : List ℕ) → stateOf x v (now (t .exit)) q ≡ stepState O (now (s .entry)) (visit r) (stateOf w v (now (t .entry)) q)) ⌝ }
+pub fn note_literal(sheet: &[u32], row: u32, walk: Walk, results: &mut [u32]) -> Walk
+    requires { ⌜ kind (now sheet) row ≡ 52 ⌝ }
+    ensures { λ x. ⌜ ((O : Outside) (entries nodes : List ℕ) → stateOf x entries (now (results .exit)) nodes ≡ stepState O (now (sheet .entry)) (visit row) (stateOf walk entries (now (results .entry)) nodes)) ⌝ }
 {
-    if w.number != 0 {
-        return w;
+    if walk.number != 0 {
+        return walk;
     }
-    let e = w.env;
+    let e = walk.env;
     let fun = e.fun;
-    write_decl(t, r, Decl::Fun { id: fun });
-    w
+    write_decl(results, row, Decl::Fun { id: fun });
+    walk
 }
 
 // Is there no parent's name, or does it name a class?
@@ -182,29 +195,35 @@ fn names_class(m: u32, class: ClassId) -> bool
 }
 
 // The parent of class row `c`, stored with it.
-fn write_parent(s: &[u32], c: u32, class: ClassId, t: &mut [u32])
-    ensures { λ _. ⌜ ((o : Store) (q : List ℕ) → storeOf o (now (t .exit)) q
-        ≡ (if is (now (s .entry)) 4 c then writeRowAt c (2 ∷ class .0 ∷ []) (storeOf o (now (t .entry)) q) else storeOf o (now (t .entry)) q)) ⌝ }
+fn write_parent(sheet: &[u32], c: u32, class: ClassId, results: &mut [u32])
+    ensures { λ _. ⌜ ((o : Store) (nodes : List ℕ) → storeOf o (now (results .exit)) nodes
+        ≡ (if is (now (sheet .entry)) 4 c then writeRowAt c (2 ∷ class .0 ∷ []) (storeOf o (now (results .entry)) nodes) else storeOf o (now (results .entry)) nodes)) ⌝ }
 {
-    if word(s, c, 0) == 4 {
-        write_decl(t, c, Decl::Class { id: class });
+    if word(sheet, c, 0) == 4 {
+        write_decl(results, c, Decl::Class { id: class });
     }
 }
 
 // Question 11: does a parent name a class?
-pub fn resolve_parent(s: &[u32], r: u32, w: Walk, v: &[u32], t: &mut [u32]) -> Walk
-    requires { ⌜ kind (now s) r ≡ 30 ⌝ }
-    ensures { λ x. ⌜ ((O : Outside) (q : List ℕ) → stateOf x (now (v .entry)) (now (t .exit)) q ≡ stepState O (now (s .entry)) (visit r) (stateOf w (now (v .entry)) (now (t .entry)) q)) ⌝ }
+pub fn resolve_parent(
+    sheet: &[u32],
+    row: u32,
+    walk: Walk,
+    entries: &[u32],
+    results: &mut [u32],
+) -> Walk
+    requires { ⌜ kind (now sheet) row ≡ 30 ⌝ }
+    ensures { λ x. ⌜ ((O : Outside) (nodes : List ℕ) → stateOf x (now (entries .entry)) (now (results .exit)) nodes ≡ stepState O (now (sheet .entry)) (visit row) (stateOf walk (now (entries .entry)) (now (results .entry)) nodes)) ⌝ }
 {
-    if w.number != 0 {
-        return w;
+    if walk.number != 0 {
+        return walk;
     }
-    let c = word(s, r, 6);
-    let m = word(s, c, 7);
-    let class = class_number(lookup(w.env, v, m));
+    let c = word(sheet, row, 6);
+    let m = word(sheet, c, 7);
+    let class = class_number(lookup(walk.env, entries, m));
     if !names_class(m, class) {
-        return refuse(w, 11, r, m);
+        return refuse(walk, 11, row, m);
     }
-    write_parent(s, c, class, t);
-    w
+    write_parent(sheet, c, class, results);
+    walk
 }

@@ -15,7 +15,7 @@ add-result : tie.Need-add-result
 add-result c = search needs
 
 returns : tie.Need-returns
-returns c = let a = c .before .before .before .before .before .before .before .before .args in let o : Store = record { used = 0; calls = 0 } in (λ o. class-full (over (a .outside .now)) (a .s .now) (storeOf o (a .t .now) (a .q .now)) (a .r) (a .k) (a .out .now) (c .if1 .taken), placed-kept (c .before .before .before .before .before .before .before .before .pre .1) _ (class-full (over (a .outside .now)) (a .s .now) (storeOf o (a .t .now) (a .q .now)) (a .r) (a .k) (a .out .now) (c .if1 .taken)))
+returns c = let a = c .before .before .before .before .before .before .before .before .args in let o : Store = record { used = 0; calls = 0 } in (λ o. class-full (over (a .outside .now)) (a .sheet .now) (storeOf o (a .results .now) (a .nodes .now)) (a .row) (a .k) (a .out .now) (c .if1 .taken), placed-kept (c .before .before .before .before .before .before .before .before .pre .1) _ (class-full (over (a .outside .now)) (a .sheet .now) (storeOf o (a .results .now) (a .nodes .now)) (a .row) (a .k) (a .out .now) (c .if1 .taken)))
 
 add-t18 : tie.Need-add-t18
 add-t18 c = search needs
@@ -27,13 +27,13 @@ place-of-requires : tie.Need-place-of-requires
 place-of-requires c κs = search needs
 
 above-of-requires : tie.Need-above-of-requires
-above-of-requires c κs = entry-fits (c .before .before .before .before .before .before .before .before .before .before .before .before .pre .1) (c .before .before .before .before .before .before .before .before .before .before .before .before .pre .0 .row) (λ o. c .before .before .before .parent-of .ensures o (c .before .before .before .before .before .before .before .before .before .before .before .before .args .q .now)) (c .before .place-of .ensures)
+above-of-requires c κs = entry-fits (c .before .before .before .before .before .before .before .before .before .before .before .before .pre .1) (c .before .before .before .before .before .before .before .before .before .before .before .before .pre .0 .row) (λ o. c .before .before .before .parent-of .ensures o (c .before .before .before .before .before .before .before .before .before .before .before .before .args .nodes .now)) (c .before .place-of .ensures)
 
 above-of-requires-2 : tie.Need-above-of-requires-2
-above-of-requires-2 c κs = entry-fits (c .before .before .before .before .before .before .before .before .before .before .before .before .before .before .pre .1) (c .before .before .before .before .before .before .before .before .before .before .before .before .before .before .pre .0 .row) (λ o. c .before .before .before .before .before .parent-of .ensures o (c .before .before .before .before .before .before .before .before .before .before .before .before .before .before .args .q .now)) (c .before .before .before .place-of .ensures)
+above-of-requires-2 c κs = entry-fits (c .before .before .before .before .before .before .before .before .before .before .before .before .before .before .pre .1) (c .before .before .before .before .before .before .before .before .before .before .before .before .before .before .pre .0 .row) (λ o. c .before .before .before .before .before .parent-of .ensures o (c .before .before .before .before .before .before .before .before .before .before .before .before .before .before .args .nodes .now)) (c .before .before .before .place-of .ensures)
 
 write-class-requires : tie.Need-write-class-requires
-write-class-requires c κs = (c .before .before .before .before .before .before .before .before .before .before .before .before .before .before .before .before .pre .0, fields-shown (c .before .before .before .before .before .before .before .before .before .before .before .before .before .before .before .before .pre .1) (c .before .before .before .before .before .before .before .before .before .before .before .before .before .before .before .before .pre .0 .row) (λ o. c .before .before .before .before .before .before .before .parent-of .ensures o (c .before .before .before .before .before .before .before .before .before .before .before .before .before .before .before .before .args .q .now)) (c .before .before .before .before .before .place-of .ensures) (c .before .before .before .above-of .ensures), methods-shown (c .before .before .before .before .before .before .before .before .before .before .before .before .before .before .before .before .pre .1) (c .before .before .before .before .before .before .before .before .before .before .before .before .before .before .before .before .pre .0 .row) (λ o. c .before .before .before .before .before .before .before .parent-of .ensures o (c .before .before .before .before .before .before .before .before .before .before .before .before .before .before .before .before .args .q .now)) (c .before .before .before .before .before .place-of .ensures) (c .before .above-of2 .ensures))
+write-class-requires c κs = (c .before .before .before .before .before .before .before .before .before .before .before .before .before .before .before .before .pre .0, fields-shown (c .before .before .before .before .before .before .before .before .before .before .before .before .before .before .before .before .pre .1) (c .before .before .before .before .before .before .before .before .before .before .before .before .before .before .before .before .pre .0 .row) (λ o. c .before .before .before .before .before .before .before .parent-of .ensures o (c .before .before .before .before .before .before .before .before .before .before .before .before .before .before .before .before .args .nodes .now)) (c .before .before .before .before .before .place-of .ensures) (c .before .before .before .above-of .ensures), methods-shown (c .before .before .before .before .before .before .before .before .before .before .before .before .before .before .before .before .pre .1) (c .before .before .before .before .before .before .before .before .before .before .before .before .before .before .before .before .pre .0 .row) (λ o. c .before .before .before .before .before .before .before .parent-of .ensures o (c .before .before .before .before .before .before .before .before .before .before .before .before .before .before .before .before .args .nodes .now)) (c .before .before .before .before .before .place-of .ensures) (c .before .above-of2 .ensures))
 
 same-length : tie.Need-same-length
 same-length c = search needs
@@ -56,14 +56,14 @@ same-length-4 c = search needs
 returns-3 : tie.Need-returns-3
 returns-3 c = (c .before .before .before .before .before .write-class .ensures, placed-kept (c .before .before .before .before .before .before .before .before .before .before .before .before .before .before .before .before .before .before .before .before .before .before .pre .1) _ (c .before .before .before .before .before .write-class .ensures (record { used = 0; calls = 0 })))
 
-add-places : tie.Need-add-places
-add-places c = omega (arith, c .before .before .before .before .before .before .before .before .before .before .before .before .before .before .if1 .left, c .before .before .before .before .before .before .before .before .before .before .before .before .before .before .before .before .before .before .before .before .before .before .good .1 .1 .1 .1 .1 .1 .1 .1 .0)
+add-starts : tie.Need-add-starts
+add-starts c = omega (arith, c .before .before .before .before .before .before .before .before .before .before .before .before .before .before .if1 .left, c .before .before .before .before .before .before .before .before .before .before .before .before .before .before .before .before .before .before .before .before .before .before .good .1 .1 .1 .1 .1 .1 .1 .1 .0)
 
-mul-places : tie.Need-mul-places
-mul-places c = omega (arith, c .before .before .before .before .before .before .before .before .before .before .before .before .before .before .before .before .before .before .before .before .before .before .pre .0 .row, c .before .before .before .before .before .before .before .before .before .before .before .before .before .before .before .before .before .before .before .before .before .before .pre .0 .short)
+mul-starts : tie.Need-mul-starts
+mul-starts c = omega (arith, c .before .before .before .before .before .before .before .before .before .before .before .before .before .before .before .before .before .before .before .before .before .before .pre .0 .row, c .before .before .before .before .before .before .before .before .before .before .before .before .before .before .before .before .before .before .before .before .before .before .pre .0 .short)
 
-slice-write-places : tie.Need-slice-write-places
-slice-write-places c = omega (arith, c .before .before .before .before .before .before .before .before .before .before .before .before .before .before .before .before .before .before .before .before .before .before .pre .0 .row, c .before .before .before .before .before .before .before .before .before .before .before .before .before .before .before .before .before .before .before .before .before .before .pre .1 .room)
+slice-write-starts : tie.Need-slice-write-starts
+slice-write-starts c = omega (arith, c .before .before .before .before .before .before .before .before .before .before .before .before .before .before .before .before .before .before .before .before .before .before .pre .0 .row, c .before .before .before .before .before .before .before .before .before .before .before .before .before .before .before .before .before .before .before .before .before .before .pre .1 .room)
 
 same-length-5 : tie.Need-same-length-5
 same-length-5 c = search needs
@@ -73,10 +73,10 @@ same-length-6 c = search needs
 
 returns-4 : tie.Need-returns-4
 returns-4 c = let a = c .before .before .before .before .before .before .before .before .before .before .before .before .before .before .before .before .before .before .before .before .before .before .args in
-    let steady = line-steady (c .before .before .before .before .before .before .before .before .before .before .before .before .before .before .before .before .before .before .before .before .before .before .pre .1) (c .before .before .before .before .before .before .before .before .before .before .before .before .before .before .before .before .before .before .before .before .before .before .pre .0 .row) (λ o. c .before .before .before .before .before .before .before .before .before .before .before .before .before .parent-of .ensures o (a .q .now)) (c .before .before .before .before .before .before .before .before .before .before .before .place-of .ensures) (sym (not-false (c .before .line-ends .result) (c .if3 .left)) ∙ c .before .line-ends .ensures) in (
+    let steady = line-steady (c .before .before .before .before .before .before .before .before .before .before .before .before .before .before .before .before .before .before .before .before .before .before .pre .1) (c .before .before .before .before .before .before .before .before .before .before .before .before .before .before .before .before .before .before .before .before .before .before .pre .0 .row) (λ o. c .before .before .before .before .before .before .before .before .before .before .before .before .before .parent-of .ensures o (a .nodes .now)) (c .before .before .before .before .before .before .before .before .before .before .before .place-of .ensures) (sym (not-false (c .before .line-ends .result) (c .if3 .left)) ∙ c .before .line-ends .ensures) in (
       c .before .before .before .before .before .write-class .ensures,
       placed-more (c .before .before .before .before .before .before .before .before .before .before .before .before .before .before .before .before .before .before .before .before .before .before .pre .1) _ (c .before .before .before .before .before .write-class .ensures (record { used = 0; calls = 0 }))
-          (λ o. stands-now (over (a .outside .now)) (a .s .now) (storeOf o (a .t .now) (a .q .now)) (a .out .now) (a .k) (a .r) (c .before .before .before .before .before .write-class .result) (c .before .before .before .before .before .write-class .ensures o) (omega (arith, c .before .before .if2 .left)) (omega (arith, c .before .before .before .before .before .write-class .kept)) (steady o .0) (steady o .1))
+          (λ o. stands-now (over (a .outside .now)) (a .sheet .now) (storeOf o (a .results .now) (a .nodes .now)) (a .out .now) (a .k) (a .row) (c .before .before .before .before .before .write-class .result) (c .before .before .before .before .before .write-class .ensures o) (omega (arith, c .before .before .if2 .left)) (omega (arith, c .before .before .before .before .before .write-class .kept)) (steady o .0) (steady o .1))
           (omega (arith, c .before .before .before .before .before .before .before .before .before .before .before .before .before .before .before .before .before .before .before .before .before .before .pre .0 .row, c .before .before .before .before .before .before .before .before .before .before .before .before .before .before .before .before .before .before .before .before .before .before .pre .1 .room)),
     )
 
@@ -99,9 +99,9 @@ emit-class-spec =
     same-length-3
     same-length-4
     returns-3
-    add-places
-    mul-places
-    slice-write-places
+    add-starts
+    mul-starts
+    slice-write-starts
     same-length-5
     same-length-6
     returns-4)

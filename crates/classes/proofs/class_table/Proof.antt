@@ -18,7 +18,7 @@ abbrev μ-loop : tie.MeasureT-loop
 loop-holds : tie.Need-loop-holds Inv-loop μ-loop
 loop-holds c =
     let entry = c .before .before in
-    (omega arith, (refl, filled-none (entry .pre .0 .0) (entry .args .s .now) (entry .pre .0 .1) (entry .args .t .now) (entry .pre .2)))
+    (omega arith, (refl, filled-none (entry .pre .0 .0) (entry .args .sheet .now) (entry .pre .0 .1) (entry .args .classes .now) (entry .pre .2)))
 
 cast-loop : tie.Need-cast-loop Inv-loop μ-loop
 cast-loop c = omega arith
@@ -29,7 +29,7 @@ fill-row-requires c κs = tt
 add-r : tie.Need-add-r Inv-loop μ-loop
 add-r c =
     let entry = c .before .before .before .before .before .before .before .before in
-    omega (arith, rows-few (entry .args .s .now) (entry .pre .0 .1 .whole))
+    omega (arith, rows-few (entry .args .sheet .now) (entry .pre .0 .1 .whole))
 
 loop-less : tie.Need-loop-less Inv-loop μ-loop
 loop-less c = omega arith
@@ -39,7 +39,7 @@ loop-again c =
     let z = c .before .before .before .before .before in
     let entry = z .before .before .before in (
       omega arith,
-      next-turn (entry .pre .0 .0) (entry .args .s .now) (entry .pre .0 .1) (entry .args .t .now) (z .loop .t) _ (z .loop .r) (c .before .before .before .before .loop-test .taken) (entry .pre .1) (z .loop .inv .1)
+      next-turn (entry .pre .0 .0) (entry .args .sheet .now) (entry .pre .0 .1) (entry .args .classes .now) (z .loop .classes) _ (z .loop .r) (c .before .before .before .before .loop-test .taken) (entry .pre .1) (z .loop .inv .1)
           (c .before .before .fill-row .ensures),
     )
 
@@ -49,7 +49,7 @@ same-length c = c .before .loop .inv .1 .0
 returns : tie.Need-returns Inv-loop μ-loop
 returns c =
     let entry = c .before .before .before .before in
-    filled-all (entry .pre .0 .0) (entry .args .s .now) (entry .pre .0 .1) (c .before .loop .t) (c .before .loop .r) (c .loop-test .left) (c .before .loop .inv .1 .1)
+    filled-all (entry .pre .0 .0) (entry .args .sheet .now) (entry .pre .0 .1) (c .before .loop .classes) (c .before .loop .r) (c .loop-test .left) (c .before .loop .inv .1 .1)
 
 pub class-table-spec : {M : Type 1} → statement M
 class-table-spec =

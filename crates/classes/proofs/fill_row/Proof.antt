@@ -30,7 +30,7 @@ returns c =
     let first = second .before .before .before .before .before .before in
     let read = first .before .before in
     let entry = read .before .before .before .before in
-    row-by (entry .args .s .now) (entry .args .r) (entry .args .t .now) (read .before .word .ensures) (read .word2 .ensures) (first .kids-class .ensures)
+    row-by (entry .args .sheet .now) (entry .args .row) (entry .args .classes .now) (read .before .word .ensures) (read .word2 .ensures) (first .kids-class .ensures)
     (second .before .before .before .before .before .put-linked .ensures) (second .entry-at .ensures) (c .before .before .put-linked2 .ensures)
 
 pub fill-row-spec : {M : Type 1} → statement M

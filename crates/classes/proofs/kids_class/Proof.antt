@@ -7,7 +7,7 @@ word-requires : tie.Need-word-requires
 word-requires c κs = search needs
 
 returns : tie.Need-returns
-returns c = of-class (c .before .before .before .args .s .now) (c .before .before .before .args .r) (c .before .word .ensures) (c .if1 .taken)
+returns c = of-class (c .before .before .before .args .sheet .now) (c .before .before .before .args .row) (c .before .word .ensures) (c .if1 .taken)
 
 word-requires-2 : tie.Need-word-requires-2
 word-requires-2 c κs = search needs
@@ -16,13 +16,13 @@ returns-2 : tie.Need-returns-2
 returns-2 c =
     let kind = c .before .before .before in
     let entry = kind .before .before in
-    of-literal (entry .args .s .now) (entry .args .r) (kind .word .ensures) (c .before .before .if1 .left) (c .before .if2 .taken) (c .word2 .ensures)
+    of-literal (entry .args .sheet .now) (entry .args .row) (kind .word .ensures) (c .before .before .if1 .left) (c .before .if2 .taken) (c .word2 .ensures)
 
 returns-3 : tie.Need-returns-3
 returns-3 c =
     let kind = c .before .before in
     let entry = kind .before .before in
-    of-other (entry .args .s .now) (entry .args .r) (kind .word .ensures) (c .before .if1 .left) (c .if2 .left)
+    of-other (entry .args .sheet .now) (entry .args .row) (kind .word .ensures) (c .before .if1 .left) (c .if2 .left)
 
 pub kids-class-spec : {M : Type 1} → statement M
 kids-class-spec = tie.close (tie.spec word-requires returns word-requires-2 returns-2 returns-3)

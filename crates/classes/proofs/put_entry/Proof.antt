@@ -4,11 +4,11 @@ use borrow.Author.Needs.{needs}
 use Rattle.classes.proofs.put_entry.Statement.{statement}
 use Rattle.classes.proofs.put_entry.Tie as tie
 
-mul-t : tie.Need-mul-t
-mul-t c = search needs
+mul-table : tie.Need-mul-table
+mul-table c = search needs
 
-slice-write-t : tie.Need-slice-write-t
-slice-write-t c = search needs
+slice-write-table : tie.Need-slice-write-table
+slice-write-table c = search needs
 
 same-length : tie.Need-same-length
 same-length c = search needs
@@ -20,4 +20,4 @@ returns-2 : tie.Need-returns-2
 returns-2 c = sym (set-out _ _ _ (c .if1 .left))
 
 pub put-entry-spec : {M : Type 1} → statement M
-put-entry-spec = tie.close (tie.spec mul-t slice-write-t same-length returns returns-2)
+put-entry-spec = tie.close (tie.spec mul-table slice-write-table same-length returns returns-2)

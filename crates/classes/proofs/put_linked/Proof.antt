@@ -15,10 +15,10 @@ returns c =
     let call = c .before .before in
     let test = call .before .before in
     let entry = test .before .before in
-    call .put-entry .ensures ∙ sym (linked-some (entry .args .i) (entry .args .x) (entry .args .t .now) (test .if1 .taken))
+    call .put-entry .ensures ∙ sym (linked-some (entry .args .i) (entry .args .x) (entry .args .classes .now) (test .if1 .taken))
 
 returns-2 : tie.Need-returns-2
-returns-2 c = sym (linked-none (c .before .before .args .i) (c .before .before .args .x) (c .before .before .args .t .now) (c .if1 .left))
+returns-2 c = sym (linked-none (c .before .before .args .i) (c .before .before .args .x) (c .before .before .args .classes .now) (c .if1 .left))
 
 pub put-linked-spec : {M : Type 1} → statement M
 put-linked-spec = tie.close (tie.spec put-entry-requires same-length returns returns-2)

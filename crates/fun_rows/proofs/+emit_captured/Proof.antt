@@ -39,7 +39,7 @@ emit-captured-claims t =
     (node-before-reads.Asked, node-before-reads.Learnt, emit-captured-below t, emit-captured.Post, captured-at-reads.Asked, captured-at-reads.Learnt, code-of-reads.Asked, code-of-reads.Learnt, emit-decl-reads.Asked, emit-decl-reads.Learnt)
 
 emit-captured-returns : (t : ℕ) → emit-captured-lts.Need-returns (emit-captured-claims t) (emit-captured-at t) emit-captured.Post
-emit-captured-returns t c = nodes-none (λ y. eight (c .before .before .before .before .args .r ∷ codeOf (c .before .before .before .before .args .s .now) (meaningOfNode y) (y .two) 0)) (c .before .before .before .before .args .q .now) (c .before .before .before .before .args .p) (sink (c .before .before .before .before .args .k) (c .before .before .before .before .args .out .now)) (c .if1 .taken)
+emit-captured-returns t c = nodes-none (λ y. eight (c .before .before .before .before .args .row ∷ codeOf (c .before .before .before .before .args .sheet .now) (meaningOfNode y) (y .two) 0)) (c .before .before .before .before .args .nodes .now) (c .before .before .before .before .args .p) (sink (c .before .before .before .before .args .k) (c .before .before .before .before .args .out .now)) (c .if1 .taken)
 
 emit-captured-sub-i : (t : ℕ) → emit-captured-lts.Need-sub-i (emit-captured-claims t) (emit-captured-at t) emit-captured.Post
 emit-captured-sub-i t c = omega (arith, c .if1 .left)
@@ -54,7 +54,7 @@ emit-captured-captured-at-requires : (t : ℕ) → emit-captured-lts.Need-captur
 emit-captured-captured-at-requires t c κs = tt
 
 emit-captured-code-of-requires : (t : ℕ) → emit-captured-lts.Need-code-of-requires (emit-captured-claims t) (emit-captured-at t) emit-captured.Post
-emit-captured-code-of-requires t c κs = (c .before .before .before .before .before .before .before .before .before .before .pre .1, captured-declared (c .before .before .before .before .before .before .before .before .before .before .args .q .now) _ _ (c .captured-at .ensures))
+emit-captured-code-of-requires t c κs = (c .before .before .before .before .before .before .before .before .before .before .pre .1, captured-declared (c .before .before .before .before .before .before .before .before .before .before .args .nodes .now) _ _ (c .captured-at .ensures))
 
 emit-captured-emit-decl-requires : (t : ℕ) → emit-captured-lts.Need-emit-decl-requires (emit-captured-claims t) (emit-captured-at t) emit-captured.Post
 emit-captured-emit-decl-requires t c κs = tt
@@ -63,7 +63,7 @@ emit-captured-same-length : (t : ℕ) → emit-captured-lts.Need-same-length (em
 emit-captured-same-length t c = search needs
 
 emit-captured-returns-2 : (t : ℕ) → emit-captured-lts.Need-returns-2 (emit-captured-claims t) (emit-captured-at t) emit-captured.Post
-emit-captured-returns-2 t c = nodes-last (λ y. eight (c .before .before .before .before .before .before .before .before .before .before .before .before .before .before .before .args .r ∷ codeOf (c .before .before .before .before .before .before .before .before .before .before .before .before .before .before .before .args .s .now) (meaningOfNode y) (y .two) 0)) (c .before .before .before .before .before .before .before .before .before .before .before .before .before .before .before .args .q .now) (c .before .before .before .before .before .before .before .before .before .before .before .before .before .before .before .args .p) _ _ (sink (c .before .before .before .before .before .before .before .before .before .before .before .before .before .before .before .args .k) (c .before .before .before .before .before .before .before .before .before .before .before .before .before .before .before .args .out .now)) (c .before .before .before .before .before .before .before .before .before .before .before .if1 .left) (c .before .before .before .before .before .before .before .before .before .before .node-before .ensures) (c .before .before .before .before .before .before .before .before .emit-captured .ensures) (captured-row (c .before .before .before .before .before .before .before .before .before .before .before .before .before .before .before .args .s .now) (c .before .before .before .before .before .before .before .before .before .before .before .before .before .before .before .args .r) (c .before .before .before .before .before .before .before .before .before .before .before .before .before .before .before .args .q .now) _ _ _ (c .before .before .before .before .before .captured-at .ensures) (c .before .before .before .before .code-of .ensures)) (c .before .before .emit-decl .ensures)
+emit-captured-returns-2 t c = nodes-last (λ y. eight (c .before .before .before .before .before .before .before .before .before .before .before .before .before .before .before .args .row ∷ codeOf (c .before .before .before .before .before .before .before .before .before .before .before .before .before .before .before .args .sheet .now) (meaningOfNode y) (y .two) 0)) (c .before .before .before .before .before .before .before .before .before .before .before .before .before .before .before .args .nodes .now) (c .before .before .before .before .before .before .before .before .before .before .before .before .before .before .before .args .p) _ _ (sink (c .before .before .before .before .before .before .before .before .before .before .before .before .before .before .before .args .k) (c .before .before .before .before .before .before .before .before .before .before .before .before .before .before .before .args .out .now)) (c .before .before .before .before .before .before .before .before .before .before .before .if1 .left) (c .before .before .before .before .before .before .before .before .before .before .node-before .ensures) (c .before .before .before .before .before .before .before .before .emit-captured .ensures) (captured-row (c .before .before .before .before .before .before .before .before .before .before .before .before .before .before .before .args .sheet .now) (c .before .before .before .before .before .before .before .before .before .before .before .before .before .before .before .args .row) (c .before .before .before .before .before .before .before .before .before .before .before .before .before .before .before .args .nodes .now) _ _ _ (c .before .before .before .before .before .captured-at .ensures) (c .before .before .before .before .code-of .ensures)) (c .before .before .emit-decl .ensures)
 
 pub +emit-captured-spec : {M : Type 1} → statement M
 +emit-captured-spec = close μ-emit-captured λ t. emit-captured-lts.spec (emit-captured-claims t)

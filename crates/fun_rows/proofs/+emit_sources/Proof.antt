@@ -40,7 +40,7 @@ emit-sources-claims t =
     (node-before-reads.Asked, node-before-reads.Learnt, emit-sources-below t, emit-sources.Post, captured-at-reads.Asked, captured-at-reads.Learnt, seen-in-reads.Asked, seen-in-reads.Learnt, emit-decl-reads.Asked, emit-decl-reads.Learnt)
 
 emit-sources-returns : (t : ℕ) → emit-sources-lts.Need-returns (emit-sources-claims t) (emit-sources-at t) emit-sources.Post
-emit-sources-returns t c = λ o. nodes-none (λ y. eight (c .before .before .before .before .before .args .r ∷ seenIn (c .before .before .before .before .before .args .s .now) (meaningOfNode y) (y .two) 0 (c .before .before .before .before .before .args .fun .0) (storeOf o (c .before .before .before .before .before .args .t .now) (c .before .before .before .before .before .args .q .now)))) (c .before .before .before .before .before .args .q .now) (c .before .before .before .before .before .args .p) (sink (c .before .before .before .before .before .args .k) (c .before .before .before .before .before .args .out .now)) (c .if1 .taken)
+emit-sources-returns t c = λ o. nodes-none (λ y. eight (c .before .before .before .before .before .args .row ∷ seenIn (c .before .before .before .before .before .args .sheet .now) (meaningOfNode y) (y .two) 0 (c .before .before .before .before .before .args .fun .0) (storeOf o (c .before .before .before .before .before .args .results .now) (c .before .before .before .before .before .args .nodes .now)))) (c .before .before .before .before .before .args .nodes .now) (c .before .before .before .before .before .args .p) (sink (c .before .before .before .before .before .args .k) (c .before .before .before .before .before .args .out .now)) (c .if1 .taken)
 
 emit-sources-sub-i : (t : ℕ) → emit-sources-lts.Need-sub-i (emit-sources-claims t) (emit-sources-at t) emit-sources.Post
 emit-sources-sub-i t c = omega (arith, c .if1 .left)
@@ -55,7 +55,7 @@ emit-sources-captured-at-requires : (t : ℕ) → emit-sources-lts.Need-captured
 emit-sources-captured-at-requires t c κs = tt
 
 emit-sources-seen-in-requires : (t : ℕ) → emit-sources-lts.Need-seen-in-requires (emit-sources-claims t) (emit-sources-at t) emit-sources.Post
-emit-sources-seen-in-requires t c κs = (c .before .before .before .before .before .before .before .before .before .before .before .pre .1, captured-declared (c .before .before .before .before .before .before .before .before .before .before .before .args .q .now) _ _ (c .captured-at .ensures))
+emit-sources-seen-in-requires t c κs = (c .before .before .before .before .before .before .before .before .before .before .before .pre .1, captured-declared (c .before .before .before .before .before .before .before .before .before .before .before .args .nodes .now) _ _ (c .captured-at .ensures))
 
 emit-sources-emit-decl-requires : (t : ℕ) → emit-sources-lts.Need-emit-decl-requires (emit-sources-claims t) (emit-sources-at t) emit-sources.Post
 emit-sources-emit-decl-requires t c κs = tt
@@ -64,7 +64,7 @@ emit-sources-same-length : (t : ℕ) → emit-sources-lts.Need-same-length (emit
 emit-sources-same-length t c = search needs
 
 emit-sources-returns-2 : (t : ℕ) → emit-sources-lts.Need-returns-2 (emit-sources-claims t) (emit-sources-at t) emit-sources.Post
-emit-sources-returns-2 t c = λ o. nodes-last (λ y. eight (c .before .before .before .before .before .before .before .before .before .before .before .before .before .before .before .before .args .r ∷ seenIn (c .before .before .before .before .before .before .before .before .before .before .before .before .before .before .before .before .args .s .now) (meaningOfNode y) (y .two) 0 (c .before .before .before .before .before .before .before .before .before .before .before .before .before .before .before .before .args .fun .0) (storeOf o (c .before .before .before .before .before .before .before .before .before .before .before .before .before .before .before .before .args .t .now) (c .before .before .before .before .before .before .before .before .before .before .before .before .before .before .before .before .args .q .now)))) (c .before .before .before .before .before .before .before .before .before .before .before .before .before .before .before .before .args .q .now) (c .before .before .before .before .before .before .before .before .before .before .before .before .before .before .before .before .args .p) _ _ (sink (c .before .before .before .before .before .before .before .before .before .before .before .before .before .before .before .before .args .k) (c .before .before .before .before .before .before .before .before .before .before .before .before .before .before .before .before .args .out .now)) (c .before .before .before .before .before .before .before .before .before .before .before .if1 .left) (c .before .before .before .before .before .before .before .before .before .before .node-before .ensures) (c .before .before .before .before .before .before .before .before .emit-sources .ensures o) (source-row (c .before .before .before .before .before .before .before .before .before .before .before .before .before .before .before .before .args .s .now) (c .before .before .before .before .before .before .before .before .before .before .before .before .before .before .before .before .args .r) (c .before .before .before .before .before .before .before .before .before .before .before .before .before .before .before .before .args .fun .0) (storeOf o (c .before .before .before .before .before .before .before .before .before .before .before .before .before .before .before .before .args .t .now) (c .before .before .before .before .before .before .before .before .before .before .before .before .before .before .before .before .args .q .now)) (c .before .before .before .before .before .before .before .before .before .before .before .before .before .before .before .before .args .q .now) _ _ _ (c .before .before .before .before .before .captured-at .ensures) (c .before .before .before .before .seen-in .ensures o)) (c .before .before .emit-decl .ensures)
+emit-sources-returns-2 t c = λ o. nodes-last (λ y. eight (c .before .before .before .before .before .before .before .before .before .before .before .before .before .before .before .before .args .row ∷ seenIn (c .before .before .before .before .before .before .before .before .before .before .before .before .before .before .before .before .args .sheet .now) (meaningOfNode y) (y .two) 0 (c .before .before .before .before .before .before .before .before .before .before .before .before .before .before .before .before .args .fun .0) (storeOf o (c .before .before .before .before .before .before .before .before .before .before .before .before .before .before .before .before .args .results .now) (c .before .before .before .before .before .before .before .before .before .before .before .before .before .before .before .before .args .nodes .now)))) (c .before .before .before .before .before .before .before .before .before .before .before .before .before .before .before .before .args .nodes .now) (c .before .before .before .before .before .before .before .before .before .before .before .before .before .before .before .before .args .p) _ _ (sink (c .before .before .before .before .before .before .before .before .before .before .before .before .before .before .before .before .args .k) (c .before .before .before .before .before .before .before .before .before .before .before .before .before .before .before .before .args .out .now)) (c .before .before .before .before .before .before .before .before .before .before .before .if1 .left) (c .before .before .before .before .before .before .before .before .before .before .node-before .ensures) (c .before .before .before .before .before .before .before .before .emit-sources .ensures o) (source-row (c .before .before .before .before .before .before .before .before .before .before .before .before .before .before .before .before .args .sheet .now) (c .before .before .before .before .before .before .before .before .before .before .before .before .before .before .before .before .args .row) (c .before .before .before .before .before .before .before .before .before .before .before .before .before .before .before .before .args .fun .0) (storeOf o (c .before .before .before .before .before .before .before .before .before .before .before .before .before .before .before .before .args .results .now) (c .before .before .before .before .before .before .before .before .before .before .before .before .before .before .before .before .args .nodes .now)) (c .before .before .before .before .before .before .before .before .before .before .before .before .before .before .before .before .args .nodes .now) _ _ _ (c .before .before .before .before .before .captured-at .ensures) (c .before .before .before .before .seen-in .ensures o)) (c .before .before .emit-decl .ensures)
 
 pub +emit-sources-spec : {M : Type 1} → statement M
 +emit-sources-spec = close μ-emit-sources λ t. emit-sources-lts.spec (emit-sources-claims t)

@@ -20,7 +20,7 @@ returns : tie.Need-returns
 returns c =
     let a = c .before .before .before .before .before .before .args in
     c .before .before .emit-words .ensures
-    ∙ ap (λ (ws : List ℕ). emitted (answerRow (a .r) ws) (sink (a .k) (a .out .now))) (c .before .before .before .before .words .ensures)
+    ∙ ap (λ (ws : List ℕ). emitted (answerRow (a .row) ws) (sink (a .k) (a .out .now))) (c .before .before .before .before .words .ensures)
 
 pub emit-decl-spec : {M : Type 1} → statement M
 emit-decl-spec = tie.close (tie.spec words-requires emit-words-requires same-length returns)

@@ -21,7 +21,7 @@ same-length : tie.Need-same-length
 same-length c = search needs
 
 returns : tie.Need-returns
-returns c = λ o. literal-rows (c .before .before .before .before .before .before .before .before .before .before .before .args .s .now) (storeOf o (c .before .before .before .before .before .before .before .before .before .before .before .args .t .now) (c .before .before .before .before .before .before .before .before .before .before .before .args .q .now)) (c .before .before .before .before .before .before .before .before .before .before .before .args .r) _ _ _ (sink (c .before .before .before .before .before .before .before .before .before .before .before .args .k) (c .before .before .before .before .before .before .before .before .before .before .before .args .out .now)) (c .before .before .before .before .before .before .word .ensures) (c .before .before .before .before .before .word2 .ensures) (c .before .before .before .before .word3 .ensures) (c .before .before .emit-sources .ensures o)
+returns c = λ o. literal-rows (c .before .before .before .before .before .before .before .before .before .before .before .args .sheet .now) (storeOf o (c .before .before .before .before .before .before .before .before .before .before .before .args .results .now) (c .before .before .before .before .before .before .before .before .before .before .before .args .nodes .now)) (c .before .before .before .before .before .before .before .before .before .before .before .args .row) _ _ _ (sink (c .before .before .before .before .before .before .before .before .before .before .before .args .k) (c .before .before .before .before .before .before .before .before .before .before .before .args .out .now)) (c .before .before .before .before .before .before .word .ensures) (c .before .before .before .before .before .word2 .ensures) (c .before .before .before .before .word3 .ensures) (c .before .before .emit-sources .ensures o)
 
 pub emit-literal-spec : {M : Type 1} → statement M
 emit-literal-spec =

@@ -28,7 +28,7 @@ abbrev μ-loop : tie.MeasureT-loop
 μ-loop s outside t marks₀ r₀ marks r = rows s - r
 
 loop-holds : tie.Need-loop-holds Inv-loop μ-loop
-loop-holds c = (λ o q. rows-all (c .before .before .before .before .args .s .now) (answer (c .before .before .before .before .args .outside .now) (c .before .before .before .before .args .s .now) o (c .before .before .before .before .args .t .now) q), c .before .before .before .before .pre .2, refl, omega arith, λ o q. climbed-none (over (c .before .before .before .before .args .outside .now)) (c .before .before .before .before .args .s .now) (storeOf o (c .before .before .before .before .args .t .now) q) (c .before .before .before .before .args .marks .now) (c .before .before .before .before .pre .2))
+loop-holds c = (λ o q. rows-all (c .before .before .before .before .args .sheet .now) (answer (c .before .before .before .before .args .outside .now) (c .before .before .before .before .args .sheet .now) o (c .before .before .before .before .args .results .now) q), c .before .before .before .before .pre .2, refl, omega arith, λ o q. climbed-none (over (c .before .before .before .before .args .outside .now)) (c .before .before .before .before .args .sheet .now) (storeOf o (c .before .before .before .before .args .results .now) q) (c .before .before .before .before .args .climbed .now) (c .before .before .before .before .pre .2))
 
 cast-loop : tie.Need-cast-loop Inv-loop μ-loop
 cast-loop c = omega (arith, c .before .before .before .before .before .pre, c .loop .inv .3)
@@ -43,7 +43,7 @@ same-length : tie.Need-same-length Inv-loop μ-loop
 same-length c = omega (arith, c .before .before .before .before .climb .kept, c .before .before .before .before .before .before .before .before .before .loop .inv .2)
 
 returns : tie.Need-returns Inv-loop μ-loop
-returns c = λ o q. rows-no (c .before .before .before .before .before .before .before .before .before .before .before .before .before .before .args .s .now) (answer (c .before .before .before .before .before .before .before .before .before .before .before .before .before .before .args .outside .now) (c .before .before .before .before .before .before .before .before .before .before .before .before .before .before .args .s .now) o (c .before .before .before .before .before .before .before .before .before .before .before .before .before .before .args .t .now) q) (c .before .before .before .before .before .before .before .before .before .loop .r) (c .before .before .before .before .before .before .before .before .loop-test .taken) (sym (c .before .before .before .before .before .before .before .word .ensures) ∙ c .before .before .before .before .before .before .if1 .taken) (c .before .before .before .before .climb .ensures .0 o q) (c .if2 .taken) ∙ c .before .before .before .before .before .before .before .before .before .loop .inv .0 o q
+returns c = λ o q. rows-no (c .before .before .before .before .before .before .before .before .before .before .before .before .before .before .args .sheet .now) (answer (c .before .before .before .before .before .before .before .before .before .before .before .before .before .before .args .outside .now) (c .before .before .before .before .before .before .before .before .before .before .before .before .before .before .args .sheet .now) o (c .before .before .before .before .before .before .before .before .before .before .before .before .before .before .args .results .now) q) (c .before .before .before .before .before .before .before .before .before .loop .r) (c .before .before .before .before .before .before .before .before .loop-test .taken) (sym (c .before .before .before .before .before .before .before .word .ensures) ∙ c .before .before .before .before .before .before .if1 .taken) (c .before .before .before .before .climb .ensures .0 o q) (c .if2 .taken) ∙ c .before .before .before .before .before .before .before .before .before .loop .inv .0 o q
 
 add-r : tie.Need-add-r Inv-loop μ-loop
 add-r c = omega (arith, c .before .before .before .before .before .before .before .before .pre .0, c .before .before .before .loop .inv .3)
@@ -52,13 +52,13 @@ loop-less : tie.Need-loop-less Inv-loop μ-loop
 loop-less c = omega (arith, c .before .before .loop-test .taken)
 
 loop-again : tie.Need-loop-again Inv-loop μ-loop
-loop-again c = let a = c .before .before .before .before .before .before .before .before .args in ⊎-elim (λ w. (λ o q. rows-yes (a .s .now) (answer (a .outside .now) (a .s .now) o (a .t .now) q) (c .before .before .before .loop .r) (c .before .before .loop-test .taken) (sym (c .before .word .ensures) ∙ w .0 .taken) (w .2 .ensures .0 o q) (w .6 .left) ∙ c .before .before .before .loop .inv .0 o q, subst (Marked (c .before .before .before .loop .r + 1)) (sym (w .7)) (w .2 .ensures .1), ap length (w .7) ∙ omega (arith, w .2 .kept, c .before .before .before .loop .inv .2), omega (arith, c .before .before .loop-test .taken), λ o q. subst (Climbed (over (a .outside .now)) (a .s .now) (storeOf o (a .t .now) q)) (sym (w .7)) (w .2 .ensures .2 (w .6 .left) o q))) (λ w. (λ o q. rows-other (a .s .now) (answer (a .outside .now) (a .s .now) o (a .t .now) q) (c .before .before .before .loop .r) (c .before .before .loop-test .taken) (λ e. w .0 .left (c .before .word .ensures ∙ e)) ∙ c .before .before .before .loop .inv .0 o q, subst (Marked (c .before .before .before .loop .r + 1)) (sym (w .1)) (mark-later (c .before .before .before .loop .r) (c .before .before .before .loop .marks) (c .before .before .before .loop .inv .1)), ap length (w .1) ∙ c .before .before .before .loop .inv .2, omega (arith, c .before .before .loop-test .taken), λ o q. subst (Climbed (over (a .outside .now)) (a .s .now) (storeOf o (a .t .now) q)) (sym (w .1)) (c .before .before .before .loop .inv .4 o q))) (c .if1 .came)
+loop-again c = let a = c .before .before .before .before .before .before .before .before .args in ⊎-elim (λ w. (λ o q. rows-yes (a .sheet .now) (answer (a .outside .now) (a .sheet .now) o (a .results .now) q) (c .before .before .before .loop .r) (c .before .before .loop-test .taken) (sym (c .before .word .ensures) ∙ w .0 .taken) (w .2 .ensures .0 o q) (w .6 .left) ∙ c .before .before .before .loop .inv .0 o q, subst (Marked (c .before .before .before .loop .r + 1)) (sym (w .7)) (w .2 .ensures .1), ap length (w .7) ∙ omega (arith, w .2 .kept, c .before .before .before .loop .inv .2), omega (arith, c .before .before .loop-test .taken), λ o q. subst (Climbed (over (a .outside .now)) (a .sheet .now) (storeOf o (a .results .now) q)) (sym (w .7)) (w .2 .ensures .2 (w .6 .left) o q))) (λ w. (λ o q. rows-other (a .sheet .now) (answer (a .outside .now) (a .sheet .now) o (a .results .now) q) (c .before .before .before .loop .r) (c .before .before .loop-test .taken) (λ e. w .0 .left (c .before .word .ensures ∙ e)) ∙ c .before .before .before .loop .inv .0 o q, subst (Marked (c .before .before .before .loop .r + 1)) (sym (w .1)) (mark-later (c .before .before .before .loop .r) (c .before .before .before .loop .climbed) (c .before .before .before .loop .inv .1)), ap length (w .1) ∙ c .before .before .before .loop .inv .2, omega (arith, c .before .before .loop-test .taken), λ o q. subst (Climbed (over (a .outside .now)) (a .sheet .now) (storeOf o (a .results .now) q)) (sym (w .1)) (c .before .before .before .loop .inv .4 o q))) (c .if1 .came)
 
 same-length-2 : tie.Need-same-length-2 Inv-loop μ-loop
 same-length-2 c = c .before .loop .inv .2
 
 returns-2 : tie.Need-returns-2 Inv-loop μ-loop
-returns-2 c = λ o q. rows-end (c .before .before .before .before .before .before .args .s .now) (answer (c .before .before .before .before .before .before .args .outside .now) (c .before .before .before .before .before .before .args .s .now) o (c .before .before .before .before .before .before .args .t .now) q) (c .before .loop .r) (c .loop-test .left) ∙ c .before .loop .inv .0 o q
+returns-2 c = λ o q. rows-end (c .before .before .before .before .before .before .args .sheet .now) (answer (c .before .before .before .before .before .before .args .outside .now) (c .before .before .before .before .before .before .args .sheet .now) o (c .before .before .before .before .before .before .args .results .now) q) (c .before .loop .r) (c .loop-test .left) ∙ c .before .loop .inv .0 o q
 
 pub check-classes-spec : {M : Type 1} → statement M
 check-classes-spec =

@@ -21,7 +21,7 @@ abbrev μ-loop : tie.MeasureT-loop
 μ-loop s outside t q calls x₀ i₀ x i = i
 
 loop-holds : tie.Need-loop-holds Inv-loop μ-loop
-loop-holds c = λ o. calls-all (c .before .before .before .before .args .q .now) (checkCallIn (over (c .before .before .before .before .args .outside .now)) (c .before .before .before .before .args .s .now) (storeOf o (c .before .before .before .before .args .t .now) (c .before .before .before .before .args .q .now))) (c .before .before .before .before .args .calls)
+loop-holds c = λ o. calls-all (c .before .before .before .before .args .nodes .now) (checkCallIn (over (c .before .before .before .before .args .outside .now)) (c .before .before .before .before .args .sheet .now) (storeOf o (c .before .before .before .before .args .results .now) (c .before .before .before .before .args .nodes .now))) (c .before .before .before .before .args .calls)
 
 sub-i : tie.Need-sub-i Inv-loop μ-loop
 sub-i c = c .loop-test .taken
@@ -42,16 +42,16 @@ loop-less : tie.Need-loop-less Inv-loop μ-loop
 loop-less c = omega (arith, c .before .before .node-before .ensures, c .before .before .before .before .before .before .loop-test .taken)
 
 loop-again : tie.Need-loop-again Inv-loop μ-loop
-loop-again c = let a = c .before .before .before .before .before .before .before .before .before .before .before .before .args in λ o. calls-no (a .q .now) (checkCallIn (over (a .outside .now)) (a .s .now) (storeOf o (a .t .now) (a .q .now))) (c .before .before .before .before .before .before .before .loop .i) (refusalOf (c .before .before .before .before .before .before .before .loop .x)) (c .before .before .before .before .before .before .loop-test .taken) (node-answer (a .q .now) (checkCallIn (over (a .outside .now)) (a .s .now) (storeOf o (a .t .now) (a .q .now))) (c .before .before .before .before .before .before .before .loop .i - 1) (c .before .before .before .before .before .node-word .ensures) (c .before .before .before .before .node-word2 .ensures) (c .before .before .before .check-call .ensures o (a .q .now) (nodeWord (a .q .now) (c .before .before .before .before .before .before .before .loop .i - 1) 3))) (c .before .before .node-before .ensures) (c .if1 .taken) ∙ c .before .before .before .before .before .before .before .loop .inv o
+loop-again c = let a = c .before .before .before .before .before .before .before .before .before .before .before .before .args in λ o. calls-no (a .nodes .now) (checkCallIn (over (a .outside .now)) (a .sheet .now) (storeOf o (a .results .now) (a .nodes .now))) (c .before .before .before .before .before .before .before .loop .i) (refusalOf (c .before .before .before .before .before .before .before .loop .x)) (c .before .before .before .before .before .before .loop-test .taken) (node-answer (a .nodes .now) (checkCallIn (over (a .outside .now)) (a .sheet .now) (storeOf o (a .results .now) (a .nodes .now))) (c .before .before .before .before .before .before .before .loop .i - 1) (c .before .before .before .before .before .node-word .ensures) (c .before .before .before .before .node-word2 .ensures) (c .before .before .before .check-call .ensures o (a .nodes .now) (nodeWord (a .nodes .now) (c .before .before .before .before .before .before .before .loop .i - 1) 3))) (c .before .before .node-before .ensures) (c .if1 .taken) ∙ c .before .before .before .before .before .before .before .loop .inv o
 
 loop-less-2 : tie.Need-loop-less-2 Inv-loop μ-loop
 loop-less-2 c = omega (arith, c .before .before .node-before .ensures, c .before .before .before .before .before .before .loop-test .taken)
 
 loop-again-2 : tie.Need-loop-again-2 Inv-loop μ-loop
-loop-again-2 c = let a = c .before .before .before .before .before .before .before .before .before .before .before .before .args in λ o. calls-yes (a .q .now) (checkCallIn (over (a .outside .now)) (a .s .now) (storeOf o (a .t .now) (a .q .now))) (c .before .before .before .before .before .before .before .loop .i) (refusalOf (c .before .before .before .before .before .before .before .loop .x)) (c .before .before .before .before .before .before .loop-test .taken) (node-answer (a .q .now) (checkCallIn (over (a .outside .now)) (a .s .now) (storeOf o (a .t .now) (a .q .now))) (c .before .before .before .before .before .before .before .loop .i - 1) (c .before .before .before .before .before .node-word .ensures) (c .before .before .before .before .node-word2 .ensures) (c .before .before .before .check-call .ensures o (a .q .now) (nodeWord (a .q .now) (c .before .before .before .before .before .before .before .loop .i - 1) 3))) (c .before .before .node-before .ensures) (c .if1 .left) ∙ c .before .before .before .before .before .before .before .loop .inv o
+loop-again-2 c = let a = c .before .before .before .before .before .before .before .before .before .before .before .before .args in λ o. calls-yes (a .nodes .now) (checkCallIn (over (a .outside .now)) (a .sheet .now) (storeOf o (a .results .now) (a .nodes .now))) (c .before .before .before .before .before .before .before .loop .i) (refusalOf (c .before .before .before .before .before .before .before .loop .x)) (c .before .before .before .before .before .before .loop-test .taken) (node-answer (a .nodes .now) (checkCallIn (over (a .outside .now)) (a .sheet .now) (storeOf o (a .results .now) (a .nodes .now))) (c .before .before .before .before .before .before .before .loop .i - 1) (c .before .before .before .before .before .node-word .ensures) (c .before .before .before .before .node-word2 .ensures) (c .before .before .before .check-call .ensures o (a .nodes .now) (nodeWord (a .nodes .now) (c .before .before .before .before .before .before .before .loop .i - 1) 3))) (c .before .before .node-before .ensures) (c .if1 .left) ∙ c .before .before .before .before .before .before .before .loop .inv o
 
 returns : tie.Need-returns Inv-loop μ-loop
-returns c = λ o e. calls-end (c .before .before .before .before .before .before .args .q .now) (checkCallIn (over (c .before .before .before .before .before .before .args .outside .now)) (c .before .before .before .before .before .before .args .s .now) (storeOf o (c .before .before .before .before .before .before .args .t .now) (c .before .before .before .before .before .before .args .q .now))) (c .before .loop .i) (refusalOf (c .before .loop .x)) (c .loop-test .left) ∙ c .before .loop .inv o ∙ ap (λ (n : ℕ). firstNo (map (checkCallIn (over (c .before .before .before .before .before .before .args .outside .now)) (c .before .before .before .before .before .before .args .s .now) (storeOf o (c .before .before .before .before .before .before .args .t .now) (c .before .before .before .before .before .before .args .q .now))) (chainTo (c .before .before .before .before .before .before .args .q .now) n))) (sym e)
+returns c = λ o e. calls-end (c .before .before .before .before .before .before .args .nodes .now) (checkCallIn (over (c .before .before .before .before .before .before .args .outside .now)) (c .before .before .before .before .before .before .args .sheet .now) (storeOf o (c .before .before .before .before .before .before .args .results .now) (c .before .before .before .before .before .before .args .nodes .now))) (c .before .loop .i) (refusalOf (c .before .loop .x)) (c .loop-test .left) ∙ c .before .loop .inv o ∙ ap (λ (n : ℕ). firstNo (map (checkCallIn (over (c .before .before .before .before .before .before .args .outside .now)) (c .before .before .before .before .before .before .args .sheet .now) (storeOf o (c .before .before .before .before .before .before .args .results .now) (c .before .before .before .before .before .before .args .nodes .now))) (chainTo (c .before .before .before .before .before .before .args .nodes .now) n))) (sym e)
 
 pub check-ctor-calls-spec : {M : Type 1} → statement M
 check-ctor-calls-spec =

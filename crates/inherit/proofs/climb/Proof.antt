@@ -27,22 +27,22 @@ add-c : tie.Need-add-c Inv-loop μ-loop
 add-c c = omega (arith, c .before .before .before .before .pre .1)
 
 loop-holds : tie.Need-loop-holds Inv-loop μ-loop
-loop-holds c = let a = c .before .before .before .before .args in let h = c .before .before .before .before .pre in (λ o q. climb-start (over (a .outside .now)) (a .s .now) (storeOf o (a .t .now) q) (a .marks .now) (a .r) _ (remaining-start (a .s .now) (a .marks .now) (a .r) (h .2)) (h .0) (h .2), mark-later (a .r) (a .marks .now) (h .2), refl, λ o q. climbing-start (over (a .outside .now)) (a .s .now) (storeOf o (a .t .now) q) (a .marks .now) (a .r) (256 + a .r) (h .2) (h .4 o q))
+loop-holds c = let a = c .before .before .before .before .args in let h = c .before .before .before .before .pre in (λ o q. climb-start (over (a .outside .now)) (a .sheet .now) (storeOf o (a .results .now) q) (a .climbed .now) (a .r) _ (remaining-start (a .sheet .now) (a .climbed .now) (a .r) (h .2)) (h .0) (h .2), mark-later (a .r) (a .climbed .now) (h .2), refl, λ o q. climbing-start (over (a .outside .now)) (a .sheet .now) (storeOf o (a .results .now) q) (a .climbed .now) (a .r) (256 + a .r) (h .2) (h .4 o q))
 
 is-class-row-requires : tie.Need-is-class-row-requires Inv-loop μ-loop
 is-class-row-requires c κs = search needs
 
 sub-row : tie.Need-sub-row Inv-loop μ-loop
-sub-row c = row-number (c .before .before .before .before .before .before .before .args .s .now) (c .before .before .loop .c) (sym (c .before .is-class-row .ensures) ∙ c .if1 .taken)
+sub-row c = row-number (c .before .before .before .before .before .before .before .args .sheet .now) (c .before .before .loop .c) (sym (c .before .is-class-row .ensures) ∙ c .if1 .taken)
 
 cast-mark : tie.Need-cast-mark Inv-loop μ-loop
-cast-mark c = omega (arith, row-inside (c .before .before .before .before .before .before .before .args .s .now) (c .before .before .loop .c) (sym (c .before .is-class-row .ensures) ∙ c .if1 .taken))
+cast-mark c = omega (arith, row-inside (c .before .before .before .before .before .before .before .args .sheet .now) (c .before .before .loop .c) (sym (c .before .is-class-row .ensures) ∙ c .if1 .taken))
 
 mul-mark : tie.Need-mul-mark Inv-loop μ-loop
-mul-mark c = omega (arith, row-inside (c .before .before .before .before .before .before .before .args .s .now) (c .before .before .loop .c) (sym (c .before .is-class-row .ensures) ∙ c .if1 .taken))
+mul-mark c = omega (arith, row-inside (c .before .before .before .before .before .before .before .args .sheet .now) (c .before .before .loop .c) (sym (c .before .is-class-row .ensures) ∙ c .if1 .taken))
 
 slice-read-mark : tie.Need-slice-read-mark Inv-loop μ-loop
-slice-read-mark c = omega (arith, row-marked (c .before .before .before .before .before .before .before .before .args .s .now) (c .before .before .before .before .before .before .before .before .args .marks .now) (c .before .before .before .loop .c) (c .before .before .before .before .before .before .before .before .pre .0) (sym (c .before .before .is-class-row .ensures) ∙ c .before .if1 .taken), c .before .before .before .loop .inv .2)
+slice-read-mark c = omega (arith, row-marked (c .before .before .before .before .before .before .before .before .args .sheet .now) (c .before .before .before .before .before .before .before .before .args .climbed .now) (c .before .before .before .loop .c) (c .before .before .before .before .before .before .before .before .pre .0) (sym (c .before .before .is-class-row .ensures) ∙ c .before .if1 .taken), c .before .before .before .loop .inv .2)
 
 add-if2 : tie.Need-add-if2 Inv-loop μ-loop
 add-if2 c = omega (arith, c .before .before .before .before .before .before .before .before .pre .1)
@@ -54,13 +54,13 @@ same-length : tie.Need-same-length Inv-loop μ-loop
 same-length c = c .before .before .before .before .before .loop .inv .2
 
 returns : tie.Need-returns Inv-loop μ-loop
-returns c = let a = c .before .before .before .before .before .before .before .before .before .before .args in let x = c .before .before .before .before .before .loop in (λ o q. climb-circle (over (a .outside .now)) (a .s .now) (storeOf o (a .t .now) q) (x .marks) (a .r + 1) _ (x .c) (remaining-some (a .s .now) (x .marks) (a .r + 1)) (sym (c .before .before .before .before .is-class-row .ensures) ∙ c .before .before .before .if1 .taken) (c .refuse-class .ensures) (c .before .if2 .taken) ∙ x .inv .0 o q, x .inv .1, λ e. absurd (omega (arith, ap (λ (y : Refusal). y .number) (c .refuse-class .ensures), e)))
+returns c = let a = c .before .before .before .before .before .before .before .before .before .before .args in let x = c .before .before .before .before .before .loop in (λ o q. climb-circle (over (a .outside .now)) (a .sheet .now) (storeOf o (a .results .now) q) (x .climbed) (a .r + 1) _ (x .c) (remaining-some (a .sheet .now) (x .climbed) (a .r + 1)) (sym (c .before .before .before .before .is-class-row .ensures) ∙ c .before .before .before .if1 .taken) (c .refuse-class .ensures) (c .before .if2 .taken) ∙ x .inv .0 o q, x .inv .1, λ e. absurd (omega (arith, ap (λ (y : Refusal). y .number) (c .refuse-class .ensures), e)))
 
 same-length-2 : tie.Need-same-length-2 Inv-loop μ-loop
 same-length-2 c = c .before .before .before .before .before .loop .inv .2
 
 returns-2 : tie.Need-returns-2 Inv-loop μ-loop
-returns-2 c = let a = c .before .before .before .before .before .before .before .before .before .before .args in let x = c .before .before .before .before .before .loop in let met : (o : Store) (q : List ℕ) → (n : ℕ) × Ends (over (a .outside .now)) (a .s .now) (storeOf o (a .t .now) q) n (x .c) = λ o q. climbing-met (over (a .outside .now)) (a .s .now) (storeOf o (a .t .now) q) (x .marks) (a .r + 1) (x .c) (x .inv .3 o q) (sym (c .before .before .before .before .is-class-row .ensures) ∙ c .before .before .before .if1 .taken) (c .if3 .taken) (c .before .if2 .left) in (λ o q. climb-ends (over (a .outside .now)) (a .s .now) (storeOf o (a .t .now) q) (a .r + 1) (met o q .0) _ (x .marks) (x .c) (omega (arith, c .before .before .before .before .before .before .before .before .before .before .pre .0, x .inv .2)) (x .inv .3 o q) (met o q .1) ∙ x .inv .0 o q, x .inv .1, λ e o q. climbing-end (over (a .outside .now)) (a .s .now) (storeOf o (a .t .now) q) (x .marks) (a .r + 1) (x .c) (x .inv .3 o q) (met o q .0) (met o q .1))
+returns-2 c = let a = c .before .before .before .before .before .before .before .before .before .before .args in let x = c .before .before .before .before .before .loop in let met : (o : Store) (q : List ℕ) → (n : ℕ) × Ends (over (a .outside .now)) (a .sheet .now) (storeOf o (a .results .now) q) n (x .c) = λ o q. climbing-met (over (a .outside .now)) (a .sheet .now) (storeOf o (a .results .now) q) (x .climbed) (a .r + 1) (x .c) (x .inv .3 o q) (sym (c .before .before .before .before .is-class-row .ensures) ∙ c .before .before .before .if1 .taken) (c .if3 .taken) (c .before .if2 .left) in (λ o q. climb-ends (over (a .outside .now)) (a .sheet .now) (storeOf o (a .results .now) q) (a .r + 1) (met o q .0) _ (x .climbed) (x .c) (omega (arith, c .before .before .before .before .before .before .before .before .before .before .pre .0, x .inv .2)) (x .inv .3 o q) (met o q .1) ∙ x .inv .0 o q, x .inv .1, λ e o q. climbing-end (over (a .outside .now)) (a .sheet .now) (storeOf o (a .results .now) q) (x .climbed) (a .r + 1) (x .c) (x .inv .3 o q) (met o q .0) (met o q .1))
 
 parent-of-requires : tie.Need-parent-of-requires Inv-loop μ-loop
 parent-of-requires c κs = search needs
@@ -75,31 +75,31 @@ same-length-3 : tie.Need-same-length-3 Inv-loop μ-loop
 same-length-3 c = c .before .before .before .before .before .before .before .before .before .loop .inv .2
 
 returns-3 : tie.Need-returns-3 Inv-loop μ-loop
-returns-3 c = let a = c .before .before .before .before .before .before .before .before .before .before .before .before .before .before .args in let x = c .before .before .before .before .before .before .before .before .before .loop in (λ o q. climb-lacking (over (a .outside .now)) (a .s .now) (storeOf o (a .t .now) q) (x .marks) (a .r + 1) _ (x .c) (remaining-some (a .s .now) (x .marks) (a .r + 1)) (sym (c .before .before .before .before .before .before .before .before .is-class-row .ensures) ∙ c .before .before .before .before .before .before .before .if1 .taken) (c .before .before .before .before .before .if2 .left) (c .before .before .before .parent-of .ensures o q) (c .refuse-class2 .ensures) (sym (c .before .before .lacks-record .ensures) ∙ c .before .if4 .taken) ∙ x .inv .0 o q, x .inv .1, λ e. absurd (omega (arith, ap (λ (y : Refusal). y .number) (c .refuse-class2 .ensures), e)))
+returns-3 c = let a = c .before .before .before .before .before .before .before .before .before .before .before .before .before .before .args in let x = c .before .before .before .before .before .before .before .before .before .loop in (λ o q. climb-lacking (over (a .outside .now)) (a .sheet .now) (storeOf o (a .results .now) q) (x .climbed) (a .r + 1) _ (x .c) (remaining-some (a .sheet .now) (x .climbed) (a .r + 1)) (sym (c .before .before .before .before .before .before .before .before .is-class-row .ensures) ∙ c .before .before .before .before .before .before .before .if1 .taken) (c .before .before .before .before .before .if2 .left) (c .before .before .before .parent-of .ensures o q) (c .refuse-class2 .ensures) (sym (c .before .before .lacks-record .ensures) ∙ c .before .if4 .taken) ∙ x .inv .0 o q, x .inv .1, λ e. absurd (omega (arith, ap (λ (y : Refusal). y .number) (c .refuse-class2 .ensures), e)))
 
-add-marks : tie.Need-add-marks Inv-loop μ-loop
-add-marks c = omega (arith, c .before .before .before .before .before .before .before .before .before .before .before .before .before .pre .1)
+add-climbed : tie.Need-add-climbed Inv-loop μ-loop
+add-climbed c = omega (arith, c .before .before .before .before .before .before .before .before .before .before .before .before .before .pre .1)
 
-cast-marks : tie.Need-cast-marks Inv-loop μ-loop
-cast-marks c = omega (arith, row-inside (c .before .before .before .before .before .before .before .before .before .before .before .before .before .args .s .now) (c .before .before .before .before .before .before .before .before .loop .c) (sym (c .before .before .before .before .before .before .before .is-class-row .ensures) ∙ c .before .before .before .before .before .before .if1 .taken))
+cast-climbed : tie.Need-cast-climbed Inv-loop μ-loop
+cast-climbed c = omega (arith, row-inside (c .before .before .before .before .before .before .before .before .before .before .before .before .before .args .sheet .now) (c .before .before .before .before .before .before .before .before .loop .c) (sym (c .before .before .before .before .before .before .before .is-class-row .ensures) ∙ c .before .before .before .before .before .before .if1 .taken))
 
-mul-marks : tie.Need-mul-marks Inv-loop μ-loop
-mul-marks c = omega (arith, row-inside (c .before .before .before .before .before .before .before .before .before .before .before .before .before .args .s .now) (c .before .before .before .before .before .before .before .before .loop .c) (sym (c .before .before .before .before .before .before .before .is-class-row .ensures) ∙ c .before .before .before .before .before .before .if1 .taken))
+mul-climbed : tie.Need-mul-climbed Inv-loop μ-loop
+mul-climbed c = omega (arith, row-inside (c .before .before .before .before .before .before .before .before .before .before .before .before .before .args .sheet .now) (c .before .before .before .before .before .before .before .before .loop .c) (sym (c .before .before .before .before .before .before .before .is-class-row .ensures) ∙ c .before .before .before .before .before .before .if1 .taken))
 
-slice-write-marks : tie.Need-slice-write-marks Inv-loop μ-loop
-slice-write-marks c = omega (arith, row-marked (c .before .before .before .before .before .before .before .before .before .before .before .before .before .args .s .now) (c .before .before .before .before .before .before .before .before .before .before .before .before .before .args .marks .now) (c .before .before .before .before .before .before .before .before .loop .c) (c .before .before .before .before .before .before .before .before .before .before .before .before .before .pre .0) (sym (c .before .before .before .before .before .before .before .is-class-row .ensures) ∙ c .before .before .before .before .before .before .if1 .taken), c .before .before .before .before .before .before .before .before .loop .inv .2)
+slice-write-climbed : tie.Need-slice-write-climbed Inv-loop μ-loop
+slice-write-climbed c = omega (arith, row-marked (c .before .before .before .before .before .before .before .before .before .before .before .before .before .args .sheet .now) (c .before .before .before .before .before .before .before .before .before .before .before .before .before .args .climbed .now) (c .before .before .before .before .before .before .before .before .loop .c) (c .before .before .before .before .before .before .before .before .before .before .before .before .before .pre .0) (sym (c .before .before .before .before .before .before .before .is-class-row .ensures) ∙ c .before .before .before .before .before .before .if1 .taken), c .before .before .before .before .before .before .before .before .loop .inv .2)
 
 loop-less : tie.Need-loop-less Inv-loop μ-loop
-loop-less c = let a = c .before .before .before .before .before .before .before .before .before .before .before .before .before .args in let x = c .before .before .before .before .before .before .before .before .loop in omega (arith, remaining-some (a .s .now) (x .marks) (a .r + 1), remaining-less (a .s .now) (x .marks) (a .r + 1) (x .c) (c .before .before .before .before .before .before .before .before .before .before .before .before .before .pre .3) (omega (arith, c .before .before .before .before .before .before .before .before .before .before .before .before .before .pre .0, x .inv .2)) (sym (c .before .before .before .before .before .before .before .is-class-row .ensures) ∙ c .before .before .before .before .before .before .if1 .taken) (c .before .before .before .before .if2 .left))
+loop-less c = let a = c .before .before .before .before .before .before .before .before .before .before .before .before .before .args in let x = c .before .before .before .before .before .before .before .before .loop in omega (arith, remaining-some (a .sheet .now) (x .climbed) (a .r + 1), remaining-less (a .sheet .now) (x .climbed) (a .r + 1) (x .c) (c .before .before .before .before .before .before .before .before .before .before .before .before .before .pre .3) (omega (arith, c .before .before .before .before .before .before .before .before .before .before .before .before .before .pre .0, x .inv .2)) (sym (c .before .before .before .before .before .before .before .is-class-row .ensures) ∙ c .before .before .before .before .before .before .if1 .taken) (c .before .before .before .before .if2 .left))
 
 loop-again : tie.Need-loop-again Inv-loop μ-loop
-loop-again c = let a = c .before .before .before .before .before .before .before .before .before .before .before .before .before .args in let x = c .before .before .before .before .before .before .before .before .loop in let h = sym (c .before .before .before .before .before .before .before .is-class-row .ensures) ∙ c .before .before .before .before .before .before .if1 .taken in let g = sym (c .before .lacks-record .ensures) ∙ c .if4 .left in let l = row-marked (a .s .now) (x .marks) (x .c) (omega (arith, c .before .before .before .before .before .before .before .before .before .before .before .before .before .pre .0, x .inv .2)) h in (λ o q. climb-next (over (a .outside .now)) (a .s .now) (storeOf o (a .t .now) q) (x .marks) (a .r + 1) (x .c) (c .before .before .before .before .before .before .before .before .before .before .before .before .before .pre .3) (omega (arith, c .before .before .before .before .before .before .before .before .before .before .before .before .before .pre .0, x .inv .2)) h (c .before .before .before .before .if2 .left) (c .before .before .parent-of .ensures o q) g ∙ x .inv .0 o q, mark-most (x .marks) (x .c - 256) (a .r + 1) l (x .inv .1), length-set (x .marks) (x .c - 256) (a .r + 1) ∙ x .inv .2, λ o q. climbing-up (over (a .outside .now)) (a .s .now) (storeOf o (a .t .now) q) (x .marks) (a .r + 1) (x .c) (x .inv .3 o q) l h (c .before .before .parent-of .ensures o q) g)
+loop-again c = let a = c .before .before .before .before .before .before .before .before .before .before .before .before .before .args in let x = c .before .before .before .before .before .before .before .before .loop in let h = sym (c .before .before .before .before .before .before .before .is-class-row .ensures) ∙ c .before .before .before .before .before .before .if1 .taken in let g = sym (c .before .lacks-record .ensures) ∙ c .if4 .left in let l = row-marked (a .sheet .now) (x .climbed) (x .c) (omega (arith, c .before .before .before .before .before .before .before .before .before .before .before .before .before .pre .0, x .inv .2)) h in (λ o q. climb-next (over (a .outside .now)) (a .sheet .now) (storeOf o (a .results .now) q) (x .climbed) (a .r + 1) (x .c) (c .before .before .before .before .before .before .before .before .before .before .before .before .before .pre .3) (omega (arith, c .before .before .before .before .before .before .before .before .before .before .before .before .before .pre .0, x .inv .2)) h (c .before .before .before .before .if2 .left) (c .before .before .parent-of .ensures o q) g ∙ x .inv .0 o q, mark-most (x .climbed) (x .c - 256) (a .r + 1) l (x .inv .1), length-set (x .climbed) (x .c - 256) (a .r + 1) ∙ x .inv .2, λ o q. climbing-up (over (a .outside .now)) (a .sheet .now) (storeOf o (a .results .now) q) (x .climbed) (a .r + 1) (x .c) (x .inv .3 o q) l h (c .before .before .parent-of .ensures o q) g)
 
 same-length-4 : tie.Need-same-length-4 Inv-loop μ-loop
 same-length-4 c = c .before .before .loop .inv .2
 
 returns-4 : tie.Need-returns-4 Inv-loop μ-loop
-returns-4 c = let a = c .before .before .before .before .before .before .before .args in let x = c .before .before .loop in let h = sym (c .before .is-class-row .ensures) ∙ c .if1 .left in (λ o q. climb-off (over (a .outside .now)) (a .s .now) (storeOf o (a .t .now) q) (x .marks) (a .r + 1) _ (x .c) (remaining-some (a .s .now) (x .marks) (a .r + 1)) h ∙ x .inv .0 o q, x .inv .1, λ e o q. climbing-end (over (a .outside .now)) (a .s .now) (storeOf o (a .t .now) q) (x .marks) (a .r + 1) (x .c) (x .inv .3 o q) 0 (ends-top (over (a .outside .now)) (a .s .now) (storeOf o (a .t .now) q) (x .c) h))
+returns-4 c = let a = c .before .before .before .before .before .before .before .args in let x = c .before .before .loop in let h = sym (c .before .is-class-row .ensures) ∙ c .if1 .left in (λ o q. climb-off (over (a .outside .now)) (a .sheet .now) (storeOf o (a .results .now) q) (x .climbed) (a .r + 1) _ (x .c) (remaining-some (a .sheet .now) (x .climbed) (a .r + 1)) h ∙ x .inv .0 o q, x .inv .1, λ e o q. climbing-end (over (a .outside .now)) (a .sheet .now) (storeOf o (a .results .now) q) (x .climbed) (a .r + 1) (x .c) (x .inv .3 o q) 0 (ends-top (over (a .outside .now)) (a .sheet .now) (storeOf o (a .results .now) q) (x .c) h))
 
 pub climb-spec : {M : Type 1} → statement M
 climb-spec =
@@ -125,10 +125,10 @@ climb-spec =
     refuse-class-requires-2
     same-length-3
     returns-3
-    add-marks
-    cast-marks
-    mul-marks
-    slice-write-marks
+    add-climbed
+    cast-climbed
+    mul-climbed
+    slice-write-climbed
     loop-less
     loop-again
     same-length-4

@@ -30,7 +30,7 @@ word-requires-2 c κs = tt
 
 -- src/lib.rt:65:5
 loop-holds : tie.Need-loop-holds Inv-loop μ-loop
-loop-holds c = (rw (c .before .word .ensures) (names-last (c .before .before .before .before .before .args .s .now) (c .before .before .before .before .before .args .outside .now) (c .word2 .result) (noScopes (c .before .before .before .before .before .args .s .now) (c .before .before .before .before .before .args .v .now))), omega arith, omega arith, refl)
+loop-holds c = (rw (c .before .word .ensures) (names-last (c .before .before .before .before .before .args .sheet .now) (c .before .before .before .before .before .args .outside .now) (c .word2 .result) (noScopes (c .before .before .before .before .before .args .sheet .now) (c .before .before .before .before .before .args .entries .now))), omega arith, omega arith, refl)
 
 -- src/lib.rt:66:9
 sub-i : tie.Need-sub-i Inv-loop μ-loop
@@ -54,7 +54,7 @@ loop-less c = omega (arith, c .before .before .before .before .before .before .l
 
 -- src/lib.rt:65:5
 loop-again : tie.Need-loop-again Inv-loop μ-loop
-loop-again c = (c .before .before .define .ensures (nameAt (c .before .before .before .before .before .before .before .before .before .before .before .before .before .args .outside .now) (c .before .before .before .before .before .before .before .loop .i - 1) .means) (c .before .before .before .before .visible-at .ensures (c .before .before .before .before .before .before .before .loop .v)) ∙ names-more (c .before .before .before .before .before .before .before .before .before .before .before .before .before .args .s .now) (c .before .before .before .before .before .before .before .before .before .before .before .before .before .args .outside .now) (c .before .before .before .before .before .before .before .loop .i) (c .before .before .before .before .before .before .before .before .word2 .result) (noScopes (c .before .before .before .before .before .before .before .before .before .before .before .before .before .args .s .now) (c .before .before .before .before .before .before .before .before .before .before .before .before .before .args .v .now)) (scopesOf (c .before .before .before .before .before .before .before .loop .e) (c .before .before .before .before .before .before .before .loop .v)) (c .before .before .before .before .before .before .loop-test .taken) (c .before .before .before .before .before .before .before .loop .inv .1) (c .before .before .before .before .before .before .before .loop .inv .0) (c .before .before .before .before .before .word3 .ensures), omega (arith, c .before .before .before .before .before .before .before .loop .inv .1), omega (arith, c .before .before .before .before .before .before .loop-test .taken), omega (arith, c .before .before .define .kept, c .before .before .before .before .before .before .before .loop .inv .3))
+loop-again c = (c .before .before .define .ensures (nameAt (c .before .before .before .before .before .before .before .before .before .before .before .before .before .args .outside .now) (c .before .before .before .before .before .before .before .loop .i - 1) .means) (c .before .before .before .before .visible-at .ensures (c .before .before .before .before .before .before .before .loop .entries)) ∙ names-more (c .before .before .before .before .before .before .before .before .before .before .before .before .before .args .sheet .now) (c .before .before .before .before .before .before .before .before .before .before .before .before .before .args .outside .now) (c .before .before .before .before .before .before .before .loop .i) (c .before .before .before .before .before .before .before .before .word2 .result) (noScopes (c .before .before .before .before .before .before .before .before .before .before .before .before .before .args .sheet .now) (c .before .before .before .before .before .before .before .before .before .before .before .before .before .args .entries .now)) (scopesOf (c .before .before .before .before .before .before .before .loop .e) (c .before .before .before .before .before .before .before .loop .entries)) (c .before .before .before .before .before .before .loop-test .taken) (c .before .before .before .before .before .before .before .loop .inv .1) (c .before .before .before .before .before .before .before .loop .inv .0) (c .before .before .before .before .before .word3 .ensures), omega (arith, c .before .before .before .before .before .before .before .loop .inv .1), omega (arith, c .before .before .before .before .before .before .loop-test .taken), omega (arith, c .before .before .define .kept, c .before .before .before .before .before .before .before .loop .inv .3))
 
 -- src/lib.rt:54:1
 same-length : tie.Need-same-length Inv-loop μ-loop
@@ -62,7 +62,7 @@ same-length c = c .before .loop .inv .3
 
 -- src/lib.rt:54:1
 returns : tie.Need-returns Inv-loop μ-loop
-returns c = names-all (c .before .before .before .before .before .before .before .args .s .now) (c .before .before .before .before .before .before .before .args .outside .now) (c .before .loop .i) (c .before .before .word2 .result) (noScopes (c .before .before .before .before .before .before .before .args .s .now) (c .before .before .before .before .before .before .before .args .v .now)) (omega (arith, c .loop-test .left)) (c .before .loop .inv .1) (c .before .loop .inv .2) (c .before .before .word2 .ensures) (c .before .loop .inv .0)
+returns c = names-all (c .before .before .before .before .before .before .before .args .sheet .now) (c .before .before .before .before .before .before .before .args .outside .now) (c .before .loop .i) (c .before .before .word2 .result) (noScopes (c .before .before .before .before .before .before .before .args .sheet .now) (c .before .before .before .before .before .before .before .args .entries .now)) (omega (arith, c .loop-test .left)) (c .before .loop .inv .1) (c .before .loop .inv .2) (c .before .before .word2 .ensures) (c .before .loop .inv .0)
 
 pub open-names-spec : {M : Type 1} → statement M
 open-names-spec =

@@ -17,7 +17,7 @@ shared-slice-read-last : tie.Need-shared-slice-read-last
 shared-slice-read-last c = search needs
 
 returns : tie.Need-returns
-returns c = copied-field (over (c .before .before .before .before .before .before .args .outside .now)) (c .before .before .before .before .before .before .args .s .now) (c .before .before .before .before .before .before .args .w) (c .before .before .before .before .before .before .args .out .now) (c .before .before .before .before .before .before .args .at) (c .before .before .before .before .before .before .args .i) (c .if1 .taken)
+returns c = copied-field (over (c .before .before .before .before .before .before .args .outside .now)) (c .before .before .before .before .before .before .args .sheet .now) (c .before .before .before .before .before .before .args .wanted) (c .before .before .before .before .before .before .args .out .now) (c .before .before .before .before .before .before .args .at) (c .before .before .before .before .before .before .args .i) (c .if1 .taken)
 
 mul-m : tie.Need-mul-m
 mul-m c = search needs
@@ -35,7 +35,7 @@ own-or-requires : tie.Need-own-or-requires
 own-or-requires c κs = search needs
 
 returns-2 : tie.Need-returns-2
-returns-2 c = copied-method (over (c .before .before .before .before .before .before .before .before .args .outside .now)) (c .before .before .before .before .before .before .before .before .args .s .now) (c .before .before .before .before .before .before .before .before .args .w) (c .before .before .before .before .before .before .before .before .args .out .now) (c .before .before .before .before .before .before .before .before .args .at) (c .before .before .before .before .before .before .before .before .args .i) (c .own-or .result .0) (c .before .before .if1 .left) (c .own-or .ensures)
+returns-2 c = copied-method (over (c .before .before .before .before .before .before .before .before .args .outside .now)) (c .before .before .before .before .before .before .before .before .args .sheet .now) (c .before .before .before .before .before .before .before .before .args .wanted) (c .before .before .before .before .before .before .before .before .args .out .now) (c .before .before .before .before .before .before .before .before .args .at) (c .before .before .before .before .before .before .before .before .args .i) (c .own-or .result .0) (c .before .before .if1 .left) (c .own-or .ensures)
 
 pub copied-row-spec : {M : Type 1} → statement M
 copied-row-spec =

@@ -32,13 +32,13 @@ loop-less : tie.Need-loop-less Inv-loop μ-loop
 loop-less c = omega (arith, c .before .before .before .before .loop-test .taken)
 
 loop-again : tie.Need-loop-again Inv-loop μ-loop
-loop-again c = (copied-next (over (c .before .before .before .before .before .before .before .before .before .args .outside .now)) (c .before .before .before .before .before .before .before .before .before .args .s .now) (c .before .before .before .before .before .before .before .before .before .args .w) (c .before .before .before .before .before .before .before .before .before .args .out .now) (c .before .before .before .before .before .loop .at) (c .before .before .before .before .before .loop .left) (filled (c .before .before .before .before .before .loop .done) (c .before .before .before .before .before .loop .out)) (c .before .before .before .before .loop-test .taken) (omega (arith, c .before .before .before .before .before .loop .inv .1)) (c .before .before .before .before .before .loop .inv .2) (c .before .before .put-copy .ensures) ∙ c .before .before .before .before .before .loop .inv .0, omega (arith, c .before .before .before .before .before .loop .inv .1, c .before .before .before .before .loop-test .taken), copied-kept (over (c .before .before .before .before .before .before .before .before .before .args .outside .now)) (c .before .before .before .before .before .before .before .before .before .args .s .now) (c .before .before .before .before .before .before .before .before .before .args .w) (c .before .before .before .before .before .before .before .before .before .args .out .now) (c .before .before .before .before .before .loop .at) (c .before .before .before .before .before .loop .left) (filled (c .before .before .before .before .before .loop .done) (c .before .before .before .before .before .loop .out)) (c .before .before .before .before .loop-test .taken) (omega (arith, c .before .before .before .before .before .loop .inv .1)) (c .before .before .before .before .before .loop .inv .2) (c .before .before .put-copy .ensures) (c .before .before .before .before .before .before .before .before .before .pre .1))
+loop-again c = (copied-next (over (c .before .before .before .before .before .before .before .before .before .args .outside .now)) (c .before .before .before .before .before .before .before .before .before .args .sheet .now) (c .before .before .before .before .before .before .before .before .before .args .wanted) (c .before .before .before .before .before .before .before .before .before .args .out .now) (c .before .before .before .before .before .loop .at) (c .before .before .before .before .before .loop .left) (filled (c .before .before .before .before .before .loop .done) (c .before .before .before .before .before .loop .out)) (c .before .before .before .before .loop-test .taken) (omega (arith, c .before .before .before .before .before .loop .inv .1)) (c .before .before .before .before .before .loop .inv .2) (c .before .before .put-copy .ensures) ∙ c .before .before .before .before .before .loop .inv .0, omega (arith, c .before .before .before .before .before .loop .inv .1, c .before .before .before .before .loop-test .taken), copied-kept (over (c .before .before .before .before .before .before .before .before .before .args .outside .now)) (c .before .before .before .before .before .before .before .before .before .args .sheet .now) (c .before .before .before .before .before .before .before .before .before .args .wanted) (c .before .before .before .before .before .before .before .before .before .args .out .now) (c .before .before .before .before .before .loop .at) (c .before .before .before .before .before .loop .left) (filled (c .before .before .before .before .before .loop .done) (c .before .before .before .before .before .loop .out)) (c .before .before .before .before .loop-test .taken) (omega (arith, c .before .before .before .before .before .loop .inv .1)) (c .before .before .before .before .before .loop .inv .2) (c .before .before .put-copy .ensures) (c .before .before .before .before .before .before .before .before .before .pre .1))
 
 same-length : tie.Need-same-length Inv-loop μ-loop
 same-length c = c .before .loop .inv .2 .lengths
 
 returns : tie.Need-returns Inv-loop μ-loop
-returns c = copied-end (over (c .before .before .before .before .before .args .outside .now)) (c .before .before .before .before .before .args .s .now) (c .before .before .before .before .before .args .w) (c .before .before .before .before .before .args .out .now) (c .before .loop .at) (c .before .loop .left) (filled (c .before .loop .done) (c .before .loop .out)) (c .loop-test .left) ∙ c .before .loop .inv .0
+returns c = copied-end (over (c .before .before .before .before .before .args .outside .now)) (c .before .before .before .before .before .args .sheet .now) (c .before .before .before .before .before .args .wanted) (c .before .before .before .before .before .args .out .now) (c .before .loop .at) (c .before .loop .left) (filled (c .before .loop .done) (c .before .loop .out)) (c .loop-test .left) ∙ c .before .loop .inv .0
 
 pub put-copied-spec : {M : Type 1} → statement M
 put-copied-spec =

@@ -18,7 +18,7 @@ same-length : tie.Need-same-length
 same-length c = search needs
 
 returns : tie.Need-returns
-returns c = put-one (copiedRow (over (c .before .before .before .before .before .before .before .before .before .before .args .outside .now)) (c .before .before .before .before .before .before .before .before .before .before .args .s .now) (c .before .before .before .before .before .before .before .before .before .before .args .w) (c .before .before .before .before .before .before .before .before .before .before .args .out .now)) (c .before .before .before .before .before .before .before .before .before .before .args .at) (filled (c .before .before .before .before .before .before .before .before .before .before .args .k) (c .before .before .before .before .before .before .before .before .before .before .args .out .now)) (c .before .before .before .before .before .copied-row .ensures) (c .before .before .before .emit .ensures) (c .one-more .ensures)
+returns c = put-one (copiedRow (over (c .before .before .before .before .before .before .before .before .before .before .args .outside .now)) (c .before .before .before .before .before .before .before .before .before .before .args .sheet .now) (c .before .before .before .before .before .before .before .before .before .before .args .wanted) (c .before .before .before .before .before .before .before .before .before .before .args .out .now)) (c .before .before .before .before .before .before .before .before .before .before .args .at) (filled (c .before .before .before .before .before .before .before .before .before .before .args .k) (c .before .before .before .before .before .before .before .before .before .before .args .out .now)) (c .before .before .before .before .before .copied-row .ensures) (c .before .before .before .emit .ensures) (c .one-more .ensures)
 
 pub put-copy-spec : {M : Type 1} → statement M
 put-copy-spec =

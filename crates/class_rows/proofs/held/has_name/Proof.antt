@@ -24,13 +24,13 @@ is-own-requires : tie.Need-is-own-requires Inv-loop μ-loop
 is-own-requires c κs = search needs
 
 returns : tie.Need-returns Inv-loop μ-loop
-returns c = λ o. let a = c .before .before .before .before .before .before .before .before .args in names-own (over (a .outside .now)) (a .s .now) (storeOf o (a .t .now) (a .q .now)) (a .kind) (c .before .before .before .loop .left) (c .before .before .before .loop .at) (a .m) (c .before .before .loop-test .taken) (sym (c .if1 .taken) ∙ c .before .is-own .ensures o) ∙ c .before .before .before .loop .inv .0 o
+returns c = λ o. let a = c .before .before .before .before .before .before .before .before .args in names-own (over (a .outside .now)) (a .sheet .now) (storeOf o (a .results .now) (a .nodes .now)) (a .kind) (c .before .before .before .loop .left) (c .before .before .before .loop .at) (a .m) (c .before .before .loop-test .taken) (sym (c .if1 .taken) ∙ c .before .is-own .ensures o) ∙ c .before .before .before .loop .inv .0 o
 
 parent-of-requires : tie.Need-parent-of-requires Inv-loop μ-loop
 parent-of-requires c κs = search needs
 
 returns-2 : tie.Need-returns-2 Inv-loop μ-loop
-returns-2 c = λ o. let a = c .before .before .before .before .before .before .before .before .before .before .args in names-top (over (a .outside .now)) (a .s .now) (storeOf o (a .t .now) (a .q .now)) (a .kind) (c .before .before .before .before .before .loop .left) (c .before .before .before .before .before .loop .at) (a .m) (c .before .before .before .before .loop-test .taken) (sym (c .before .before .if1 .left) ∙ c .before .before .before .is-own .ensures o) (c .before .parent-of .ensures o (a .q .now)) (c .if2 .taken) ∙ c .before .before .before .before .before .loop .inv .0 o
+returns-2 c = λ o. let a = c .before .before .before .before .before .before .before .before .before .before .args in names-top (over (a .outside .now)) (a .sheet .now) (storeOf o (a .results .now) (a .nodes .now)) (a .kind) (c .before .before .before .before .before .loop .left) (c .before .before .before .before .before .loop .at) (a .m) (c .before .before .before .before .loop-test .taken) (sym (c .before .before .if1 .left) ∙ c .before .before .before .is-own .ensures o) (c .before .parent-of .ensures o (a .nodes .now)) (c .if2 .taken) ∙ c .before .before .before .before .before .loop .inv .0 o
 
 sub-left : tie.Need-sub-left Inv-loop μ-loop
 sub-left c = omega (arith, c .before .before .before .before .loop-test .taken)
@@ -39,10 +39,10 @@ loop-less : tie.Need-loop-less Inv-loop μ-loop
 loop-less c = omega (arith, c .before .before .before .before .loop-test .taken)
 
 loop-again : tie.Need-loop-again Inv-loop μ-loop
-loop-again c = let a = c .before .before .before .before .before .before .before .before .before .before .args in (λ o. names-up (over (a .outside .now)) (a .s .now) (storeOf o (a .t .now) (a .q .now)) (a .kind) (c .before .before .before .before .before .loop .left) (c .before .before .before .before .before .loop .at) (a .m) (c .before .before .before .before .loop-test .taken) (sym (c .before .before .if1 .left) ∙ c .before .before .before .is-own .ensures o) (c .before .parent-of .ensures o (a .q .now)) (c .if2 .left) ∙ c .before .before .before .before .before .loop .inv .0 o, omega (arith, c .before .before .before .before .before .loop .inv .1))
+loop-again c = let a = c .before .before .before .before .before .before .before .before .before .before .args in (λ o. names-up (over (a .outside .now)) (a .sheet .now) (storeOf o (a .results .now) (a .nodes .now)) (a .kind) (c .before .before .before .before .before .loop .left) (c .before .before .before .before .before .loop .at) (a .m) (c .before .before .before .before .loop-test .taken) (sym (c .before .before .if1 .left) ∙ c .before .before .before .is-own .ensures o) (c .before .parent-of .ensures o (a .nodes .now)) (c .if2 .left) ∙ c .before .before .before .before .before .loop .inv .0 o, omega (arith, c .before .before .before .before .before .loop .inv .1))
 
 returns-3 : tie.Need-returns-3 Inv-loop μ-loop
-returns-3 c = λ o. let a = c .before .before .before .before .before .before .args in names-none (over (a .outside .now)) (a .s .now) (storeOf o (a .t .now) (a .q .now)) (a .kind) (c .before .loop .left) (c .before .loop .at) (a .m) (c .loop-test .left) ∙ c .before .loop .inv .0 o
+returns-3 c = λ o. let a = c .before .before .before .before .before .before .args in names-none (over (a .outside .now)) (a .sheet .now) (storeOf o (a .results .now) (a .nodes .now)) (a .kind) (c .before .loop .left) (c .before .loop .at) (a .m) (c .loop-test .left) ∙ c .before .loop .inv .0 o
 
 pub has-name-spec : {M : Type 1} → statement M
 has-name-spec =

@@ -18,7 +18,7 @@ is-class-row-requires c κs = search needs
 
 -- src/held.rt:53:43
 sub-is-row-name : tie.Need-sub-is-row-name
-sub-is-row-name c = row-number (c .before .before .before .before .before .before .before .args .s .now) (c .before .before .before .before .before .before .before .args .c .0) (sym (c .before .before .is-class-row .ensures) ∙ c .before .if1 .taken)
+sub-is-row-name c = row-number (c .before .before .before .before .before .before .before .args .sheet .now) (c .before .before .before .before .before .before .before .args .c .0) (sym (c .before .before .is-class-row .ensures) ∙ c .before .if1 .taken)
 
 -- src/held.rt:53:9
 is-row-name-requires : tie.Need-is-row-name-requires
@@ -26,7 +26,7 @@ is-row-name-requires c κs = search needs
 
 -- src/held.rt:53:9
 returns : tie.Need-returns
-returns c = λ o. let a = c .before .before .before .before .before .before .before .before .args in own-row (over (a .outside .now)) (a .s .now) (storeOf o (a .t .now) (a .q .now)) (a .kind) (a .c .0) (a .m) (sym (c .before .before .if1 .taken) ∙ c .before .before .before .is-class-row .ensures) (c .is-row-name .ensures o)
+returns c = λ o. let a = c .before .before .before .before .before .before .before .before .args in own-row (over (a .outside .now)) (a .sheet .now) (storeOf o (a .results .now) (a .nodes .now)) (a .kind) (a .c .0) (a .m) (sym (c .before .before .if1 .taken) ∙ c .before .before .before .is-class-row .ensures) (c .is-row-name .ensures o)
 
 -- src/held.rt:55:5
 is-recorded-requires : tie.Need-is-recorded-requires
@@ -34,7 +34,7 @@ is-recorded-requires c κs = search needs
 
 -- src/held.rt:41:1
 returns-2 : tie.Need-returns-2
-returns-2 c = λ o. let a = c .before .before .before .before .before .before .before .args in own-record (over (a .outside .now)) (a .s .now) (storeOf o (a .t .now) (a .q .now)) (a .kind) (a .c .0) (a .m) (sym (c .before .if1 .left) ∙ c .before .before .is-class-row .ensures) (c .is-recorded .ensures)
+returns-2 c = λ o. let a = c .before .before .before .before .before .before .before .args in own-record (over (a .outside .now)) (a .sheet .now) (storeOf o (a .results .now) (a .nodes .now)) (a .kind) (a .c .0) (a .m) (sym (c .before .if1 .left) ∙ c .before .before .is-class-row .ensures) (c .is-recorded .ensures)
 
 pub is-own-spec : {M : Type 1} → statement M
 is-own-spec =

@@ -16,7 +16,7 @@ has-named-requires c κs = search needs
 
 -- src/held.rt:32:9
 returns : tie.Need-returns
-returns c = λ o. let a = c .before .before .before .before .before .args in row-listed (a .s .now) (storeOf o (a .t .now) (a .q .now)) (a .kind) (a .r) (a .m) (sym (c .if1 .taken) ∙ c .before .has-named .ensures)
+returns c = λ o. let a = c .before .before .before .before .before .args in row-listed (a .sheet .now) (storeOf o (a .results .now) (a .nodes .now)) (a .kind) (a .row) (a .m) (sym (c .if1 .taken) ∙ c .before .has-named .ensures)
 
 -- src/held.rt:35:27
 word-requires : tie.Need-word-requires
@@ -28,11 +28,11 @@ has-key-requires c κs = search needs
 
 -- src/held.rt:35:9
 returns-2 : tie.Need-returns-2
-returns-2 c = λ o. let a = c .before .before .before .before .before .before .before .before .args in row-stored (a .s .now) (storeOf o (a .t .now) (a .q .now)) (a .kind) (a .r) (a .m) (sym (c .before .before .before .if1 .left) ∙ c .before .before .before .before .has-named .ensures) (c .before .before .if2 .taken) (c .before .word .ensures) (c .has-key .ensures)
+returns-2 c = λ o. let a = c .before .before .before .before .before .before .before .before .args in row-stored (a .sheet .now) (storeOf o (a .results .now) (a .nodes .now)) (a .kind) (a .row) (a .m) (sym (c .before .before .before .if1 .left) ∙ c .before .before .before .before .has-named .ensures) (c .before .before .if2 .taken) (c .before .word .ensures) (c .has-key .ensures)
 
 -- src/held.rt:28:1
 returns-3 : tie.Need-returns-3
-returns-3 c = λ o. let a = c .before .before .before .before .before .before .args in row-none (a .s .now) (storeOf o (a .t .now) (a .q .now)) (a .kind) (a .r) (a .m) (sym (c .before .if1 .left) ∙ c .before .before .has-named .ensures) (c .if2 .left)
+returns-3 c = λ o. let a = c .before .before .before .before .before .before .args in row-none (a .sheet .now) (storeOf o (a .results .now) (a .nodes .now)) (a .kind) (a .row) (a .m) (sym (c .before .if1 .left) ∙ c .before .before .has-named .ensures) (c .if2 .left)
 
 pub is-row-name-spec : {M : Type 1} → statement M
 is-row-name-spec =

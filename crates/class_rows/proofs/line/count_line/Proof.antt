@@ -26,7 +26,7 @@ put-own-requires : tie.Need-put-own-requires
 put-own-requires c κs = search needs
 
 returns-2 : tie.Need-returns-2
-returns-2 c = λ o. let a = c .before .before .before .before .before .before .before .before .before .before .before .args in line-counted _ (nameRow (over (a .outside .now)) (a .s .now) (storeOf o (a .t .now) (a .q .now)) (a .w)) (a .s .now) (storeOf o (a .t .now) (a .q .now)) (a .w .kind) (a .w .class .0) _ (c .before .before .before .before .before .before .before .before .before .before .before .pre .0) (c .before .before .before .parent-of .ensures o (a .q .now)) (c .before .before .before .before .before .before .before .before .before .before .before .pre .1 (c .before .before .before .before .if1 .left) o .0) (omega arith) (c .before .before .before .before .before .before .before .before .before .before .before .pre .1 (c .before .before .before .before .if1 .left) o .1) (c .before .put-own .ensures o)
+returns-2 c = λ o. let a = c .before .before .before .before .before .before .before .before .before .before .before .args in line-counted _ (nameRow (over (a .outside .now)) (a .sheet .now) (storeOf o (a .results .now) (a .nodes .now)) (a .wanted)) (a .sheet .now) (storeOf o (a .results .now) (a .nodes .now)) (a .wanted .kind) (a .wanted .class .0) _ (c .before .before .before .before .before .before .before .before .before .before .before .pre .0) (c .before .before .before .parent-of .ensures o (a .nodes .now)) (c .before .before .before .before .before .before .before .before .before .before .before .pre .1 (c .before .before .before .before .if1 .left) o .0) (omega arith) (c .before .before .before .before .before .before .before .before .before .before .before .pre .1 (c .before .before .before .before .if1 .left) o .1) (c .before .put-own .ensures o)
 
 pub count-line-spec : {M : Type 1} → statement M
 count-line-spec =

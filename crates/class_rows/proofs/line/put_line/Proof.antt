@@ -32,8 +32,8 @@ same-length-2 : tie.Need-same-length-2
 same-length-2 c = search needs
 
 returns-2 : tie.Need-returns-2
-returns-2 c = λ o. let a = c .before .before .before .before .before .before .before .before .before .before .before .before .before .before .before .before .before .args in let h = c .before .before .before .before .before .before .before .before .before .before .before .before .before .before .before .before .before .pre .1 (c .before .before .before .before .before .before .before .before .before .if1 .left) o in line-after _ (nameRow (over (a .outside .now)) (a .s .now) (storeOf o (a .t .now) (a .q .now)) (a .w)) (a .s .now) (storeOf o (a .t .now) (a .q .now)) (a .w .kind) (a .w .class .0) (filled (a .k) (a .out .now)) (c .before .before .before .before .before .before .before .before .before .before .before .before .before .before .before .before .before .pre .0) (c .before .before .before .before .before .before .before .before .parent-of .ensures o (a .q .now)) (h .parent) refl
-    (c .before .before .before .before .before .before .put-copied .ensures ∙ copied-all (over (a .outside .now)) (a .s .now) (storeOf o (a .t .now) (a .q .now)) (a .w) (c .before .before .before .before .before .before .before .before .before .before .before .before .before .before .before .before .before .pre .0) (h .parent) (a .out .now) _ (a .a .row) (a .a .count) (filled (a .k) (a .out .now)) (h .names) (h .functions)) (c .before .before .put-own .ensures o)
+returns-2 c = λ o. let a = c .before .before .before .before .before .before .before .before .before .before .before .before .before .before .before .before .before .args in let h = c .before .before .before .before .before .before .before .before .before .before .before .before .before .before .before .before .before .pre .1 (c .before .before .before .before .before .before .before .before .before .if1 .left) o in line-after _ (nameRow (over (a .outside .now)) (a .sheet .now) (storeOf o (a .results .now) (a .nodes .now)) (a .wanted)) (a .sheet .now) (storeOf o (a .results .now) (a .nodes .now)) (a .wanted .kind) (a .wanted .class .0) (filled (a .k) (a .out .now)) (c .before .before .before .before .before .before .before .before .before .before .before .before .before .before .before .before .before .pre .0) (c .before .before .before .before .before .before .before .before .parent-of .ensures o (a .nodes .now)) (h .parent) refl
+    (c .before .before .before .before .before .before .put-copied .ensures ∙ copied-all (over (a .outside .now)) (a .sheet .now) (storeOf o (a .results .now) (a .nodes .now)) (a .wanted) (c .before .before .before .before .before .before .before .before .before .before .before .before .before .before .before .before .before .pre .0) (h .parent) (a .out .now) _ (a .a .row) (a .a .count) (filled (a .k) (a .out .now)) (h .names) (h .functions)) (c .before .before .put-own .ensures o)
 
 pub put-line-spec : {M : Type 1} → statement M
 put-line-spec =

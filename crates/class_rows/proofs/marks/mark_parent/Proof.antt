@@ -12,26 +12,26 @@ word-requires-2 c κs = search needs
 cast-i : tie.Need-cast-i
 cast-i c = search needs
 
-mul-marks : tie.Need-mul-marks
-mul-marks c = search needs
+mul-subclassed : tie.Need-mul-subclassed
+mul-subclassed c = search needs
 
-slice-write-marks : tie.Need-slice-write-marks
-slice-write-marks c = search needs
+slice-write-subclassed : tie.Need-slice-write-subclassed
+slice-write-subclassed c = search needs
 
 same-length : tie.Need-same-length
 same-length c = search needs
 
 returns : tie.Need-returns
-returns c = let a = c .before .before .before .before .before .before .before .before .args in mark-set (a .s .now) (a .t .now) (a .r) (a .marks .now) (c .before .before .before .before .word .ensures) (c .before .before .before .if1 .taken) (c .before .before .word2 .ensures) (c .before .if2 .taken)
+returns c = let a = c .before .before .before .before .before .before .before .before .args in mark-set (a .sheet .now) (a .results .now) (a .row) (a .subclassed .now) (c .before .before .before .before .word .ensures) (c .before .before .before .if1 .taken) (c .before .before .word2 .ensures) (c .before .if2 .taken)
 
 returns-2 : tie.Need-returns-2
-returns-2 c = let a = c .before .before .before .before .before .before .before .before .args in mark-past (a .s .now) (a .t .now) (a .r) (a .marks .now) (c .before .before .before .before .word .ensures) (c .before .before .before .if1 .taken) (c .before .before .word2 .ensures) (c .before .if2 .taken) (c .if3 .left)
+returns-2 c = let a = c .before .before .before .before .before .before .before .before .args in mark-past (a .sheet .now) (a .results .now) (a .row) (a .subclassed .now) (c .before .before .before .before .word .ensures) (c .before .before .before .if1 .taken) (c .before .before .word2 .ensures) (c .before .if2 .taken) (c .if3 .left)
 
 returns-3 : tie.Need-returns-3
-returns-3 c = let a = c .before .before .before .before .before .before .before .args in mark-outside (a .s .now) (a .t .now) (a .r) (a .marks .now) (c .before .before .before .word .ensures) (c .before .before .if1 .taken) (c .before .word2 .ensures) (c .if2 .left)
+returns-3 c = let a = c .before .before .before .before .before .before .before .args in mark-outside (a .sheet .now) (a .results .now) (a .row) (a .subclassed .now) (c .before .before .before .word .ensures) (c .before .before .if1 .taken) (c .before .word2 .ensures) (c .if2 .left)
 
 returns-4 : tie.Need-returns-4
-returns-4 c = let a = c .before .before .before .before .before .args in mark-none (a .s .now) (a .t .now) (a .r) (a .marks .now) (c .before .word .ensures) (c .if1 .left)
+returns-4 c = let a = c .before .before .before .before .before .args in mark-none (a .sheet .now) (a .results .now) (a .row) (a .subclassed .now) (c .before .word .ensures) (c .if1 .left)
 
 pub mark-parent-spec : {M : Type 1} → statement M
 mark-parent-spec =
@@ -40,8 +40,8 @@ mark-parent-spec =
     word-requires
     word-requires-2
     cast-i
-    mul-marks
-    slice-write-marks
+    mul-subclassed
+    slice-write-subclassed
     same-length
     returns
     returns-2

@@ -30,7 +30,7 @@ put-names-claims t =
     (parent-of-reads.Asked, parent-of-reads.Learnt, put-own-reads.Asked, put-own-reads.Learnt, put-names-below t, put-names.Post)
 
 put-names-returns : (t : ℕ) → put-names-lts.Need-returns (put-names-claims t) (put-names-at t) put-names.Post
-put-names-returns t c = λ o. let a = c .before .before .before .before .before .before .args in names-zero _ (nameRow (over (a .outside .now)) (a .s .now) (storeOf o (a .t .now) (a .q .now)) (a .w)) (a .s .now) (storeOf o (a .t .now) (a .q .now)) (a .w .kind) (a .n) (a .c .0) (filled (a .k) (a .out .now)) (c .if1 .taken)
+put-names-returns t c = λ o. let a = c .before .before .before .before .before .before .args in names-zero _ (nameRow (over (a .outside .now)) (a .sheet .now) (storeOf o (a .results .now) (a .nodes .now)) (a .wanted)) (a .sheet .now) (storeOf o (a .results .now) (a .nodes .now)) (a .wanted .kind) (a .n) (a .c .0) (filled (a .k) (a .out .now)) (c .if1 .taken)
 
 put-names-parent-of-requires : (t : ℕ) → put-names-lts.Need-parent-of-requires (put-names-claims t) (put-names-at t) put-names.Post
 put-names-parent-of-requires t c κs = search needs
@@ -45,7 +45,7 @@ put-names-same-length : (t : ℕ) → put-names-lts.Need-same-length (put-names-
 put-names-same-length t c = search needs
 
 put-names-returns-2 : (t : ℕ) → put-names-lts.Need-returns-2 (put-names-claims t) (put-names-at t) put-names.Post
-put-names-returns-2 t c = λ o. let a = c .before .before .before .before .before .before .before .before .before .before .before .before .before .args in names-first _ (nameRow (over (a .outside .now)) (a .s .now) (storeOf o (a .t .now) (a .q .now)) (a .w)) (a .s .now) (storeOf o (a .t .now) (a .q .now)) (a .w .kind) (a .n) (a .c .0) (filled (a .k) (a .out .now)) (c .before .before .before .before .before .before .before .if1 .left) (c .before .before .before .before .before .before .parent-of .ensures o (a .q .now)) (c .before .before .before .before .if2 .taken) (c .before .before .put-own .ensures o)
+put-names-returns-2 t c = λ o. let a = c .before .before .before .before .before .before .before .before .before .before .before .before .before .args in names-first _ (nameRow (over (a .outside .now)) (a .sheet .now) (storeOf o (a .results .now) (a .nodes .now)) (a .wanted)) (a .sheet .now) (storeOf o (a .results .now) (a .nodes .now)) (a .wanted .kind) (a .n) (a .c .0) (filled (a .k) (a .out .now)) (c .before .before .before .before .before .before .before .if1 .left) (c .before .before .before .before .before .before .parent-of .ensures o (a .nodes .now)) (c .before .before .before .before .if2 .taken) (c .before .before .put-own .ensures o)
 
 put-names-sub-put-names-2 : (t : ℕ) → put-names-lts.Need-sub-put-names-2 (put-names-claims t) (put-names-at t) put-names.Post
 put-names-sub-put-names-2 t c = omega (arith, c .before .before .before .if1 .left)
@@ -60,7 +60,7 @@ put-names-same-length-2 : (t : ℕ) → put-names-lts.Need-same-length-2 (put-na
 put-names-same-length-2 t c = omega (arith, c .before .before .put-own2 .kept, c .before .before .before .before .before .before .put-names .kept)
 
 put-names-returns-3 : (t : ℕ) → put-names-lts.Need-returns-3 (put-names-claims t) (put-names-at t) put-names.Post
-put-names-returns-3 t c = λ o. let a = c .before .before .before .before .before .before .before .before .before .before .before .before .before .before .before .before .before .args in names-after _ (nameRow (over (a .outside .now)) (a .s .now) (storeOf o (a .t .now) (a .q .now)) (a .w)) (a .s .now) (storeOf o (a .t .now) (a .q .now)) (a .w .kind) (a .n) (a .c .0) (filled (a .k) (a .out .now)) (c .before .before .before .before .before .before .before .before .before .before .before .if1 .left) (c .before .before .before .before .before .before .before .before .before .before .parent-of .ensures o (a .q .now)) (c .before .before .before .before .before .before .before .before .if2 .left) (c .before .before .before .before .before .before .put-names .ensures o) (c .before .before .put-own2 .ensures o)
+put-names-returns-3 t c = λ o. let a = c .before .before .before .before .before .before .before .before .before .before .before .before .before .before .before .before .before .args in names-after _ (nameRow (over (a .outside .now)) (a .sheet .now) (storeOf o (a .results .now) (a .nodes .now)) (a .wanted)) (a .sheet .now) (storeOf o (a .results .now) (a .nodes .now)) (a .wanted .kind) (a .n) (a .c .0) (filled (a .k) (a .out .now)) (c .before .before .before .before .before .before .before .before .before .before .before .if1 .left) (c .before .before .before .before .before .before .before .before .before .before .parent-of .ensures o (a .nodes .now)) (c .before .before .before .before .before .before .before .before .if2 .left) (c .before .before .before .before .before .before .put-names .ensures o) (c .before .before .put-own2 .ensures o)
 
 pub +put-names-spec : {M : Type 1} → statement M
 +put-names-spec = close μ-put-names λ t. put-names-lts.spec (put-names-claims t)

@@ -33,7 +33,7 @@ put-stored-claims t =
     (node-before-reads.Asked, node-before-reads.Learnt, put-stored-below t, put-stored.Post, node-word-reads.Asked, node-word-reads.Learnt, put-new-reads.Asked, put-new-reads.Learnt)
 
 put-stored-returns : (t : ℕ) → put-stored-lts.Need-returns (put-stored-claims t) (put-stored-at t) put-stored.Post
-put-stored-returns t c = λ o. let a = c .before .before .before .before .before .before .args in stored-none (nameRow (over (a .outside .now)) (a .s .now) (storeOf o (a .t .now) (a .q .now)) (a .w)) (inherited (over (a .outside .now)) (a .s .now) (storeOf o (a .t .now) (a .q .now)) (a .w .kind) (a .p .left) (a .p .class .0)) (a .q .now) (a .last) (filled (a .k) (a .out .now)) (c .if1 .taken)
+put-stored-returns t c = λ o. let a = c .before .before .before .before .before .before .args in stored-none (nameRow (over (a .outside .now)) (a .sheet .now) (storeOf o (a .results .now) (a .nodes .now)) (a .wanted)) (inherited (over (a .outside .now)) (a .sheet .now) (storeOf o (a .results .now) (a .nodes .now)) (a .wanted .kind) (a .p .left) (a .p .class .0)) (a .nodes .now) (a .last) (filled (a .k) (a .out .now)) (c .if1 .taken)
 
 put-stored-sub-i : (t : ℕ) → put-stored-lts.Need-sub-i (put-stored-claims t) (put-stored-at t) put-stored.Post
 put-stored-sub-i t c = omega (arith, c .if1 .left)
@@ -54,7 +54,7 @@ put-stored-same-length : (t : ℕ) → put-stored-lts.Need-same-length (put-stor
 put-stored-same-length t c = omega (arith, c .before .before .put-new .kept, c .before .before .before .before .before .before .before .put-stored .kept)
 
 put-stored-returns-2 : (t : ℕ) → put-stored-lts.Need-returns-2 (put-stored-claims t) (put-stored-at t) put-stored.Post
-put-stored-returns-2 t c = λ o. let a = c .before .before .before .before .before .before .before .before .before .before .before .before .before .before .before .before .args in stored-last (nameRow (over (a .outside .now)) (a .s .now) (storeOf o (a .t .now) (a .q .now)) (a .w)) (inherited (over (a .outside .now)) (a .s .now) (storeOf o (a .t .now) (a .q .now)) (a .w .kind) (a .p .left) (a .p .class .0)) (a .q .now) (a .last) (filled (a .k) (a .out .now)) (c .before .before .before .before .before .before .before .before .before .before .if1 .left) (c .before .before .before .before .before .before .before .before .before .node-before .ensures) (c .before .before .before .before .node-word .ensures) (c .before .before .before .before .before .before .before .put-stored .ensures o) (c .before .before .put-new .ensures o)
+put-stored-returns-2 t c = λ o. let a = c .before .before .before .before .before .before .before .before .before .before .before .before .before .before .before .before .args in stored-last (nameRow (over (a .outside .now)) (a .sheet .now) (storeOf o (a .results .now) (a .nodes .now)) (a .wanted)) (inherited (over (a .outside .now)) (a .sheet .now) (storeOf o (a .results .now) (a .nodes .now)) (a .wanted .kind) (a .p .left) (a .p .class .0)) (a .nodes .now) (a .last) (filled (a .k) (a .out .now)) (c .before .before .before .before .before .before .before .before .before .before .if1 .left) (c .before .before .before .before .before .before .before .before .before .node-before .ensures) (c .before .before .before .before .node-word .ensures) (c .before .before .before .before .before .before .before .put-stored .ensures o) (c .before .before .put-new .ensures o)
 
 pub +put-stored-spec : {M : Type 1} → statement M
 +put-stored-spec = close μ-put-stored λ t. put-stored-lts.spec (put-stored-claims t)

@@ -15,7 +15,7 @@ put-names-requires : tie.Need-put-names-requires
 put-names-requires c κs = search needs
 
 returns : tie.Need-returns
-returns c = λ o. let a = c .before .before .before .before .before .before .before .args in names-counted (nameRow (over (a .outside .now)) (a .s .now) (storeOf o (a .t .now) (a .q .now)) (a .w)) (namesIn (over (a .outside .now)) (a .s .now) (storeOf o (a .t .now) (a .q .now)) (a .w .kind) (a .n) (a .c .0)) _ refl (c .before .put-names .ensures o)
+returns c = λ o. let a = c .before .before .before .before .before .before .before .args in names-counted (nameRow (over (a .outside .now)) (a .sheet .now) (storeOf o (a .results .now) (a .nodes .now)) (a .wanted)) (namesIn (over (a .outside .now)) (a .sheet .now) (storeOf o (a .results .now) (a .nodes .now)) (a .wanted .kind) (a .n) (a .c .0)) _ refl (c .before .put-names .ensures o)
 
 pub count-names-spec : {M : Type 1} → statement M
 count-names-spec = tie.close (tie.spec slice-aggregate-put-names put-names-requires returns)

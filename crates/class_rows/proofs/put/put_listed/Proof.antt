@@ -24,13 +24,13 @@ word-requires : tie.Need-word-requires Inv-loop μ-loop
 word-requires c κs = search needs
 
 loop-holds : tie.Need-loop-holds Inv-loop μ-loop
-loop-holds c = let a = c .before .before .before .before .before .before .args in (λ o. listed-start (nameRow (over (a .outside .now)) (a .s .now) (storeOf o (a .t .now) (a .q .now)) (a .w)) (inherited (over (a .outside .now)) (a .s .now) (storeOf o (a .t .now) (a .q .now)) (a .w .kind) (a .p .left) (a .p .class .0)) (a .s .now) (a .w .kind) (a .r) (c .word .result) (filled (a .k) (a .out .now)) (c .word .ensures), omega arith, refl)
+loop-holds c = let a = c .before .before .before .before .before .before .args in (λ o. listed-start (nameRow (over (a .outside .now)) (a .sheet .now) (storeOf o (a .results .now) (a .nodes .now)) (a .wanted)) (inherited (over (a .outside .now)) (a .sheet .now) (storeOf o (a .results .now) (a .nodes .now)) (a .wanted .kind) (a .p .left) (a .p .class .0)) (a .sheet .now) (a .wanted .kind) (a .r) (c .word .result) (filled (a .k) (a .out .now)) (c .word .ensures), omega arith, refl)
 
 same-length : tie.Need-same-length Inv-loop μ-loop
 same-length c = c .before .before .loop .inv .2
 
 returns : tie.Need-returns Inv-loop μ-loop
-returns c = λ o. let a = c .before .before .before .before .before .before .before .before .before .args in listed-end (nameRow (over (a .outside .now)) (a .s .now) (storeOf o (a .t .now) (a .q .now)) (a .w)) (inherited (over (a .outside .now)) (a .s .now) (storeOf o (a .t .now) (a .q .now)) (a .w .kind) (a .p .left) (a .p .class .0)) (a .s .now) (a .w .kind) (c .before .before .loop .left) (c .before .before .loop .at) (filled (c .before .before .loop .done) (c .before .before .loop .out)) (c .if1 .taken) ∙ c .before .before .loop .inv .0 o
+returns c = λ o. let a = c .before .before .before .before .before .before .before .before .before .args in listed-end (nameRow (over (a .outside .now)) (a .sheet .now) (storeOf o (a .results .now) (a .nodes .now)) (a .wanted)) (inherited (over (a .outside .now)) (a .sheet .now) (storeOf o (a .results .now) (a .nodes .now)) (a .wanted .kind) (a .p .left) (a .p .class .0)) (a .sheet .now) (a .wanted .kind) (c .before .before .loop .left) (c .before .before .loop .at) (filled (c .before .before .loop .done) (c .before .before .loop .out)) (c .if1 .taken) ∙ c .before .before .loop .inv .0 o
 
 word-requires-2 : tie.Need-word-requires-2 Inv-loop μ-loop
 word-requires-2 c κs = search needs
@@ -51,19 +51,19 @@ loop-less : tie.Need-loop-less Inv-loop μ-loop
 loop-less c = omega (arith, c .before .before .before .before .before .before .before .before .before .before .loop-test .taken)
 
 loop-again : tie.Need-loop-again Inv-loop μ-loop
-loop-again c = let a = c .before .before .before .before .before .before .before .before .before .before .before .before .before .before .before .before .before .before .args in (λ o. listed-here (nameRow (over (a .outside .now)) (a .s .now) (storeOf o (a .t .now) (a .q .now)) (a .w)) (inherited (over (a .outside .now)) (a .s .now) (storeOf o (a .t .now) (a .q .now)) (a .w .kind) (a .p .left) (a .p .class .0)) (a .s .now) (a .w .kind) (c .before .before .before .before .before .before .before .before .before .before .before .loop .left) (c .before .before .before .before .before .before .before .before .before .before .before .loop .at) (filled (c .before .before .before .before .before .before .before .before .before .before .before .loop .done) (c .before .before .before .before .before .before .before .before .before .before .before .loop .out)) (c .before .before .before .before .before .before .before .before .before .before .loop-test .taken) (c .before .before .before .before .before .before .before .before .before .if1 .left) (c .before .before .before .before .before .before .before .before .word2 .ensures) (c .before .before .before .before .before .before .before .word3 .ensures) (c .before .before .before .before .before .if2 .taken) (c .before .before .before .before .word4 .ensures) (c .before .before .put-new .ensures o) ∙ c .before .before .before .before .before .before .before .before .before .before .before .loop .inv .0 o, omega (arith, c .before .before .before .before .before .before .before .before .before .before .before .loop .inv .1), omega (arith, c .before .before .put-new .kept, c .before .before .before .before .before .before .before .before .before .before .before .loop .inv .2))
+loop-again c = let a = c .before .before .before .before .before .before .before .before .before .before .before .before .before .before .before .before .before .before .args in (λ o. listed-here (nameRow (over (a .outside .now)) (a .sheet .now) (storeOf o (a .results .now) (a .nodes .now)) (a .wanted)) (inherited (over (a .outside .now)) (a .sheet .now) (storeOf o (a .results .now) (a .nodes .now)) (a .wanted .kind) (a .p .left) (a .p .class .0)) (a .sheet .now) (a .wanted .kind) (c .before .before .before .before .before .before .before .before .before .before .before .loop .left) (c .before .before .before .before .before .before .before .before .before .before .before .loop .at) (filled (c .before .before .before .before .before .before .before .before .before .before .before .loop .done) (c .before .before .before .before .before .before .before .before .before .before .before .loop .out)) (c .before .before .before .before .before .before .before .before .before .before .loop-test .taken) (c .before .before .before .before .before .before .before .before .before .if1 .left) (c .before .before .before .before .before .before .before .before .word2 .ensures) (c .before .before .before .before .before .before .before .word3 .ensures) (c .before .before .before .before .before .if2 .taken) (c .before .before .before .before .word4 .ensures) (c .before .before .put-new .ensures o) ∙ c .before .before .before .before .before .before .before .before .before .before .before .loop .inv .0 o, omega (arith, c .before .before .before .before .before .before .before .before .before .before .before .loop .inv .1), omega (arith, c .before .before .put-new .kept, c .before .before .before .before .before .before .before .before .before .before .before .loop .inv .2))
 
 loop-less-2 : tie.Need-loop-less-2 Inv-loop μ-loop
 loop-less-2 c = omega (arith, c .before .before .before .before .before .loop-test .taken)
 
 loop-again-2 : tie.Need-loop-again-2 Inv-loop μ-loop
-loop-again-2 c = let a = c .before .before .before .before .before .before .before .before .before .before .before .before .before .args in (λ o. listed-skip (nameRow (over (a .outside .now)) (a .s .now) (storeOf o (a .t .now) (a .q .now)) (a .w)) (inherited (over (a .outside .now)) (a .s .now) (storeOf o (a .t .now) (a .q .now)) (a .w .kind) (a .p .left) (a .p .class .0)) (a .s .now) (a .w .kind) (c .before .before .before .before .before .before .loop .left) (c .before .before .before .before .before .before .loop .at) (filled (c .before .before .before .before .before .before .loop .done) (c .before .before .before .before .before .before .loop .out)) (c .before .before .before .before .before .loop-test .taken) (c .before .before .before .before .if1 .left) (c .before .before .before .word2 .ensures) (c .before .before .word3 .ensures) (c .if2 .left) ∙ c .before .before .before .before .before .before .loop .inv .0 o, omega (arith, c .before .before .before .before .before .before .loop .inv .1), c .before .before .before .before .before .before .loop .inv .2)
+loop-again-2 c = let a = c .before .before .before .before .before .before .before .before .before .before .before .before .before .args in (λ o. listed-skip (nameRow (over (a .outside .now)) (a .sheet .now) (storeOf o (a .results .now) (a .nodes .now)) (a .wanted)) (inherited (over (a .outside .now)) (a .sheet .now) (storeOf o (a .results .now) (a .nodes .now)) (a .wanted .kind) (a .p .left) (a .p .class .0)) (a .sheet .now) (a .wanted .kind) (c .before .before .before .before .before .before .loop .left) (c .before .before .before .before .before .before .loop .at) (filled (c .before .before .before .before .before .before .loop .done) (c .before .before .before .before .before .before .loop .out)) (c .before .before .before .before .before .loop-test .taken) (c .before .before .before .before .if1 .left) (c .before .before .before .word2 .ensures) (c .before .before .word3 .ensures) (c .if2 .left) ∙ c .before .before .before .before .before .before .loop .inv .0 o, omega (arith, c .before .before .before .before .before .before .loop .inv .1), c .before .before .before .before .before .before .loop .inv .2)
 
 same-length-2 : tie.Need-same-length-2 Inv-loop μ-loop
 same-length-2 c = c .before .loop .inv .2
 
 returns-2 : tie.Need-returns-2 Inv-loop μ-loop
-returns-2 c = λ o. let a = c .before .before .before .before .before .before .before .before .args in listed-none (nameRow (over (a .outside .now)) (a .s .now) (storeOf o (a .t .now) (a .q .now)) (a .w)) (inherited (over (a .outside .now)) (a .s .now) (storeOf o (a .t .now) (a .q .now)) (a .w .kind) (a .p .left) (a .p .class .0)) (a .s .now) (a .w .kind) (c .before .loop .left) (c .before .loop .at) (filled (c .before .loop .done) (c .before .loop .out)) (c .loop-test .left) ∙ c .before .loop .inv .0 o
+returns-2 c = λ o. let a = c .before .before .before .before .before .before .before .before .args in listed-none (nameRow (over (a .outside .now)) (a .sheet .now) (storeOf o (a .results .now) (a .nodes .now)) (a .wanted)) (inherited (over (a .outside .now)) (a .sheet .now) (storeOf o (a .results .now) (a .nodes .now)) (a .wanted .kind) (a .p .left) (a .p .class .0)) (a .sheet .now) (a .wanted .kind) (c .before .loop .left) (c .before .loop .at) (filled (c .before .loop .done) (c .before .loop .out)) (c .loop-test .left) ∙ c .before .loop .inv .0 o
 
 pub put-listed-spec : {M : Type 1} → statement M
 put-listed-spec =

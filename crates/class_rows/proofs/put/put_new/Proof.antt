@@ -12,7 +12,7 @@ is-inherited-requires : tie.Need-is-inherited-requires
 is-inherited-requires c κs = search needs
 
 returns : tie.Need-returns
-returns c = λ o. let a = c .before .before .before .before .before .before .before .args in new-old (nameRow (over (a .outside .now)) (a .s .now) (storeOf o (a .t .now) (a .q .now)) (a .w)) (inherited (over (a .outside .now)) (a .s .now) (storeOf o (a .t .now) (a .q .now)) (a .w .kind) (a .p .left) (a .p .class .0)) (a .m) (filled (a .k) (a .out .now)) (sym (c .if1 .taken) ∙ c .before .is-inherited .ensures o)
+returns c = λ o. let a = c .before .before .before .before .before .before .before .args in new-old (nameRow (over (a .outside .now)) (a .sheet .now) (storeOf o (a .results .now) (a .nodes .now)) (a .wanted)) (inherited (over (a .outside .now)) (a .sheet .now) (storeOf o (a .results .now) (a .nodes .now)) (a .wanted .kind) (a .p .left) (a .p .class .0)) (a .m) (filled (a .k) (a .out .now)) (sym (c .if1 .taken) ∙ c .before .is-inherited .ensures o)
 
 put-name-requires : tie.Need-put-name-requires
 put-name-requires c κs = search needs
@@ -21,7 +21,7 @@ same-length : tie.Need-same-length
 same-length c = search needs
 
 returns-2 : tie.Need-returns-2
-returns-2 c = λ o. let a = c .before .before .before .before .before .before .before .before .before .before .before .args in new-put (nameRow (over (a .outside .now)) (a .s .now) (storeOf o (a .t .now) (a .q .now)) (a .w)) (inherited (over (a .outside .now)) (a .s .now) (storeOf o (a .t .now) (a .q .now)) (a .w .kind) (a .p .left) (a .p .class .0)) (a .m) (filled (a .k) (a .out .now)) (sym (c .before .before .before .before .if1 .left) ∙ c .before .before .before .before .before .is-inherited .ensures o) (c .before .before .put-name .ensures o (a .q .now))
+returns-2 c = λ o. let a = c .before .before .before .before .before .before .before .before .before .before .before .args in new-put (nameRow (over (a .outside .now)) (a .sheet .now) (storeOf o (a .results .now) (a .nodes .now)) (a .wanted)) (inherited (over (a .outside .now)) (a .sheet .now) (storeOf o (a .results .now) (a .nodes .now)) (a .wanted .kind) (a .p .left) (a .p .class .0)) (a .m) (filled (a .k) (a .out .now)) (sym (c .before .before .before .before .if1 .left) ∙ c .before .before .before .before .before .is-inherited .ensures o) (c .before .before .put-name .ensures o (a .nodes .now))
 
 pub put-new-spec : {M : Type 1} → statement M
 put-new-spec =

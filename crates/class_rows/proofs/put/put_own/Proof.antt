@@ -23,7 +23,7 @@ is-class-row-requires c κs = search needs
 
 -- src/put.rt:211:17
 sub-r : tie.Need-sub-r
-sub-r c = row-number (c .before .before .before .before .before .before .before .before .args .s .now) (c .before .before .before .before .before .before .before .before .args .c .0) (sym (c .before .before .is-class-row .ensures) ∙ c .before .if1 .taken)
+sub-r c = row-number (c .before .before .before .before .before .before .before .before .args .sheet .now) (c .before .before .before .before .before .before .before .before .args .c .0) (sym (c .before .before .is-class-row .ensures) ∙ c .before .if1 .taken)
 
 -- src/put.rt:212:13
 put-listed-requires : tie.Need-put-listed-requires
@@ -45,8 +45,8 @@ same-length c = search needs
 returns : tie.Need-returns
 returns c = λ o. let a = c .before .before .before .before .before .before .before .before .before .before .before .before .before .before .before .before .before .before .before .args in
     let O = over (a .outside .now) in
-    let st = storeOf o (a .t .now) (a .q .now) in
-    own-stored O (nameRow O (a .s .now) st (a .w)) (inherited O (a .s .now) st (a .w .kind) (a .p .left) (a .p .class .0)) (a .s .now) st (a .w .kind) (a .c .0) (filled (a .k) (a .out .now))
+    let st = storeOf o (a .results .now) (a .nodes .now) in
+    own-stored O (nameRow O (a .sheet .now) st (a .wanted)) (inherited O (a .sheet .now) st (a .wanted .kind) (a .p .left) (a .p .class .0)) (a .sheet .now) st (a .wanted .kind) (a .c .0) (filled (a .k) (a .out .now))
     (sym (c .before .before .before .before .before .before .before .before .before .before .before .before .if1 .taken) ∙ c .before .before .before .before .before .before .before .before .before .before .before .before .before .is-class-row .ensures) (c .before .before .before .before .before .before .before .before .before .put-listed .ensures o) (c .before .before .before .before .before .if2 .taken) (c .before .before .before .before .word .ensures) (c .before .before .put-stored .ensures o)
 
 -- src/put.rt:216:9
@@ -57,8 +57,8 @@ same-length-2 c = search needs
 returns-2 : tie.Need-returns-2
 returns-2 c = λ o. let a = c .before .before .before .before .before .before .before .before .before .before .before .before .before .before .args in
     let O = over (a .outside .now) in
-    let st = storeOf o (a .t .now) (a .q .now) in
-    own-listed O (nameRow O (a .s .now) st (a .w)) (inherited O (a .s .now) st (a .w .kind) (a .p .left) (a .p .class .0)) (a .s .now) st (a .w .kind) (a .c .0) (filled (a .k) (a .out .now))
+    let st = storeOf o (a .results .now) (a .nodes .now) in
+    own-listed O (nameRow O (a .sheet .now) st (a .wanted)) (inherited O (a .sheet .now) st (a .wanted .kind) (a .p .left) (a .p .class .0)) (a .sheet .now) st (a .wanted .kind) (a .c .0) (filled (a .k) (a .out .now))
     (sym (c .before .before .before .before .before .before .before .if1 .taken) ∙ c .before .before .before .before .before .before .before .before .is-class-row .ensures) (c .before .before .before .before .put-listed .ensures o) (c .if2 .left)
 
 -- src/put.rt:218:9
@@ -77,8 +77,8 @@ same-length-3 c = search needs
 returns-3 : tie.Need-returns-3
 returns-3 c = λ o. let a = c .before .before .before .before .before .before .before .before .before .before .before .before .args in
     let O = over (a .outside .now) in
-    let st = storeOf o (a .t .now) (a .q .now) in
-    own-recorded O (nameRow O (a .s .now) st (a .w)) (inherited O (a .s .now) st (a .w .kind) (a .p .left) (a .p .class .0)) (a .s .now) st (a .w .kind) (a .c .0) (filled (a .k) (a .out .now))
+    let st = storeOf o (a .results .now) (a .nodes .now) in
+    own-recorded O (nameRow O (a .sheet .now) st (a .wanted)) (inherited O (a .sheet .now) st (a .wanted .kind) (a .p .left) (a .p .class .0)) (a .sheet .now) st (a .wanted .kind) (a .c .0) (filled (a .k) (a .out .now))
     (sym (c .before .before .before .before .before .if1 .left) ∙ c .before .before .before .before .before .before .is-class-row .ensures) (c .before .before .before .before .recorded-names .ensures) (c .before .before .put-recorded .ensures o)
 
 pub put-own-spec : {M : Type 1} → statement M

@@ -60,7 +60,7 @@ loop-less c = omega (arith, c .before .before .before .before .before .loop-test
 -- src/put.rt:134:5
 loop-again : tie.Need-loop-again Inv-loop μ-loop
 loop-again c = (
-  λ o. let a = c .before .before .before .before .before .before .before .before .before .before .before .before .before .before .args in spaced-next (nameRow (over (a .outside .now)) (a .s .now) (storeOf o (a .t .now) (a .q .now)) (a .w)) (inherited (over (a .outside .now)) (a .s .now) (storeOf o (a .t .now) (a .q .now)) (a .w .kind) (a .p .left) (a .p .class .0))
+  λ o. let a = c .before .before .before .before .before .before .before .before .before .before .before .before .before .before .args in spaced-next (nameRow (over (a .outside .now)) (a .sheet .now) (storeOf o (a .results .now) (a .nodes .now)) (a .wanted)) (inherited (over (a .outside .now)) (a .sheet .now) (storeOf o (a .results .now) (a .nodes .now)) (a .wanted .kind) (a .p .left) (a .p .class .0))
       (a .outside .now) (c .before .before .before .before .before .before .before .before .step-of .result) (c .before .before .before .before .before .before .loop .at) (c .before .before .before .before .before .before .loop .left) (filled (c .before .before .before .before .before .before .loop .done) (c .before .before .before .before .before .before .loop .out)) (c .before .before .before .before .before .loop-test .taken) (c .before .before .before .before .word-at .ensures) (c .before .before .put-new .ensures o) ∙ c .before .before .before .before .before .before .loop .inv .0 o,
   omega (arith, c .before .before .before .before .before .before .loop .inv .1, c .before .before .before .before .before .before .loop .inv .2, c .before .before .before .before .before .loop-test .taken),
   c .before .before .before .before .before .before .loop .inv .2,
@@ -73,7 +73,7 @@ same-length c = c .before .loop .inv .3
 
 -- src/put.rt:117:1
 returns : tie.Need-returns Inv-loop μ-loop
-returns c = λ o. let a = c .before .before .before .before .before .before .before .before .before .args in spaced-end (nameRow (over (a .outside .now)) (a .s .now) (storeOf o (a .t .now) (a .q .now)) (a .w)) (inherited (over (a .outside .now)) (a .s .now) (storeOf o (a .t .now) (a .q .now)) (a .w .kind) (a .p .left) (a .p .class .0)) (a .outside .now) (c .before .before .before .step-of .result) (c .before .loop .at) (c .before .loop .left) (filled (c .before .loop .done) (c .before .loop .out)) (c .loop-test .left) ∙ c .before .loop .inv .0 o ∙ ap (λ (i : ℕ). putNew (over (a .outside .now)) (a .s .now) (storeOf o (a .t .now) (a .q .now)) (a .w) (a .p) (spacedAt (a .outside .now) i (a .names .at) (a .names .count)) (filled (a .k) (a .out .now))) (c .before .before .before .step-of .ensures)
+returns c = λ o. let a = c .before .before .before .before .before .before .before .before .before .args in spaced-end (nameRow (over (a .outside .now)) (a .sheet .now) (storeOf o (a .results .now) (a .nodes .now)) (a .wanted)) (inherited (over (a .outside .now)) (a .sheet .now) (storeOf o (a .results .now) (a .nodes .now)) (a .wanted .kind) (a .p .left) (a .p .class .0)) (a .outside .now) (c .before .before .before .step-of .result) (c .before .loop .at) (c .before .loop .left) (filled (c .before .loop .done) (c .before .loop .out)) (c .loop-test .left) ∙ c .before .loop .inv .0 o ∙ ap (λ (i : ℕ). putNew (over (a .outside .now)) (a .sheet .now) (storeOf o (a .results .now) (a .nodes .now)) (a .wanted) (a .p) (spacedAt (a .outside .now) i (a .names .at) (a .names .count)) (filled (a .k) (a .out .now))) (c .before .before .before .step-of .ensures)
 
 pub put-recorded-spec : {M : Type 1} → statement M
 put-recorded-spec =

@@ -19,7 +19,7 @@ slots-asked-requires : tie.Need-slots-asked-requires Inv-loop μ-loop
 slots-asked-requires c κs = tt
 
 loop-holds : tie.Need-loop-holds Inv-loop μ-loop
-loop-holds c = (omega arith, omega arith, count-start (escapes (c .before .before .before .before .before .before .args .s .now) (c .before .before .before .before .before .before .args .t .now) (c .before .before .before .before .before .before .args .q .now) (c .before .before .before .before .before .before .args .f .0)) (c .slots-asked .result))
+loop-holds c = (omega arith, omega arith, count-start (escapes (c .before .before .before .before .before .before .args .sheet .now) (c .before .before .before .before .before .before .args .results .now) (c .before .before .before .before .before .before .args .nodes .now) (c .before .before .before .before .before .before .args .f .0)) (c .slots-asked .result))
 
 add-j : tie.Need-add-j Inv-loop μ-loop
 add-j c = omega arith
@@ -34,16 +34,16 @@ loop-less : tie.Need-loop-less Inv-loop μ-loop
 loop-less c = omega (arith, c .before .before .loop-test .taken)
 
 loop-again : tie.Need-loop-again Inv-loop μ-loop
-loop-again c = (omega (arith, c .before .before .loop-test .taken), omega (arith, c .before .before .before .loop .inv .1), count-in (escapes (c .before .before .before .before .before .before .before .before .before .before .args .s .now) (c .before .before .before .before .before .before .before .before .before .before .args .t .now) (c .before .before .before .before .before .before .before .before .before .before .args .q .now) (c .before .before .before .before .before .before .before .before .before .before .args .f .0)) _ (c .before .before .before .loop .x) (c .before .before .before .loop .j) _ (c .before .before .loop-test .taken) (sym (c .if1 .taken) ∙ c .before .hands-on .ensures) (c .before .before .before .loop .inv .2))
+loop-again c = (omega (arith, c .before .before .loop-test .taken), omega (arith, c .before .before .before .loop .inv .1), count-in (escapes (c .before .before .before .before .before .before .before .before .before .before .args .sheet .now) (c .before .before .before .before .before .before .before .before .before .before .args .results .now) (c .before .before .before .before .before .before .before .before .before .before .args .nodes .now) (c .before .before .before .before .before .before .before .before .before .before .args .f .0)) _ (c .before .before .before .loop .x) (c .before .before .before .loop .j) _ (c .before .before .loop-test .taken) (sym (c .if1 .taken) ∙ c .before .hands-on .ensures) (c .before .before .before .loop .inv .2))
 
 loop-less-2 : tie.Need-loop-less-2 Inv-loop μ-loop
 loop-less-2 c = omega (arith, c .before .before .loop-test .taken)
 
 loop-again-2 : tie.Need-loop-again-2 Inv-loop μ-loop
-loop-again-2 c = (omega (arith, c .before .before .loop-test .taken), omega (arith, c .before .before .before .loop .inv .1), count-out (escapes (c .before .before .before .before .before .before .before .before .before .before .args .s .now) (c .before .before .before .before .before .before .before .before .before .before .args .t .now) (c .before .before .before .before .before .before .before .before .before .before .args .q .now) (c .before .before .before .before .before .before .before .before .before .before .args .f .0)) _ (c .before .before .before .loop .x) (c .before .before .before .loop .j) _ (c .before .before .loop-test .taken) (sym (c .if1 .left) ∙ c .before .hands-on .ensures) (c .before .before .before .loop .inv .2))
+loop-again-2 c = (omega (arith, c .before .before .loop-test .taken), omega (arith, c .before .before .before .loop .inv .1), count-out (escapes (c .before .before .before .before .before .before .before .before .before .before .args .sheet .now) (c .before .before .before .before .before .before .before .before .before .before .args .results .now) (c .before .before .before .before .before .before .before .before .before .before .args .nodes .now) (c .before .before .before .before .before .before .before .before .before .before .args .f .0)) _ (c .before .before .before .loop .x) (c .before .before .before .loop .j) _ (c .before .before .loop-test .taken) (sym (c .if1 .left) ∙ c .before .hands-on .ensures) (c .before .before .before .loop .inv .2))
 
 returns : tie.Need-returns Inv-loop μ-loop
-returns c = λ o. count-end (escapes (c .before .before .before .before .before .before .before .before .args .s .now) (c .before .before .before .before .before .before .before .before .args .t .now) (c .before .before .before .before .before .before .before .before .args .q .now) (c .before .before .before .before .before .before .before .before .args .f .0)) _ (c .before .loop .x) (c .before .loop .j) _ (c .loop-test .left) (c .before .loop .inv .2) ∙ ap length (slots-found (c .before .before .before .before .before .before .before .before .args .s .now) (storeOf o (c .before .before .before .before .before .before .before .before .args .t .now) (c .before .before .before .before .before .before .before .before .args .q .now)) (c .before .before .before .before .before .before .before .before .args .heads .now) (c .before .before .before .before .before .before .before .before .args .nexts .now) (c .before .before .before .before .before .before .before .before .args .f .0) _ (c .before .before .before .before .before .before .before .before .pre .0) (c .before .before .before .before .before .before .before .before .pre .1) (c .before .before .slots-asked .ensures))
+returns c = λ o. count-end (escapes (c .before .before .before .before .before .before .before .before .args .sheet .now) (c .before .before .before .before .before .before .before .before .args .results .now) (c .before .before .before .before .before .before .before .before .args .nodes .now) (c .before .before .before .before .before .before .before .before .args .f .0)) _ (c .before .loop .x) (c .before .loop .j) _ (c .loop-test .left) (c .before .loop .inv .2) ∙ ap length (slots-found (c .before .before .before .before .before .before .before .before .args .sheet .now) (storeOf o (c .before .before .before .before .before .before .before .before .args .results .now) (c .before .before .before .before .before .before .before .before .args .nodes .now)) (c .before .before .before .before .before .before .before .before .args .literals .now) (c .before .before .before .before .before .before .before .before .args .siblings .now) (c .before .before .before .before .before .before .before .before .args .f .0) _ (c .before .before .before .before .before .before .before .before .pre .0) (c .before .before .before .before .before .before .before .before .pre .1) (c .before .before .slots-asked .ensures))
 
 pub count-escapes-spec : {M : Type 1} → statement M
 count-escapes-spec =

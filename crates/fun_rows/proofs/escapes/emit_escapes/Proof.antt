@@ -21,7 +21,7 @@ slots-asked-requires : tie.Need-slots-asked-requires Inv-loop μ-loop
 slots-asked-requires c κs = tt
 
 loop-holds : tie.Need-loop-holds Inv-loop μ-loop
-loop-holds c = (omega arith, refl, emit-start (escapes (c .before .before .before .before .before .before .before .args .s .now) (c .before .before .before .before .before .before .before .args .t .now) (c .before .before .before .before .before .before .before .args .q .now) (c .before .before .before .before .before .before .before .args .f .0)) (c .slots-asked .result) (slotRow (c .before .before .before .before .before .before .before .args .f .0)) (sink (c .before .before .before .before .before .before .before .args .k) (c .before .before .before .before .before .before .before .args .out .now)))
+loop-holds c = (omega arith, refl, emit-start (escapes (c .before .before .before .before .before .before .before .args .sheet .now) (c .before .before .before .before .before .before .before .args .results .now) (c .before .before .before .before .before .before .before .args .nodes .now) (c .before .before .before .before .before .before .before .args .f .0)) (c .slots-asked .result) (slotRow (c .before .before .before .before .before .before .before .args .f .0)) (sink (c .before .before .before .before .before .before .before .args .k) (c .before .before .before .before .before .before .before .args .out .now)))
 
 add-j : tie.Need-add-j Inv-loop μ-loop
 add-j c = omega arith
@@ -36,19 +36,19 @@ loop-less : tie.Need-loop-less Inv-loop μ-loop
 loop-less c = omega (arith, c .before .before .before .before .before .before .loop-test .taken)
 
 loop-again : tie.Need-loop-again Inv-loop μ-loop
-loop-again c = (omega (arith, c .before .before .before .before .before .before .loop-test .taken), omega (arith, c .before .before .emit-decl .kept, c .before .before .before .before .before .before .before .loop .inv .1), emit-in (escapes (c .before .before .before .before .before .before .before .before .before .before .before .before .before .before .before .args .s .now) (c .before .before .before .before .before .before .before .before .before .before .before .before .before .before .before .args .t .now) (c .before .before .before .before .before .before .before .before .before .before .before .before .before .before .before .args .q .now) (c .before .before .before .before .before .before .before .before .before .before .before .before .before .before .before .args .f .0)) _ (slotRow (c .before .before .before .before .before .before .before .before .before .before .before .before .before .before .before .args .f .0)) (c .before .before .before .before .before .before .before .loop .j) (sink (c .before .before .before .before .before .before .before .loop .n) (c .before .before .before .before .before .before .before .loop .out)) (c .before .before .before .before .before .before .loop-test .taken) (sym (c .before .before .before .before .if1 .taken) ∙ c .before .before .before .before .before .hands-on .ensures) (c .before .before .emit-decl .ensures) ∙ c .before .before .before .before .before .before .before .loop .inv .2)
+loop-again c = (omega (arith, c .before .before .before .before .before .before .loop-test .taken), omega (arith, c .before .before .emit-decl .kept, c .before .before .before .before .before .before .before .loop .inv .1), emit-in (escapes (c .before .before .before .before .before .before .before .before .before .before .before .before .before .before .before .args .sheet .now) (c .before .before .before .before .before .before .before .before .before .before .before .before .before .before .before .args .results .now) (c .before .before .before .before .before .before .before .before .before .before .before .before .before .before .before .args .nodes .now) (c .before .before .before .before .before .before .before .before .before .before .before .before .before .before .before .args .f .0)) _ (slotRow (c .before .before .before .before .before .before .before .before .before .before .before .before .before .before .before .args .f .0)) (c .before .before .before .before .before .before .before .loop .j) (sink (c .before .before .before .before .before .before .before .loop .n) (c .before .before .before .before .before .before .before .loop .out)) (c .before .before .before .before .before .before .loop-test .taken) (sym (c .before .before .before .before .if1 .taken) ∙ c .before .before .before .before .before .hands-on .ensures) (c .before .before .emit-decl .ensures) ∙ c .before .before .before .before .before .before .before .loop .inv .2)
 
 loop-less-2 : tie.Need-loop-less-2 Inv-loop μ-loop
 loop-less-2 c = omega (arith, c .before .before .loop-test .taken)
 
 loop-again-2 : tie.Need-loop-again-2 Inv-loop μ-loop
-loop-again-2 c = (omega (arith, c .before .before .loop-test .taken), c .before .before .before .loop .inv .1, emit-out (escapes (c .before .before .before .before .before .before .before .before .before .before .before .args .s .now) (c .before .before .before .before .before .before .before .before .before .before .before .args .t .now) (c .before .before .before .before .before .before .before .before .before .before .before .args .q .now) (c .before .before .before .before .before .before .before .before .before .before .before .args .f .0)) _ (slotRow (c .before .before .before .before .before .before .before .before .before .before .before .args .f .0)) (c .before .before .before .loop .j) (sink (c .before .before .before .loop .n) (c .before .before .before .loop .out)) (c .before .before .loop-test .taken) (sym (c .if1 .left) ∙ c .before .hands-on .ensures) ∙ c .before .before .before .loop .inv .2)
+loop-again-2 c = (omega (arith, c .before .before .loop-test .taken), c .before .before .before .loop .inv .1, emit-out (escapes (c .before .before .before .before .before .before .before .before .before .before .before .args .sheet .now) (c .before .before .before .before .before .before .before .before .before .before .before .args .results .now) (c .before .before .before .before .before .before .before .before .before .before .before .args .nodes .now) (c .before .before .before .before .before .before .before .before .before .before .before .args .f .0)) _ (slotRow (c .before .before .before .before .before .before .before .before .before .before .before .args .f .0)) (c .before .before .before .loop .j) (sink (c .before .before .before .loop .n) (c .before .before .before .loop .out)) (c .before .before .loop-test .taken) (sym (c .if1 .left) ∙ c .before .hands-on .ensures) ∙ c .before .before .before .loop .inv .2)
 
 same-length : tie.Need-same-length Inv-loop μ-loop
 same-length c = c .before .loop .inv .1
 
 returns : tie.Need-returns Inv-loop μ-loop
-returns c = λ o. emit-end (escapes (c .before .before .before .before .before .before .before .before .before .args .s .now) (c .before .before .before .before .before .before .before .before .before .args .t .now) (c .before .before .before .before .before .before .before .before .before .args .q .now) (c .before .before .before .before .before .before .before .before .before .args .f .0)) _ (slotRow (c .before .before .before .before .before .before .before .before .before .args .f .0)) (c .before .loop .j) (sink (c .before .loop .n) (c .before .loop .out)) (c .loop-test .left) ∙ c .before .loop .inv .2 ∙ ap (λ (l : List ℕ). emitAll (map (slotRow (c .before .before .before .before .before .before .before .before .before .args .f .0)) l) (sink (c .before .before .before .before .before .before .before .before .before .args .k) (c .before .before .before .before .before .before .before .before .before .args .out .now))) (slots-found (c .before .before .before .before .before .before .before .before .before .args .s .now) (storeOf o (c .before .before .before .before .before .before .before .before .before .args .t .now) (c .before .before .before .before .before .before .before .before .before .args .q .now)) (c .before .before .before .before .before .before .before .before .before .args .heads .now) (c .before .before .before .before .before .before .before .before .before .args .nexts .now) (c .before .before .before .before .before .before .before .before .before .args .f .0) _ (c .before .before .before .before .before .before .before .before .before .pre .0) (c .before .before .before .before .before .before .before .before .before .pre .1) (c .before .before .slots-asked .ensures))
+returns c = λ o. emit-end (escapes (c .before .before .before .before .before .before .before .before .before .args .sheet .now) (c .before .before .before .before .before .before .before .before .before .args .results .now) (c .before .before .before .before .before .before .before .before .before .args .nodes .now) (c .before .before .before .before .before .before .before .before .before .args .f .0)) _ (slotRow (c .before .before .before .before .before .before .before .before .before .args .f .0)) (c .before .loop .j) (sink (c .before .loop .n) (c .before .loop .out)) (c .loop-test .left) ∙ c .before .loop .inv .2 ∙ ap (λ (l : List ℕ). emitAll (map (slotRow (c .before .before .before .before .before .before .before .before .before .args .f .0)) l) (sink (c .before .before .before .before .before .before .before .before .before .args .k) (c .before .before .before .before .before .before .before .before .before .args .out .now))) (slots-found (c .before .before .before .before .before .before .before .before .before .args .sheet .now) (storeOf o (c .before .before .before .before .before .before .before .before .before .args .results .now) (c .before .before .before .before .before .before .before .before .before .args .nodes .now)) (c .before .before .before .before .before .before .before .before .before .args .literals .now) (c .before .before .before .before .before .before .before .before .before .args .siblings .now) (c .before .before .before .before .before .before .before .before .before .args .f .0) _ (c .before .before .before .before .before .before .before .before .before .pre .0) (c .before .before .before .before .before .before .before .before .before .pre .1) (c .before .before .slots-asked .ensures))
 
 pub emit-escapes-spec : {M : Type 1} → statement M
 emit-escapes-spec =

@@ -17,7 +17,7 @@ cast-l : tie.Need-cast-l Inv-loop μ-loop
 cast-l c = omega (arith, c .before .before .before .before .pre .0)
 
 loop-holds : tie.Need-loop-holds Inv-loop μ-loop
-loop-holds c = (omega arith, refl, refl, chained-none (c .before .before .before .before .args .s .now) (c .before .before .before .before .args .t .now) (c .before .before .before .before .args .heads .now) (c .before .before .before .before .args .nexts .now) (c .before .before .before .before .pre .3) (c .before .before .before .before .pre .4) (c .before .before .before .before .pre .2))
+loop-holds c = (omega arith, refl, refl, chained-none (c .before .before .before .before .args .sheet .now) (c .before .before .before .before .args .results .now) (c .before .before .before .before .args .literals .now) (c .before .before .before .before .args .siblings .now) (c .before .before .before .before .pre .3) (c .before .before .before .before .pre .4) (c .before .before .before .before .pre .2))
 
 sub-l : tie.Need-sub-l Inv-loop μ-loop
 sub-l c = omega arith
@@ -41,13 +41,13 @@ loop-less : tie.Need-loop-less Inv-loop μ-loop
 loop-less c = omega (arith, c .before .before .before .before .before .before .before .before .before .before .before .before .before .loop-test .taken)
 
 loop-again : tie.Need-loop-again Inv-loop μ-loop
-loop-again c = (omega (arith, c .before .before .before .before .before .before .before .before .before .before .before .before .before .before .loop .inv .0), omega (arith, c .before .before .put-entry2 .kept, c .before .before .before .before .before .before .before .before .before .before .before .before .before .before .loop .inv .1), omega (arith, c .before .before .before .before .before .before .put-entry .kept, c .before .before .before .before .before .before .before .before .before .before .before .before .before .before .loop .inv .2), chained-more (c .before .before .before .before .before .before .before .before .before .before .before .before .before .before .before .before .before .before .before .args .s .now) (c .before .before .before .before .before .before .before .before .before .before .before .before .before .before .before .before .before .before .before .args .t .now) (c .before .before .before .before .before .before .before .before .before .before .before .before .before .before .loop .heads) (c .before .before .before .before .before .before .before .before .before .before .before .before .before .before .loop .nexts) _ _ (c .before .before .before .before .before .before .before .before .before .before .before .before .before .before .loop .l) _ _ (c .before .before .before .before .before .before .before .before .before .before .before .before .before .loop-test .taken) (c .before .before .before .before .before .before .before .before .before .before .before .before .before .before .loop .inv .0) (c .before .before .before .before .before .before .before .before .before .before .before .before .before .before .loop .inv .3) (sym (c .before .before .before .before .before .before .before .before .before .before .before .if1 .taken) ∙ c .before .before .before .before .before .before .before .before .before .before .before .before .is-reached .ensures) (c .before .before .before .before .before .before .before .before .before .before .word .ensures) (c .before .before .before .before .before .before .before .entry-at .ensures) (c .before .before .before .before .before .before .put-entry .ensures) (c .before .before .put-entry2 .ensures))
+loop-again c = (omega (arith, c .before .before .before .before .before .before .before .before .before .before .before .before .before .before .loop .inv .0), omega (arith, c .before .before .put-entry2 .kept, c .before .before .before .before .before .before .before .before .before .before .before .before .before .before .loop .inv .1), omega (arith, c .before .before .before .before .before .before .put-entry .kept, c .before .before .before .before .before .before .before .before .before .before .before .before .before .before .loop .inv .2), chained-more (c .before .before .before .before .before .before .before .before .before .before .before .before .before .before .before .before .before .before .before .args .sheet .now) (c .before .before .before .before .before .before .before .before .before .before .before .before .before .before .before .before .before .before .before .args .results .now) (c .before .before .before .before .before .before .before .before .before .before .before .before .before .before .loop .literals) (c .before .before .before .before .before .before .before .before .before .before .before .before .before .before .loop .siblings) _ _ (c .before .before .before .before .before .before .before .before .before .before .before .before .before .before .loop .l) _ _ (c .before .before .before .before .before .before .before .before .before .before .before .before .before .loop-test .taken) (c .before .before .before .before .before .before .before .before .before .before .before .before .before .before .loop .inv .0) (c .before .before .before .before .before .before .before .before .before .before .before .before .before .before .loop .inv .3) (sym (c .before .before .before .before .before .before .before .before .before .before .before .if1 .taken) ∙ c .before .before .before .before .before .before .before .before .before .before .before .before .is-reached .ensures) (c .before .before .before .before .before .before .before .before .before .before .word .ensures) (c .before .before .before .before .before .before .before .entry-at .ensures) (c .before .before .before .before .before .before .put-entry .ensures) (c .before .before .put-entry2 .ensures))
 
 loop-less-2 : tie.Need-loop-less-2 Inv-loop μ-loop
 loop-less-2 c = omega (arith, c .before .before .loop-test .taken)
 
 loop-again-2 : tie.Need-loop-again-2 Inv-loop μ-loop
-loop-again-2 c = (omega (arith, c .before .before .before .loop .inv .0), c .before .before .before .loop .inv .1, c .before .before .before .loop .inv .2, chained-skip (c .before .before .before .before .before .before .before .before .args .s .now) (c .before .before .before .before .before .before .before .before .args .t .now) (c .before .before .before .loop .heads) (c .before .before .before .loop .nexts) (c .before .before .before .loop .l) (c .before .before .loop-test .taken) (c .before .before .before .loop .inv .0) (c .before .before .before .loop .inv .3) (sym (c .if1 .left) ∙ c .before .is-reached .ensures))
+loop-again-2 c = (omega (arith, c .before .before .before .loop .inv .0), c .before .before .before .loop .inv .1, c .before .before .before .loop .inv .2, chained-skip (c .before .before .before .before .before .before .before .before .args .sheet .now) (c .before .before .before .before .before .before .before .before .args .results .now) (c .before .before .before .loop .literals) (c .before .before .before .loop .siblings) (c .before .before .before .loop .l) (c .before .before .loop-test .taken) (c .before .before .before .loop .inv .0) (c .before .before .before .loop .inv .3) (sym (c .if1 .left) ∙ c .before .is-reached .ensures))
 
 same-length : tie.Need-same-length Inv-loop μ-loop
 same-length c = c .before .loop .inv .1
@@ -56,7 +56,7 @@ same-length-2 : tie.Need-same-length-2 Inv-loop μ-loop
 same-length-2 c = c .before .loop .inv .2
 
 returns : tie.Need-returns Inv-loop μ-loop
-returns c = chained-all (c .before .before .before .before .before .before .args .s .now) (c .before .before .before .before .before .before .args .t .now) (c .before .loop .heads) (c .before .loop .nexts) (c .before .loop .l) (c .loop-test .left) (c .before .before .before .before .before .before .pre .1) (c .before .loop .inv .3)
+returns c = chained-all (c .before .before .before .before .before .before .args .sheet .now) (c .before .before .before .before .before .before .args .results .now) (c .before .loop .literals) (c .before .loop .siblings) (c .before .loop .l) (c .loop-test .left) (c .before .before .before .before .before .before .pre .1) (c .before .loop .inv .3)
 
 pub link-literals-spec : {M : Type 1} → statement M
 link-literals-spec =

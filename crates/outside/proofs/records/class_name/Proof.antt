@@ -14,7 +14,7 @@ is-class-row-requires c κs = search needs
 
 -- src/records.rt:100:24
 sub-word : tie.Need-sub-word
-sub-word c = own-number (c .before .before .before .before .before .args .s .now) (c .before .before .before .before .before .args .outside .now) (c .before .before .before .before .before .args .c .0) (c .before .before .is-class-row .ensures) (c .before .if1 .taken)
+sub-word c = own-number (c .before .before .before .before .before .args .sheet .now) (c .before .before .before .before .before .args .outside .now) (c .before .before .before .before .before .args .c .0) (c .before .before .is-class-row .ensures) (c .before .if1 .taken)
 
 -- src/records.rt:100:9
 word-requires : tie.Need-word-requires
@@ -22,7 +22,7 @@ word-requires c κs = search needs
 
 -- src/records.rt:100:9
 returns : tie.Need-returns
-returns c = name-own (c .before .before .before .before .before .before .args .s .now) (c .before .before .before .before .before .before .args .outside .now) (c .before .before .before .before .before .before .args .c .0) (c .before .before .before .is-class-row .ensures) (c .before .before .if1 .taken) (c .word .ensures)
+returns c = name-own (c .before .before .before .before .before .before .args .sheet .now) (c .before .before .before .before .before .before .args .outside .now) (c .before .before .before .before .before .before .args .c .0) (c .before .before .before .is-class-row .ensures) (c .before .before .if1 .taken) (c .word .ensures)
 
 -- src/records.rt:102:5
 find-record-requires : tie.Need-find-record-requires
@@ -30,7 +30,7 @@ find-record-requires c κs = search needs
 
 -- src/records.rt:96:1
 returns-2 : tie.Need-returns-2
-returns-2 c = name-record (c .before .before .before .before .before .args .s .now) (c .before .before .before .before .before .args .outside .now) (c .before .before .before .before .before .args .c .0) (c .before .before .is-class-row .ensures) (c .before .if1 .left) (c .find-record .ensures)
+returns-2 c = name-record (c .before .before .before .before .before .args .sheet .now) (c .before .before .before .before .before .args .outside .now) (c .before .before .before .before .before .args .c .0) (c .before .before .is-class-row .ensures) (c .before .if1 .left) (c .find-record .ensures)
 
 pub class-name-spec : {M : Type 1} → statement M
 class-name-spec =

@@ -13,7 +13,7 @@ is-class-row-requires c κs = search needs
 
 -- src/records.rt:90:9
 returns : tie.Need-returns
-returns c = has-own (c .before .before .before .before .args .s .now) (c .before .before .before .before .args .outside .now) (c .before .before .before .before .args .c .0) (c .before .is-class-row .ensures) (c .if1 .taken)
+returns c = has-own (c .before .before .before .before .args .sheet .now) (c .before .before .before .before .args .outside .now) (c .before .before .before .before .args .c .0) (c .before .is-class-row .ensures) (c .if1 .taken)
 
 -- src/records.rt:92:5
 find-record-requires : tie.Need-find-record-requires
@@ -21,7 +21,7 @@ find-record-requires c κs = search needs
 
 -- src/records.rt:86:1
 returns-2 : tie.Need-returns-2
-returns-2 c = has-record (c .before .before .before .before .before .args .s .now) (c .before .before .before .before .before .args .outside .now) (c .before .before .before .before .before .args .c .0) (c .before .before .is-class-row .ensures) (c .before .if1 .left) (c .find-record .ensures)
+returns-2 c = has-record (c .before .before .before .before .before .args .sheet .now) (c .before .before .before .before .before .args .outside .now) (c .before .before .before .before .before .args .c .0) (c .before .before .is-class-row .ensures) (c .before .if1 .left) (c .find-record .ensures)
 
 pub has-record-spec : {M : Type 1} → statement M
 has-record-spec = tie.close (tie.spec is-class-row-requires returns find-record-requires returns-2)

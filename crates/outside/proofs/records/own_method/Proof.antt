@@ -17,7 +17,7 @@ is-class-row-requires c κs = search needs
 
 -- src/records.rt:148:54
 sub-first-named : tie.Need-sub-first-named
-sub-first-named c = own-number (c .before .before .before .before .before .args .s .now) (c .before .before .before .before .before .args .outside .now) (c .before .before .before .before .before .args .c .0) (c .before .before .is-class-row .ensures) (c .before .if1 .taken)
+sub-first-named c = own-number (c .before .before .before .before .before .args .sheet .now) (c .before .before .before .before .before .args .outside .now) (c .before .before .before .before .before .args .c .0) (c .before .before .is-class-row .ensures) (c .before .if1 .taken)
 
 -- src/records.rt:148:39
 first-named-requires : tie.Need-first-named-requires
@@ -29,7 +29,7 @@ listed-method-requires c κs = search needs
 
 -- src/records.rt:148:9
 returns : tie.Need-returns
-returns c = own-listed (c .before .before .before .before .before .before .before .args .s .now) (c .before .before .before .before .before .before .before .args .outside .now) (c .before .before .before .before .before .before .before .args .c .0) (c .before .before .before .before .is-class-row .ensures) (c .before .before .before .if1 .taken) (c .before .first-named .ensures) (c .listed-method .ensures .0) (c .listed-method .ensures .1)
+returns c = own-listed (c .before .before .before .before .before .before .before .args .sheet .now) (c .before .before .before .before .before .before .before .args .outside .now) (c .before .before .before .before .before .before .before .args .c .0) (c .before .before .before .before .is-class-row .ensures) (c .before .before .before .if1 .taken) (c .before .first-named .ensures) (c .listed-method .ensures .0) (c .listed-method .ensures .1)
 
 -- src/records.rt:150:9
 find-record-requires : tie.Need-find-record-requires
@@ -41,7 +41,7 @@ recorded-method-requires c κs = search needs
 
 -- src/records.rt:144:1
 returns-2 : tie.Need-returns-2
-returns-2 c = own-recorded (c .before .before .before .before .before .before .args .s .now) (c .before .before .before .before .before .before .args .outside .now) (c .before .before .before .before .before .before .args .c .0) (c .before .before .before .is-class-row .ensures) (c .before .before .if1 .left) (c .before .find-record .ensures) (c .recorded-method .ensures)
+returns-2 c = own-recorded (c .before .before .before .before .before .before .args .sheet .now) (c .before .before .before .before .before .before .args .outside .now) (c .before .before .before .before .before .before .args .c .0) (c .before .before .before .is-class-row .ensures) (c .before .before .if1 .left) (c .before .find-record .ensures) (c .recorded-method .ensures)
 
 pub own-method-spec : {M : Type 1} → statement M
 own-method-spec =

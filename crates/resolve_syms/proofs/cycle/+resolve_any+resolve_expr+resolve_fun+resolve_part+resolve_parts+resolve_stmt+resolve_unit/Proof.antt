@@ -213,7 +213,7 @@ resolve-any-returns-2 : (t : ℕ) → resolve-any-lts.Need-returns-2 (resolve-an
 resolve-any-returns-2 t c = c .before .before .before .before .before .before .resolve-fun .ensures
 
 resolve-any-resolve-stmt-requires : (t : ℕ) → resolve-any-lts.Need-resolve-stmt-requires (resolve-any-claims t) (resolve-any-at t) resolve-any.Post
-resolve-any-resolve-stmt-requires t c κs = (search needs, (c .before .before .before .before .before .before .before .before .before .before .before .before .before .pre .1 .0, omega (arith, c .before .before .before .before .before .before .word .ensures, part-high (c .before .before .before .before .before .before .before .before .before .before .before .before .before .args .s .now) (c .before .before .before .before .before .before .before .before .before .before .before .before .before .args .row) (λ e. c .before .before .before .before .before .if1 .left (c .before .before .before .before .before .before .word .ensures ∙ e)) (λ e. c .before .before .before .before .if2 .left (c .before .before .before .before .before .before .word .ensures ∙ e)) (c .before .before .before .before .before .before .before .before .before .before .before .before .before .pre .1 .1)), omega (arith, c .before .before .before .before .before .before .word .ensures, c .before .before .before .if3 .taken)))
+resolve-any-resolve-stmt-requires t c κs = (search needs, (c .before .before .before .before .before .before .before .before .before .before .before .before .before .pre .1 .0, omega (arith, c .before .before .before .before .before .before .word .ensures, part-high (c .before .before .before .before .before .before .before .before .before .before .before .before .before .args .sheet .now) (c .before .before .before .before .before .before .before .before .before .before .before .before .before .args .row) (λ e. c .before .before .before .before .before .if1 .left (c .before .before .before .before .before .before .word .ensures ∙ e)) (λ e. c .before .before .before .before .if2 .left (c .before .before .before .before .before .before .word .ensures ∙ e)) (c .before .before .before .before .before .before .before .before .before .before .before .before .before .pre .1 .1)), omega (arith, c .before .before .before .before .before .before .word .ensures, c .before .before .before .if3 .taken)))
 
 resolve-any-same-length-7 : (t : ℕ) → resolve-any-lts.Need-same-length-7 (resolve-any-claims t) (resolve-any-at t) resolve-any.Post
 resolve-any-same-length-7 t c = search needs
@@ -264,7 +264,7 @@ resolve-expr-same-length-3 : (t : ℕ) → resolve-expr-lts.Need-same-length-3 (
 resolve-expr-same-length-3 t c = search needs
 
 resolve-expr-returns-2 : (t : ℕ) → resolve-expr-lts.Need-returns-2 (resolve-expr-claims t) (resolve-expr-at t) resolve-expr.Post
-resolve-expr-returns-2 t c = walk-by _ _ (c .before .before .before .before .before .before .before .before .before .before .before .before .before .before .before .before .before .before .before .before .before .before .before .before .before .args .s .now) (c .before .before .before .before .before .before .before .before .before .before .before .before .before .before .before .before .before .before .before .before .before .before .before .before .before .args .row) (stateOf (c .before .before .before .before .before .before .before .before .before .before .before .before .before .before .before .before .before .before .before .before .before .before .before .before .before .args .w) (c .before .before .before .before .before .before .before .before .before .before .before .before .before .before .before .before .before .before .before .before .before .before .before .before .before .args .v .now) (c .before .before .before .before .before .before .before .before .before .before .before .before .before .before .before .before .before .before .before .before .before .before .before .before .before .args .t .now) (c .before .before .before .before .before .before .before .before .before .before .before .before .before .before .before .before .before .before .before .before .before .before .before .before .before .args .q .now)) (c .before .before .before .before .before .before .before .before .before .before .before .before .before .before .before .before .before .before .if1 .left) (runs-none _ _ _ _ (before-expr (c .before .before .before .before .before .before .before .before .before .before .before .before .before .before .before .before .before .before .before .before .before .before .before .before .before .args .s .now) (c .before .before .before .before .before .before .before .before .before .before .before .before .before .before .before .before .before .before .before .before .before .before .before .before .before .args .row) (c .before .before .before .before .before .before .before .before .before .before .before .before .before .before .before .before .before .before .before .before .before .before .before .before .before .pre .1 .1))) (c .before .before .before .before .before .before .before .before .before .before .before .before .before .before .resolve-parts .ensures) (c .before .before .before .before .after-expr .ensures _)
+resolve-expr-returns-2 t c = walk-by _ _ (c .before .before .before .before .before .before .before .before .before .before .before .before .before .before .before .before .before .before .before .before .before .before .before .before .before .args .sheet .now) (c .before .before .before .before .before .before .before .before .before .before .before .before .before .before .before .before .before .before .before .before .before .before .before .before .before .args .row) (stateOf (c .before .before .before .before .before .before .before .before .before .before .before .before .before .before .before .before .before .before .before .before .before .before .before .before .before .args .walk) (c .before .before .before .before .before .before .before .before .before .before .before .before .before .before .before .before .before .before .before .before .before .before .before .before .before .args .entries .now) (c .before .before .before .before .before .before .before .before .before .before .before .before .before .before .before .before .before .before .before .before .before .before .before .before .before .args .results .now) (c .before .before .before .before .before .before .before .before .before .before .before .before .before .before .before .before .before .before .before .before .before .before .before .before .before .args .nodes .now)) (c .before .before .before .before .before .before .before .before .before .before .before .before .before .before .before .before .before .before .if1 .left) (runs-none _ _ _ _ (before-expr (c .before .before .before .before .before .before .before .before .before .before .before .before .before .before .before .before .before .before .before .before .before .before .before .before .before .args .sheet .now) (c .before .before .before .before .before .before .before .before .before .before .before .before .before .before .before .before .before .before .before .before .before .before .before .before .before .args .row) (c .before .before .before .before .before .before .before .before .before .before .before .before .before .before .before .before .before .before .before .before .before .before .before .before .before .pre .1 .1))) (c .before .before .before .before .before .before .before .before .before .before .before .before .before .before .resolve-parts .ensures) (c .before .before .before .before .after-expr .ensures _)
 
 resolve-fun-returns : (t : ℕ) → resolve-fun-lts.Need-returns (resolve-fun-claims t) (resolve-fun-at t) resolve-fun.Post
 resolve-fun-returns t c = walk-none _ _ _ _ _ (c .if1 .taken)
@@ -291,13 +291,13 @@ resolve-fun-same-length-3 : (t : ℕ) → resolve-fun-lts.Need-same-length-3 (re
 resolve-fun-same-length-3 t c = search needs
 
 resolve-fun-returns-2 : (t : ℕ) → resolve-fun-lts.Need-returns-2 (resolve-fun-claims t) (resolve-fun-at t) resolve-fun.Post
-resolve-fun-returns-2 t c = walk-by _ _ (c .before .before .before .before .before .before .before .before .before .before .before .before .before .before .before .before .before .before .before .before .before .before .before .before .before .before .args .s .now) (c .before .before .before .before .before .before .before .before .before .before .before .before .before .before .before .before .before .before .before .before .before .before .before .before .before .before .args .row) (stateOf (c .before .before .before .before .before .before .before .before .before .before .before .before .before .before .before .before .before .before .before .before .before .before .before .before .before .before .args .w) (c .before .before .before .before .before .before .before .before .before .before .before .before .before .before .before .before .before .before .before .before .before .before .before .before .before .before .args .v .now) (c .before .before .before .before .before .before .before .before .before .before .before .before .before .before .before .before .before .before .before .before .before .before .before .before .before .before .args .t .now) (c .before .before .before .before .before .before .before .before .before .before .before .before .before .before .before .before .before .before .before .before .before .before .before .before .before .before .args .q .now)) (c .before .before .before .before .before .before .before .before .before .before .before .before .before .before .before .before .before .before .before .if1 .left) (c .before .before .before .before .before .before .before .before .before .before .before .before .before .before .before .before .before-fun .ensures _ _) (c .before .before .before .before .before .before .before .before .resolve-parts .ensures) (runs-one _ _ _ leave _ (after-fun (c .before .before .before .before .before .before .before .before .before .before .before .before .before .before .before .before .before .before .before .before .before .before .before .before .before .before .args .s .now) (c .before .before .before .before .before .before .before .before .before .before .before .before .before .before .before .before .before .before .before .before .before .before .before .before .before .before .args .row) (c .before .before .before .before .before .before .before .before .before .before .before .before .before .before .before .before .before .before .before .before .before .before .before .before .before .before .pre .1 .1)) (c .close-scope .ensures _ _ _ _))
+resolve-fun-returns-2 t c = walk-by _ _ (c .before .before .before .before .before .before .before .before .before .before .before .before .before .before .before .before .before .before .before .before .before .before .before .before .before .before .args .sheet .now) (c .before .before .before .before .before .before .before .before .before .before .before .before .before .before .before .before .before .before .before .before .before .before .before .before .before .before .args .row) (stateOf (c .before .before .before .before .before .before .before .before .before .before .before .before .before .before .before .before .before .before .before .before .before .before .before .before .before .before .args .walk) (c .before .before .before .before .before .before .before .before .before .before .before .before .before .before .before .before .before .before .before .before .before .before .before .before .before .before .args .entries .now) (c .before .before .before .before .before .before .before .before .before .before .before .before .before .before .before .before .before .before .before .before .before .before .before .before .before .before .args .results .now) (c .before .before .before .before .before .before .before .before .before .before .before .before .before .before .before .before .before .before .before .before .before .before .before .before .before .before .args .nodes .now)) (c .before .before .before .before .before .before .before .before .before .before .before .before .before .before .before .before .before .before .before .if1 .left) (c .before .before .before .before .before .before .before .before .before .before .before .before .before .before .before .before .before-fun .ensures _ _) (c .before .before .before .before .before .before .before .before .resolve-parts .ensures) (runs-one _ _ _ leave _ (after-fun (c .before .before .before .before .before .before .before .before .before .before .before .before .before .before .before .before .before .before .before .before .before .before .before .before .before .before .args .sheet .now) (c .before .before .before .before .before .before .before .before .before .before .before .before .before .before .before .before .before .before .before .before .before .before .before .before .before .before .args .row) (c .before .before .before .before .before .before .before .before .before .before .before .before .before .before .before .before .before .before .before .before .before .before .before .before .before .before .pre .1 .1)) (c .close-scope .ensures _ _ _ _))
 
 resolve-part-is-part-requires : (t : ℕ) → resolve-part-lts.Need-is-part-requires (resolve-part-claims t) (resolve-part-at t) resolve-part.Post
 resolve-part-is-part-requires t c κs = tt
 
 resolve-part-returns : (t : ℕ) → resolve-part-lts.Need-returns (resolve-part-claims t) (resolve-part-at t) resolve-part.Post
-resolve-part-returns t c = part-skipped _ _ (c .before .before .before .before .before .before .before .before .args .s .now) (c .before .before .before .before .before .before .before .before .args .row) (c .before .before .before .before .before .before .before .before .args .i) (c .before .before .before .before .before .before .before .before .args .k) (stateOf (c .before .before .before .before .before .before .before .before .args .w) (c .before .before .before .before .before .before .before .before .args .v .now) (c .before .before .before .before .before .before .before .before .args .t .now) (c .before .before .before .before .before .before .before .before .args .q .now)) (sym (c .before .is-part .ensures) ∙ not-true (c .before .is-part .result) (c .if1 .taken))
+resolve-part-returns t c = part-skipped _ _ (c .before .before .before .before .before .before .before .before .args .sheet .now) (c .before .before .before .before .before .before .before .before .args .row) (c .before .before .before .before .before .before .before .before .args .i) (c .before .before .before .before .before .before .before .before .args .k) (stateOf (c .before .before .before .before .before .before .before .before .args .walk) (c .before .before .before .before .before .before .before .before .args .entries .now) (c .before .before .before .before .before .before .before .before .args .results .now) (c .before .before .before .before .before .before .before .before .args .nodes .now)) (sym (c .before .is-part .ensures) ∙ not-true (c .before .is-part .result) (c .if1 .taken))
 
 resolve-part-resolve-any-requires : (t : ℕ) → resolve-part-lts.Need-resolve-any-requires (resolve-part-claims t) (resolve-part-at t) resolve-part.Post
 resolve-part-resolve-any-requires t c κs = (search needs, (c .before .before .before .before .before .before .before .before .before .before .before .pre .1, sym (c .before .before .before .before .is-part .ensures) ∙ not-false (c .before .before .before .before .is-part .result) (c .before .before .before .if1 .left)))
@@ -315,7 +315,7 @@ resolve-part-same-length-3 : (t : ℕ) → resolve-part-lts.Need-same-length-3 (
 resolve-part-same-length-3 t c = search needs
 
 resolve-part-returns-2 : (t : ℕ) → resolve-part-lts.Need-returns-2 (resolve-part-claims t) (resolve-part-at t) resolve-part.Post
-resolve-part-returns-2 t c = part-by _ _ (c .before .before .before .before .before .before .before .before .before .before .before .before .before .before .before .before .before .before .before .before .before .before .before .before .before .before .before .before .args .s .now) (c .before .before .before .before .before .before .before .before .before .before .before .before .before .before .before .before .before .before .before .before .before .before .before .before .before .before .before .before .args .row) (c .before .before .before .before .before .before .before .before .before .before .before .before .before .before .before .before .before .before .before .before .before .before .before .before .before .before .before .before .args .i) (c .before .before .before .before .before .before .before .before .before .before .before .before .before .before .before .before .before .before .before .before .before .before .before .before .before .before .before .before .args .k) (stateOf (c .before .before .before .before .before .before .before .before .before .before .before .before .before .before .before .before .before .before .before .before .before .before .before .before .before .before .before .before .args .w) (c .before .before .before .before .before .before .before .before .before .before .before .before .before .before .before .before .before .before .before .before .before .before .before .before .before .before .before .before .args .v .now) (c .before .before .before .before .before .before .before .before .before .before .before .before .before .before .before .before .before .before .before .before .before .before .before .before .before .before .before .before .args .t .now) (c .before .before .before .before .before .before .before .before .before .before .before .before .before .before .before .before .before .before .before .before .before .before .before .before .before .before .before .before .args .q .now)) (sym (c .before .before .before .before .before .before .before .before .before .before .before .before .before .before .before .before .before .before .before .before .before .is-part .ensures) ∙ not-false (c .before .before .before .before .before .before .before .before .before .before .before .before .before .before .before .before .before .before .before .before .before .is-part .result) (c .before .before .before .before .before .before .before .before .before .before .before .before .before .before .before .before .before .before .before .before .if1 .left)) (c .before .before .before .before .before .before .before .before .before .before .before .before .before .before .before .before .resolve-any .ensures) (c .before .before .before .before .before .before .after-part .ensures)
+resolve-part-returns-2 t c = part-by _ _ (c .before .before .before .before .before .before .before .before .before .before .before .before .before .before .before .before .before .before .before .before .before .before .before .before .before .before .before .before .args .sheet .now) (c .before .before .before .before .before .before .before .before .before .before .before .before .before .before .before .before .before .before .before .before .before .before .before .before .before .before .before .before .args .row) (c .before .before .before .before .before .before .before .before .before .before .before .before .before .before .before .before .before .before .before .before .before .before .before .before .before .before .before .before .args .i) (c .before .before .before .before .before .before .before .before .before .before .before .before .before .before .before .before .before .before .before .before .before .before .before .before .before .before .before .before .args .k) (stateOf (c .before .before .before .before .before .before .before .before .before .before .before .before .before .before .before .before .before .before .before .before .before .before .before .before .before .before .before .before .args .walk) (c .before .before .before .before .before .before .before .before .before .before .before .before .before .before .before .before .before .before .before .before .before .before .before .before .before .before .before .before .args .entries .now) (c .before .before .before .before .before .before .before .before .before .before .before .before .before .before .before .before .before .before .before .before .before .before .before .before .before .before .before .before .args .results .now) (c .before .before .before .before .before .before .before .before .before .before .before .before .before .before .before .before .before .before .before .before .before .before .before .before .before .before .before .before .args .nodes .now)) (sym (c .before .before .before .before .before .before .before .before .before .before .before .before .before .before .before .before .before .before .before .before .before .is-part .ensures) ∙ not-false (c .before .before .before .before .before .before .before .before .before .before .before .before .before .before .before .before .before .before .before .before .before .is-part .result) (c .before .before .before .before .before .before .before .before .before .before .before .before .before .before .before .before .before .before .before .before .if1 .left)) (c .before .before .before .before .before .before .before .before .before .before .before .before .before .before .before .before .resolve-any .ensures) (c .before .before .before .before .before .before .after-part .ensures)
 
 abbrev resolve-parts-Inv-loop : resolve-parts-lts.InvT-loop
 resolve-parts-Inv-loop s outside classes row left v₀ t₀ q₀ n₀ k₀ i₀ a₀ v t q n k i a = (listed (over outside) left s row i n k (stateOf a v t q) ≡ listed (over outside) left s row i₀ n₀ k₀ (stateOf a₀ v₀ t₀ q₀)) × (i + n ≤ length s / 8) × (length v ≡ length v₀) × (length t ≡ length t₀) × (length q ≡ length q₀)
@@ -339,7 +339,7 @@ resolve-parts-same-length-3 : (t : ℕ) → resolve-parts-lts.Need-same-length-3
 resolve-parts-same-length-3 t c = c .before .before .loop .inv .4
 
 resolve-parts-returns : (t : ℕ) → resolve-parts-lts.Need-returns (resolve-parts-claims t) (resolve-parts-at t) resolve-parts.Post resolve-parts-Inv-loop resolve-parts-μ-loop
-resolve-parts-returns t c = list-end _ _ (c .before .before .before .before .before .before .before .before .before .before .args .s .now) (c .before .before .before .before .before .before .before .before .before .before .args .row) _ _ _ _ (c .if1 .taken) ∙ c .before .before .loop .inv .0 ∙ list-starts _ _ (c .before .before .before .before .before .before .before .before .before .before .args .s .now) (c .before .before .before .before .before .before .before .before .before .before .args .row) _ _ (c .before .before .before .part-list .ensures)
+resolve-parts-returns t c = list-end _ _ (c .before .before .before .before .before .before .before .before .before .before .args .sheet .now) (c .before .before .before .before .before .before .before .before .before .before .args .row) _ _ _ _ (c .if1 .taken) ∙ c .before .before .loop .inv .0 ∙ list-starts _ _ (c .before .before .before .before .before .before .before .before .before .before .args .sheet .now) (c .before .before .before .before .before .before .before .before .before .before .args .row) _ _ (c .before .before .before .part-list .ensures)
 
 resolve-parts-same-length-4 : (t : ℕ) → resolve-parts-lts.Need-same-length-4 (resolve-parts-claims t) (resolve-parts-at t) resolve-parts.Post resolve-parts-Inv-loop resolve-parts-μ-loop
 resolve-parts-same-length-4 t c = c .before .before .before .before .loop .inv .2
@@ -351,7 +351,7 @@ resolve-parts-same-length-6 : (t : ℕ) → resolve-parts-lts.Need-same-length-6
 resolve-parts-same-length-6 t c = c .before .before .before .before .loop .inv .4
 
 resolve-parts-returns-2 : (t : ℕ) → resolve-parts-lts.Need-returns-2 (resolve-parts-claims t) (resolve-parts-at t) resolve-parts.Post resolve-parts-Inv-loop resolve-parts-μ-loop
-resolve-parts-returns-2 t c = list-refused _ _ (c .before .before .before .before .before .before .before .before .before .before .before .before .args .s .now) (c .before .before .before .before .before .before .before .before .before .before .before .before .args .row) (c .before .before .before .before .loop .i) (c .before .before .before .before .loop .n) (c .before .before .before .before .loop .k) (stateOf (c .before .before .before .before .loop .a) (c .before .before .before .before .loop .v) (c .before .before .before .before .loop .t) (c .before .before .before .before .loop .q)) (c .if2 .taken) ∙ c .before .before .before .before .loop .inv .0 ∙ list-starts _ _ (c .before .before .before .before .before .before .before .before .before .before .before .before .args .s .now) (c .before .before .before .before .before .before .before .before .before .before .before .before .args .row) _ _ (c .before .before .before .before .before .part-list .ensures)
+resolve-parts-returns-2 t c = list-refused _ _ (c .before .before .before .before .before .before .before .before .before .before .before .before .args .sheet .now) (c .before .before .before .before .before .before .before .before .before .before .before .before .args .row) (c .before .before .before .before .loop .i) (c .before .before .before .before .loop .n) (c .before .before .before .before .loop .k) (stateOf (c .before .before .before .before .loop .a) (c .before .before .before .before .loop .entries) (c .before .before .before .before .loop .results) (c .before .before .before .before .loop .nodes)) (c .if2 .taken) ∙ c .before .before .before .before .loop .inv .0 ∙ list-starts _ _ (c .before .before .before .before .before .before .before .before .before .before .before .before .args .sheet .now) (c .before .before .before .before .before .before .before .before .before .before .before .before .args .row) _ _ (c .before .before .before .before .before .part-list .ensures)
 
 resolve-parts-resolve-part-requires : (t : ℕ) → resolve-parts-lts.Need-resolve-part-requires (resolve-parts-claims t) (resolve-parts-at t) resolve-parts.Post resolve-parts-Inv-loop resolve-parts-μ-loop
 resolve-parts-resolve-part-requires t c κs = (search needs, c .before .before .before .before .before .before .before .before .before .before .before .before .before .before .before .pre .1)
@@ -370,8 +370,8 @@ resolve-parts-loop-less t c = omega (arith, c .before .before .before .before .b
 
 resolve-parts-loop-again : (t : ℕ) → resolve-parts-lts.Need-loop-again (resolve-parts-claims t) (resolve-parts-at t) resolve-parts.Post resolve-parts-Inv-loop resolve-parts-μ-loop
 resolve-parts-loop-again t c = (
-  list-more _ _ (c .before .before .before .before .before .before .before .before .before .before .before .before .before .before .before .before .before .before .before .before .before .before .before .before .args .s .now) (c .before .before .before .before .before .before .before .before .before .before .before .before .before .before .before .before .before .before .before .before .before .before .before .before .args .row) _ _ _ _ _ (stateOf (c .before .before .before .before .before .before .before .before .before .before .before .before .before .before .before .before .loop .a) (c .before .before .before .before .before .before .before .before .before .before .before .before .before .before .before .before .loop .v) (c .before .before .before .before .before .before .before .before .before .before .before .before .before .before .before .before .loop .t) (c .before .before .before .before .before .before .before .before .before .before .before .before .before .before .before .before .loop .q)) (c .before .before .before .before .before .before .before .before .before .before .before .before .before .before .before .loop-test .taken) (c .before .before .before .before .before .before .before .before .before .before .before .before .before .before .if1 .left) (c .before .before .before .before .before .before .before .before .resolve-part .ensures) (c .before .place-after .ensures) (c .word .ensures) ∙ c .before .before .before .before .before .before .before .before .before .before .before .before .before .before .before .before .loop .inv .0,
-  place-bound (isPart (c .before .before .before .before .before .before .before .before .before .before .before .before .before .before .before .before .before .before .before .before .before .before .before .before .args .s .now) (c .before .before .before .before .before .before .before .before .before .before .before .before .before .before .before .before .loop .k)) (c .before .before .before .before .before .before .before .before .before .before .before .before .before .before .before .before .loop .i) _ (c .before .before .before .before .before .before .before .before .before .before .before .before .before .before .before .before .loop .n) _ (c .before .place-after .ensures) (c .before .before .before .before .before .before .before .before .before .before .before .before .before .before .before .loop-test .taken) (c .before .before .before .before .before .before .before .before .before .before .before .before .before .before .before .before .loop .inv .1),
+  list-more _ _ (c .before .before .before .before .before .before .before .before .before .before .before .before .before .before .before .before .before .before .before .before .before .before .before .before .args .sheet .now) (c .before .before .before .before .before .before .before .before .before .before .before .before .before .before .before .before .before .before .before .before .before .before .before .before .args .row) _ _ _ _ _ (stateOf (c .before .before .before .before .before .before .before .before .before .before .before .before .before .before .before .before .loop .a) (c .before .before .before .before .before .before .before .before .before .before .before .before .before .before .before .before .loop .entries) (c .before .before .before .before .before .before .before .before .before .before .before .before .before .before .before .before .loop .results) (c .before .before .before .before .before .before .before .before .before .before .before .before .before .before .before .before .loop .nodes)) (c .before .before .before .before .before .before .before .before .before .before .before .before .before .before .before .loop-test .taken) (c .before .before .before .before .before .before .before .before .before .before .before .before .before .before .if1 .left) (c .before .before .before .before .before .before .before .before .resolve-part .ensures) (c .before .place-after .ensures) (c .word .ensures) ∙ c .before .before .before .before .before .before .before .before .before .before .before .before .before .before .before .before .loop .inv .0,
+  place-bound (isPart (c .before .before .before .before .before .before .before .before .before .before .before .before .before .before .before .before .before .before .before .before .before .before .before .before .args .sheet .now) (c .before .before .before .before .before .before .before .before .before .before .before .before .before .before .before .before .loop .k)) (c .before .before .before .before .before .before .before .before .before .before .before .before .before .before .before .before .loop .i) _ (c .before .before .before .before .before .before .before .before .before .before .before .before .before .before .before .before .loop .n) _ (c .before .place-after .ensures) (c .before .before .before .before .before .before .before .before .before .before .before .before .before .before .before .loop-test .taken) (c .before .before .before .before .before .before .before .before .before .before .before .before .before .before .before .before .loop .inv .1),
   search needs,
   search needs,
   search needs,
@@ -387,7 +387,7 @@ resolve-parts-same-length-9 : (t : ℕ) → resolve-parts-lts.Need-same-length-9
 resolve-parts-same-length-9 t c = c .before .loop .inv .4
 
 resolve-parts-returns-3 : (t : ℕ) → resolve-parts-lts.Need-returns-3 (resolve-parts-claims t) (resolve-parts-at t) resolve-parts.Post resolve-parts-Inv-loop resolve-parts-μ-loop
-resolve-parts-returns-3 t c = list-none _ _ (c .before .before .before .before .before .before .before .before .before .args .s .now) (c .before .before .before .before .before .before .before .before .before .args .row) _ _ _ _ (c .loop-test .left) ∙ c .before .loop .inv .0 ∙ list-starts _ _ (c .before .before .before .before .before .before .before .before .before .args .s .now) (c .before .before .before .before .before .before .before .before .before .args .row) _ _ (c .before .before .part-list .ensures)
+resolve-parts-returns-3 t c = list-none _ _ (c .before .before .before .before .before .before .before .before .before .args .sheet .now) (c .before .before .before .before .before .before .before .before .before .args .row) _ _ _ _ (c .loop-test .left) ∙ c .before .loop .inv .0 ∙ list-starts _ _ (c .before .before .before .before .before .before .before .before .before .args .sheet .now) (c .before .before .before .before .before .before .before .before .before .args .row) _ _ (c .before .before .part-list .ensures)
 
 resolve-stmt-returns : (t : ℕ) → resolve-stmt-lts.Need-returns (resolve-stmt-claims t) (resolve-stmt-at t) resolve-stmt.Post
 resolve-stmt-returns t c = walk-none _ _ _ _ _ (c .if1 .taken)
@@ -414,7 +414,7 @@ resolve-stmt-same-length-3 : (t : ℕ) → resolve-stmt-lts.Need-same-length-3 (
 resolve-stmt-same-length-3 t c = search needs
 
 resolve-stmt-returns-2 : (t : ℕ) → resolve-stmt-lts.Need-returns-2 (resolve-stmt-claims t) (resolve-stmt-at t) resolve-stmt.Post
-resolve-stmt-returns-2 t c = walk-by _ _ (c .before .before .before .before .before .before .before .before .before .before .before .before .before .before .before .before .before .before .before .before .before .before .before .before .before .before .before .before .before .before .before .before .before .before .args .s .now) (c .before .before .before .before .before .before .before .before .before .before .before .before .before .before .before .before .before .before .before .before .before .before .before .before .before .before .before .before .before .before .before .before .before .before .args .row) (stateOf (c .before .before .before .before .before .before .before .before .before .before .before .before .before .before .before .before .before .before .before .before .before .before .before .before .before .before .before .before .before .before .before .before .before .before .args .w) (c .before .before .before .before .before .before .before .before .before .before .before .before .before .before .before .before .before .before .before .before .before .before .before .before .before .before .before .before .before .before .before .before .before .before .args .v .now) (c .before .before .before .before .before .before .before .before .before .before .before .before .before .before .before .before .before .before .before .before .before .before .before .before .before .before .before .before .before .before .before .before .before .before .args .t .now) (c .before .before .before .before .before .before .before .before .before .before .before .before .before .before .before .before .before .before .before .before .before .before .before .before .before .before .before .before .before .before .before .before .before .before .args .q .now)) (c .before .before .before .before .before .before .before .before .before .before .before .before .before .before .before .before .before .before .before .before .before .before .before .before .before .before .before .if1 .left) (c .before .before .before .before .before .before .before .before .before .before .before .before .before .before .before .before .before .before .before .before .before .before .before .before .before-stmt .ensures _ _) (c .before .before .before .before .before .before .before .before .before .before .before .before .before .before .before .before .resolve-parts .ensures) (c .before .before .before .before .before .before .after-stmt .ensures _)
+resolve-stmt-returns-2 t c = walk-by _ _ (c .before .before .before .before .before .before .before .before .before .before .before .before .before .before .before .before .before .before .before .before .before .before .before .before .before .before .before .before .before .before .before .before .before .before .args .sheet .now) (c .before .before .before .before .before .before .before .before .before .before .before .before .before .before .before .before .before .before .before .before .before .before .before .before .before .before .before .before .before .before .before .before .before .before .args .row) (stateOf (c .before .before .before .before .before .before .before .before .before .before .before .before .before .before .before .before .before .before .before .before .before .before .before .before .before .before .before .before .before .before .before .before .before .before .args .walk) (c .before .before .before .before .before .before .before .before .before .before .before .before .before .before .before .before .before .before .before .before .before .before .before .before .before .before .before .before .before .before .before .before .before .before .args .entries .now) (c .before .before .before .before .before .before .before .before .before .before .before .before .before .before .before .before .before .before .before .before .before .before .before .before .before .before .before .before .before .before .before .before .before .before .args .results .now) (c .before .before .before .before .before .before .before .before .before .before .before .before .before .before .before .before .before .before .before .before .before .before .before .before .before .before .before .before .before .before .before .before .before .before .args .nodes .now)) (c .before .before .before .before .before .before .before .before .before .before .before .before .before .before .before .before .before .before .before .before .before .before .before .before .before .before .before .if1 .left) (c .before .before .before .before .before .before .before .before .before .before .before .before .before .before .before .before .before .before .before .before .before .before .before .before .before-stmt .ensures _ _) (c .before .before .before .before .before .before .before .before .before .before .before .before .before .before .before .before .resolve-parts .ensures) (c .before .before .before .before .before .before .after-stmt .ensures _)
 
 resolve-unit-returns : (t : ℕ) → resolve-unit-lts.Need-returns (resolve-unit-claims t) (resolve-unit-at t) resolve-unit.Post
 resolve-unit-returns t c = walk-none _ _ _ _ _ (c .if1 .taken)
@@ -441,7 +441,7 @@ resolve-unit-same-length-3 : (t : ℕ) → resolve-unit-lts.Need-same-length-3 (
 resolve-unit-same-length-3 t c = search needs
 
 resolve-unit-returns-2 : (t : ℕ) → resolve-unit-lts.Need-returns-2 (resolve-unit-claims t) (resolve-unit-at t) resolve-unit.Post
-resolve-unit-returns-2 t c = walk-by _ _ (c .before .before .before .before .before .before .before .before .before .before .before .before .before .before .before .before .before .before .before .before .before .before .before .before .before .before .args .s .now) (c .before .before .before .before .before .before .before .before .before .before .before .before .before .before .before .before .before .before .before .before .before .before .before .before .before .before .args .row) (stateOf (c .before .before .before .before .before .before .before .before .before .before .before .before .before .before .before .before .before .before .before .before .before .before .before .before .before .before .args .w) (c .before .before .before .before .before .before .before .before .before .before .before .before .before .before .before .before .before .before .before .before .before .before .before .before .before .before .args .v .now) (c .before .before .before .before .before .before .before .before .before .before .before .before .before .before .before .before .before .before .before .before .before .before .before .before .before .before .args .t .now) (c .before .before .before .before .before .before .before .before .before .before .before .before .before .before .before .before .before .before .before .before .before .before .before .before .before .before .args .q .now)) (c .before .before .before .before .before .before .before .before .before .before .before .before .before .before .before .before .before .before .before .if1 .left) (c .before .before .before .before .before .before .before .before .before .before .before .before .before .before .before .before .before-unit .ensures _ _) (c .before .before .before .before .before .before .before .before .resolve-parts .ensures) (runs-one _ _ _ leave _ (after-unit (c .before .before .before .before .before .before .before .before .before .before .before .before .before .before .before .before .before .before .before .before .before .before .before .before .before .before .args .s .now) (c .before .before .before .before .before .before .before .before .before .before .before .before .before .before .before .before .before .before .before .before .before .before .before .before .before .before .args .row) (c .before .before .before .before .before .before .before .before .before .before .before .before .before .before .before .before .before .before .before .before .before .before .before .before .before .before .pre .1 .1)) (c .close-scope .ensures _ _ _ _))
+resolve-unit-returns-2 t c = walk-by _ _ (c .before .before .before .before .before .before .before .before .before .before .before .before .before .before .before .before .before .before .before .before .before .before .before .before .before .before .args .sheet .now) (c .before .before .before .before .before .before .before .before .before .before .before .before .before .before .before .before .before .before .before .before .before .before .before .before .before .before .args .row) (stateOf (c .before .before .before .before .before .before .before .before .before .before .before .before .before .before .before .before .before .before .before .before .before .before .before .before .before .before .args .walk) (c .before .before .before .before .before .before .before .before .before .before .before .before .before .before .before .before .before .before .before .before .before .before .before .before .before .before .args .entries .now) (c .before .before .before .before .before .before .before .before .before .before .before .before .before .before .before .before .before .before .before .before .before .before .before .before .before .before .args .results .now) (c .before .before .before .before .before .before .before .before .before .before .before .before .before .before .before .before .before .before .before .before .before .before .before .before .before .before .args .nodes .now)) (c .before .before .before .before .before .before .before .before .before .before .before .before .before .before .before .before .before .before .before .if1 .left) (c .before .before .before .before .before .before .before .before .before .before .before .before .before .before .before .before .before-unit .ensures _ _) (c .before .before .before .before .before .before .before .before .resolve-parts .ensures) (runs-one _ _ _ leave _ (after-unit (c .before .before .before .before .before .before .before .before .before .before .before .before .before .before .before .before .before .before .before .before .before .before .before .before .before .before .args .sheet .now) (c .before .before .before .before .before .before .before .before .before .before .before .before .before .before .before .before .before .before .before .before .before .before .before .before .before .before .args .row) (c .before .before .before .before .before .before .before .before .before .before .before .before .before .before .before .before .before .before .before .before .before .before .before .before .before .before .pre .1 .1)) (c .close-scope .ensures _ _ _ _))
 
 pub +resolve-any+resolve-expr+resolve-fun+resolve-part+resolve-parts+resolve-stmt+resolve-unit-spec :
     {M : Type 1} → statement M

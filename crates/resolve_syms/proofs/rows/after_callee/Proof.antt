@@ -16,10 +16,10 @@ same-length-2 : tie.Need-same-length-2
 same-length-2 c = search needs
 
 returns : tie.Need-returns
-returns c = runs-one (over (c .before .before .before .before .before .before .before .before .before .before .before .before .before .args .outside .now)) (c .before .before .before .before .before .before .before .before .before .before .before .before .before .args .s .now) (afterPart (c .before .before .before .before .before .before .before .before .before .before .before .before .before .args .s .now) (c .before .before .before .before .before .before .before .before .before .before .before .before .before .args .r) (c .before .before .before .before .before .before .before .before .before .before .before .before .before .args .i)) (visit (c .before .before .before .before .before .before .before .before .before .before .before .before .before .args .r)) (stateOf (c .before .before .before .before .before .before .before .before .before .before .before .before .before .args .w) (c .before .before .before .before .before .before .before .before .before .before .before .before .before .args .v .now) (c .before .before .before .before .before .before .before .before .before .before .before .before .before .args .t .now) (c .before .before .before .before .before .before .before .before .before .before .before .before .before .args .q .now)) (part-callee (c .before .before .before .before .before .before .before .before .before .before .before .before .before .args .s .now) (c .before .before .before .before .before .before .before .before .before .before .before .before .before .args .r) (c .before .before .before .before .before .before .before .before .before .before .before .before .before .args .i) (c .before .before .before .before .before .before .before .before .before .before .before .before .before .pre) (c .before .before .before .before .before .before .before .if1 .taken)) (c .before .before .before .before .check-callee .ensures)
+returns c = runs-one (over (c .before .before .before .before .before .before .before .before .before .before .before .before .before .args .outside .now)) (c .before .before .before .before .before .before .before .before .before .before .before .before .before .args .sheet .now) (afterPart (c .before .before .before .before .before .before .before .before .before .before .before .before .before .args .sheet .now) (c .before .before .before .before .before .before .before .before .before .before .before .before .before .args .row) (c .before .before .before .before .before .before .before .before .before .before .before .before .before .args .i)) (visit (c .before .before .before .before .before .before .before .before .before .before .before .before .before .args .row)) (stateOf (c .before .before .before .before .before .before .before .before .before .before .before .before .before .args .walk) (c .before .before .before .before .before .before .before .before .before .before .before .before .before .args .entries .now) (c .before .before .before .before .before .before .before .before .before .before .before .before .before .args .results .now) (c .before .before .before .before .before .before .before .before .before .before .before .before .before .args .nodes .now)) (part-callee (c .before .before .before .before .before .before .before .before .before .before .before .before .before .args .sheet .now) (c .before .before .before .before .before .before .before .before .before .before .before .before .before .args .row) (c .before .before .before .before .before .before .before .before .before .before .before .before .before .args .i) (c .before .before .before .before .before .before .before .before .before .before .before .before .before .pre) (c .before .before .before .before .before .before .before .if1 .taken)) (c .before .before .before .before .check-callee .ensures)
 
 returns-2 : tie.Need-returns-2
-returns-2 c = runs-none (over (c .before .before .before .before .before .before .args .outside .now)) (c .before .before .before .before .before .before .args .s .now) (afterPart (c .before .before .before .before .before .before .args .s .now) (c .before .before .before .before .before .before .args .r) (c .before .before .before .before .before .before .args .i)) (stateOf (c .before .before .before .before .before .before .args .w) (c .before .before .before .before .before .before .args .v .now) (c .before .before .before .before .before .before .args .t .now) (c .before .before .before .before .before .before .args .q .now)) (part-argument (c .before .before .before .before .before .before .args .s .now) (c .before .before .before .before .before .before .args .r) (c .before .before .before .before .before .before .args .i) (c .before .before .before .before .before .before .pre) (c .if1 .left))
+returns-2 c = runs-none (over (c .before .before .before .before .before .before .args .outside .now)) (c .before .before .before .before .before .before .args .sheet .now) (afterPart (c .before .before .before .before .before .before .args .sheet .now) (c .before .before .before .before .before .before .args .row) (c .before .before .before .before .before .before .args .i)) (stateOf (c .before .before .before .before .before .before .args .walk) (c .before .before .before .before .before .before .args .entries .now) (c .before .before .before .before .before .before .args .results .now) (c .before .before .before .before .before .before .args .nodes .now)) (part-argument (c .before .before .before .before .before .before .args .sheet .now) (c .before .before .before .before .before .before .args .row) (c .before .before .before .before .before .before .args .i) (c .before .before .before .before .before .before .pre) (c .if1 .left))
 
 pub after-callee-spec : {M : Type 1} → statement M
 after-callee-spec =

@@ -35,7 +35,7 @@ returns-2 : tie.Need-returns-2
 returns-2 c = c .before .before .after-test .ensures _ _ _
 
 returns-3 : tie.Need-returns-3
-returns-3 c = runs-none (over (c .before .before .before .before .before .before .before .args .outside .now)) (c .before .before .before .before .before .before .before .args .s .now) (afterPart (c .before .before .before .before .before .before .before .args .s .now) (c .before .before .before .before .before .before .before .args .r) (c .before .before .before .before .before .before .before .args .i)) (stateOf (c .before .before .before .before .before .before .before .args .w) (c .before .before .before .before .before .before .before .args .v .now) (c .before .before .before .before .before .before .before .args .t .now) (c .before .before .before .before .before .before .before .args .q .now)) (part-none (c .before .before .before .before .before .before .before .args .s .now) (c .before .before .before .before .before .before .before .args .r) (c .before .before .before .before .before .before .before .args .i) (λ e. c .match .rest .0 .1 (c .before .word .ensures ∙ e)) (λ e. c .match .rest .1 (c .before .word .ensures ∙ e)))
+returns-3 c = runs-none (over (c .before .before .before .before .before .before .before .args .outside .now)) (c .before .before .before .before .before .before .before .args .sheet .now) (afterPart (c .before .before .before .before .before .before .before .args .sheet .now) (c .before .before .before .before .before .before .before .args .row) (c .before .before .before .before .before .before .before .args .i)) (stateOf (c .before .before .before .before .before .before .before .args .walk) (c .before .before .before .before .before .before .before .args .entries .now) (c .before .before .before .before .before .before .before .args .results .now) (c .before .before .before .before .before .before .before .args .nodes .now)) (part-none (c .before .before .before .before .before .before .before .args .sheet .now) (c .before .before .before .before .before .before .before .args .row) (c .before .before .before .before .before .before .before .args .i) (λ e. c .match .rest .0 .1 (c .before .word .ensures ∙ e)) (λ e. c .match .rest .1 (c .before .word .ensures ∙ e)))
 
 pub after-part-spec : {M : Type 1} → statement M
 after-part-spec =

@@ -19,7 +19,7 @@ same-length-2 : tie.Need-same-length-2
 same-length-2 c = search needs
 
 returns : tie.Need-returns
-returns c = λ O q. rw (before-block (c .before .before .before .before .before .before .before .before .before .before .before .before .before .before .args .s .now) (c .before .before .before .before .before .before .before .before .before .before .before .before .before .before .args .r) (c .before .before .before .before .before .before .before .before .before .before .before .before .before .before .pre .1)) (run-first O (c .before .before .before .before .before .before .before .before .before .before .before .before .before .before .args .s .now) (enter (c .before .before .before .before .before .before .before .before .before .before .before .before .before .before .args .r)) _ (stateOf (c .before .before .before .before .before .before .before .before .before .before .before .before .before .before .args .w) (c .before .before .before .before .before .before .before .before .before .before .before .before .before .before .args .v .now) (c .before .before .before .before .before .before .before .before .before .before .before .before .before .before .args .t .now) q) (c .before .before .before .before .before .before .before .before .before .open-scope .ensures O _ q) (c .before .before .before .before .hoist-literals .ensures O q))
+returns c = λ O q. rw (before-block (c .before .before .before .before .before .before .before .before .before .before .before .before .before .before .args .sheet .now) (c .before .before .before .before .before .before .before .before .before .before .before .before .before .before .args .row) (c .before .before .before .before .before .before .before .before .before .before .before .before .before .before .pre .1)) (run-first O (c .before .before .before .before .before .before .before .before .before .before .before .before .before .before .args .sheet .now) (enter (c .before .before .before .before .before .before .before .before .before .before .before .before .before .before .args .row)) _ (stateOf (c .before .before .before .before .before .before .before .before .before .before .before .before .before .before .args .walk) (c .before .before .before .before .before .before .before .before .before .before .before .before .before .before .args .entries .now) (c .before .before .before .before .before .before .before .before .before .before .before .before .before .before .args .results .now) q) (c .before .before .before .before .before .before .before .before .before .open-scope .ensures O _ q) (c .before .before .before .before .hoist-literals .ensures O q))
 
 pub before-block-spec : {M : Type 1} → statement M
 before-block-spec =

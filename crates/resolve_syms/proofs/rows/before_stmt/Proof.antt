@@ -31,7 +31,7 @@ same-length-3 : tie.Need-same-length-3
 same-length-3 c = search needs
 
 returns-2 : tie.Need-returns-2
-returns-2 c = λ O q. runs-one O (c .before .before .before .before .before .before .before .before .before .args .s .now) (before (c .before .before .before .before .before .before .before .before .before .args .s .now) (c .before .before .before .before .before .before .before .before .before .args .r)) (enter (c .before .before .before .before .before .before .before .before .before .args .r)) (stateOf (c .before .before .before .before .before .before .before .before .before .args .w) (c .before .before .before .before .before .before .before .before .before .args .v .now) (c .before .before .before .before .before .before .before .before .before .args .t .now) q) (before-for (c .before .before .before .before .before .before .before .before .before .args .s .now) (c .before .before .before .before .before .before .before .before .before .args .r) (sym (c .before .before .before .before .before .word .ensures) ∙ c .before .before .before .before .match .keys2)) (c .before .before .open-scope .ensures O _ q)
+returns-2 c = λ O q. runs-one O (c .before .before .before .before .before .before .before .before .before .args .sheet .now) (before (c .before .before .before .before .before .before .before .before .before .args .sheet .now) (c .before .before .before .before .before .before .before .before .before .args .row)) (enter (c .before .before .before .before .before .before .before .before .before .args .row)) (stateOf (c .before .before .before .before .before .before .before .before .before .args .walk) (c .before .before .before .before .before .before .before .before .before .args .entries .now) (c .before .before .before .before .before .before .before .before .before .args .results .now) q) (before-for (c .before .before .before .before .before .before .before .before .before .args .sheet .now) (c .before .before .before .before .before .before .before .before .before .args .row) (sym (c .before .before .before .before .before .word .ensures) ∙ c .before .before .before .before .match .keys2)) (c .before .before .open-scope .ensures O _ q)
 
 same-length-4 : tie.Need-same-length-4
 same-length-4 c = search needs
@@ -40,10 +40,10 @@ same-length-5 : tie.Need-same-length-5
 same-length-5 c = search needs
 
 returns-3 : tie.Need-returns-3
-returns-3 c = λ O q. runs-one O (c .before .before .before .before .before .before .before .before .before .before .args .s .now) (before (c .before .before .before .before .before .before .before .before .before .before .args .s .now) (c .before .before .before .before .before .before .before .before .before .before .args .r)) (visit (c .before .before .before .before .before .before .before .before .before .before .args .r)) (stateOf (c .before .before .before .before .before .before .before .before .before .before .args .w) (c .before .before .before .before .before .before .before .before .before .before .args .v .now) (c .before .before .before .before .before .before .before .before .before .before .args .t .now) q) (before-class (c .before .before .before .before .before .before .before .before .before .before .args .s .now) (c .before .before .before .before .before .before .before .before .before .before .args .r) (sym (c .before .before .before .before .before .before .word .ensures) ∙ c .before .before .before .before .before .match .keys3)) (c .before .before .resolve-parent .ensures O q)
+returns-3 c = λ O q. runs-one O (c .before .before .before .before .before .before .before .before .before .before .args .sheet .now) (before (c .before .before .before .before .before .before .before .before .before .before .args .sheet .now) (c .before .before .before .before .before .before .before .before .before .before .args .row)) (visit (c .before .before .before .before .before .before .before .before .before .before .args .row)) (stateOf (c .before .before .before .before .before .before .before .before .before .before .args .walk) (c .before .before .before .before .before .before .before .before .before .before .args .entries .now) (c .before .before .before .before .before .before .before .before .before .before .args .results .now) q) (before-class (c .before .before .before .before .before .before .before .before .before .before .args .sheet .now) (c .before .before .before .before .before .before .before .before .before .before .args .row) (sym (c .before .before .before .before .before .before .word .ensures) ∙ c .before .before .before .before .before .match .keys3)) (c .before .before .resolve-parent .ensures O q)
 
 returns-4 : tie.Need-returns-4
-returns-4 c = λ O q. runs-none O (c .before .before .before .before .before .args .s .now) (before (c .before .before .before .before .before .args .s .now) (c .before .before .before .before .before .args .r)) (stateOf (c .before .before .before .before .before .args .w) (c .before .before .before .before .before .args .v .now) (c .before .before .before .before .before .args .t .now) q) (before-none (c .before .before .before .before .before .args .s .now) (c .before .before .before .before .before .args .r) (c .before .before .before .before .before .pre .1) (λ e. c .match .rest .0 .0 .1 (c .before .word .ensures ∙ e)) (λ e. c .match .rest .0 .1 (c .before .word .ensures ∙ e)) (λ e. c .match .rest .1 (c .before .word .ensures ∙ e)))
+returns-4 c = λ O q. runs-none O (c .before .before .before .before .before .args .sheet .now) (before (c .before .before .before .before .before .args .sheet .now) (c .before .before .before .before .before .args .row)) (stateOf (c .before .before .before .before .before .args .walk) (c .before .before .before .before .before .args .entries .now) (c .before .before .before .before .before .args .results .now) q) (before-none (c .before .before .before .before .before .args .sheet .now) (c .before .before .before .before .before .args .row) (c .before .before .before .before .before .pre .1) (λ e. c .match .rest .0 .0 .1 (c .before .word .ensures ∙ e)) (λ e. c .match .rest .0 .1 (c .before .word .ensures ∙ e)) (λ e. c .match .rest .1 (c .before .word .ensures ∙ e)))
 
 pub before-stmt-spec : {M : Type 1} → statement M
 before-stmt-spec =

@@ -22,7 +22,7 @@ same-length-2 : tie.Need-same-length-2
 same-length-2 c = search needs
 
 returns : tie.Need-returns
-returns c = λ O q. rw (before-unit (c .before .before .before .before .before .before .before .before .before .before .before .before .before .before .before .before .before .before .args .s .now) (c .before .before .before .before .before .before .before .before .before .before .before .before .before .before .before .before .before .before .args .r) (c .before .before .before .before .before .before .before .before .before .before .before .before .before .before .before .before .before .before .pre .1)) (run-both O (c .before .before .before .before .before .before .before .before .before .before .before .before .before .before .before .before .before .before .args .s .now) _ _ (stateOf (c .before .before .before .before .before .before .before .before .before .before .before .before .before .before .before .before .before .before .args .w) (c .before .before .before .before .before .before .before .before .before .before .before .before .before .before .before .before .before .before .args .v .now) (c .before .before .before .before .before .before .before .before .before .before .before .before .before .before .before .before .before .before .args .t .now) q) (run-first O (c .before .before .before .before .before .before .before .before .before .before .before .before .before .before .before .before .before .before .args .s .now) (enter (c .before .before .before .before .before .before .before .before .before .before .before .before .before .before .before .before .before .before .args .r)) _ (stateOf (c .before .before .before .before .before .before .before .before .before .before .before .before .before .before .before .before .before .before .args .w) (c .before .before .before .before .before .before .before .before .before .before .before .before .before .before .before .before .before .before .args .v .now) (c .before .before .before .before .before .before .before .before .before .before .before .before .before .before .before .before .before .before .args .t .now) q) (c .before .before .before .before .before .before .before .before .before .before .before .before .before .open-scope .ensures O _ q) (c .before .before .before .before .before .before .before .before .before .define-imports .ensures O _ q)) (c .before .before .before .before .declare-kind .ensures O q))
+returns c = λ O q. rw (before-unit (c .before .before .before .before .before .before .before .before .before .before .before .before .before .before .before .before .before .before .args .sheet .now) (c .before .before .before .before .before .before .before .before .before .before .before .before .before .before .before .before .before .before .args .row) (c .before .before .before .before .before .before .before .before .before .before .before .before .before .before .before .before .before .before .pre .1)) (run-both O (c .before .before .before .before .before .before .before .before .before .before .before .before .before .before .before .before .before .before .args .sheet .now) _ _ (stateOf (c .before .before .before .before .before .before .before .before .before .before .before .before .before .before .before .before .before .before .args .walk) (c .before .before .before .before .before .before .before .before .before .before .before .before .before .before .before .before .before .before .args .entries .now) (c .before .before .before .before .before .before .before .before .before .before .before .before .before .before .before .before .before .before .args .results .now) q) (run-first O (c .before .before .before .before .before .before .before .before .before .before .before .before .before .before .before .before .before .before .args .sheet .now) (enter (c .before .before .before .before .before .before .before .before .before .before .before .before .before .before .before .before .before .before .args .row)) _ (stateOf (c .before .before .before .before .before .before .before .before .before .before .before .before .before .before .before .before .before .before .args .walk) (c .before .before .before .before .before .before .before .before .before .before .before .before .before .before .before .before .before .before .args .entries .now) (c .before .before .before .before .before .before .before .before .before .before .before .before .before .before .before .before .before .before .args .results .now) q) (c .before .before .before .before .before .before .before .before .before .before .before .before .before .open-scope .ensures O _ q) (c .before .before .before .before .before .before .before .before .before .define-imports .ensures O _ q)) (c .before .before .before .before .declare-kind .ensures O q))
 
 pub before-unit-spec : {M : Type 1} → statement M
 before-unit-spec =

@@ -14,7 +14,7 @@ returns : tie.Need-returns
 returns c = search needs
 
 returns-2 : tie.Need-returns-2
-returns-2 c = sym (List·getD-eq-default (c .before .args .m .now) 0 (c .if1 .left))
+returns-2 c = sym (List·getD-eq-default (c .before .args .marks .now) 0 (c .if1 .left))
 
 pub mark-of-spec : {M : Type 1} → statement M
 mark-of-spec = tie.close (tie.spec mul-result shared-slice-read-result returns returns-2)

@@ -21,7 +21,7 @@ word-requires : tie.Need-word-requires Inv-loop μ-loop
 word-requires c κs = search needs
 
 loop-holds : tie.Need-loop-holds Inv-loop μ-loop
-loop-holds c = (refl, subst (Place (c .before .before .before .args .s .now)) (sym (c .word .ensures)) (child-placed _ (c .before .before .before .pre .0) _ (c .before .before .before .pre .1)), ap (left _ _ _ _) (c .word .ensures), ap (leftMarks _ _ _ _) (c .word .ensures))
+loop-holds c = (refl, subst (Place (c .before .before .before .args .sheet .now)) (sym (c .word .ensures)) (child-placed _ (c .before .before .before .pre .0) _ (c .before .before .before .pre .1)), ap (left _ _ _ _) (c .word .ensures), ap (leftMarks _ _ _ _) (c .word .ensures))
 
 child-apart-requires : tie.Need-child-apart-requires Inv-loop μ-loop
 child-apart-requires c κs = search needs
@@ -36,10 +36,10 @@ word-requires-2 : tie.Need-word-requires-2 Inv-loop μ-loop
 word-requires-2 c κs = search needs
 
 loop-less : tie.Need-loop-less Inv-loop μ-loop
-loop-less c = subst (λ (x : ℕ). ahead (c .before .before .before .before .before .before .before .before .before .before .before .args .s .now) x < ahead (c .before .before .before .before .before .before .before .before .before .before .before .args .s .now) (c .before .before .before .before .before .before .before .loop .c)) (sym (c .word2 .ensures)) (ahead-less _ (c .before .before .before .before .before .before .before .before .before .before .before .pre .0) _ (c .before .before .before .before .before .before .before .loop .inv .1) (c .before .before .before .before .before .before .loop-test .taken))
+loop-less c = subst (λ (x : ℕ). ahead (c .before .before .before .before .before .before .before .before .before .before .before .args .sheet .now) x < ahead (c .before .before .before .before .before .before .before .before .before .before .before .args .sheet .now) (c .before .before .before .before .before .before .before .loop .c)) (sym (c .word2 .ensures)) (ahead-less _ (c .before .before .before .before .before .before .before .before .before .before .before .pre .0) _ (c .before .before .before .before .before .before .before .loop .inv .1) (c .before .before .before .before .before .before .loop-test .taken))
 
 loop-again : tie.Need-loop-again Inv-loop μ-loop
-loop-again c = (c .before .before .before .before .child-apart .kept .1 .1 .1 .1 .0 ∙ c .before .before .before .before .before .before .before .loop .inv .0, subst (Place (c .before .before .before .before .before .before .before .before .before .before .before .args .s .now)) (sym (c .word2 .ensures)) (next-placed _ (c .before .before .before .before .before .before .before .before .before .before .before .pre .0) _ (c .before .before .before .before .before .before .before .loop .inv .1) (c .before .before .before .before .before .before .loop-test .taken)), left-next _ (c .before .before .before .before .before .before .before .before .before .before .before .pre .0) _ _ _ _ (c .before .before .before .before .before .before .before .loop .inv .1) (c .before .before .before .before .before .before .loop-test .taken) (c .before .before .before .before .child-apart .ensures .0) (not-false (c .before .before .before .before .child-apart .result) (c .before .if1 .left)) (c .before .before .before .before .child-apart .ensures .1) (c .word2 .ensures) (c .before .before .before .before .before .before .before .loop .inv .2), marks-next _ (c .before .before .before .before .before .before .before .before .before .before .before .pre .0) _ _ _ _ (c .before .before .before .before .before .before .before .loop .inv .1) (c .before .before .before .before .before .before .loop-test .taken) (not-false (c .before .before .before .before .child-apart .result) (c .before .if1 .left)) (c .before .before .before .before .child-apart .ensures .1) (c .word2 .ensures) (c .before .before .before .before .before .before .before .loop .inv .3))
+loop-again c = (c .before .before .before .before .child-apart .kept .1 .1 .1 .1 .0 ∙ c .before .before .before .before .before .before .before .loop .inv .0, subst (Place (c .before .before .before .before .before .before .before .before .before .before .before .args .sheet .now)) (sym (c .word2 .ensures)) (next-placed _ (c .before .before .before .before .before .before .before .before .before .before .before .pre .0) _ (c .before .before .before .before .before .before .before .loop .inv .1) (c .before .before .before .before .before .before .loop-test .taken)), left-next _ (c .before .before .before .before .before .before .before .before .before .before .before .pre .0) _ _ _ _ (c .before .before .before .before .before .before .before .loop .inv .1) (c .before .before .before .before .before .before .loop-test .taken) (c .before .before .before .before .child-apart .ensures .0) (not-false (c .before .before .before .before .child-apart .result) (c .before .if1 .left)) (c .before .before .before .before .child-apart .ensures .1) (c .word2 .ensures) (c .before .before .before .before .before .before .before .loop .inv .2), marks-next _ (c .before .before .before .before .before .before .before .before .before .before .before .pre .0) _ _ _ _ (c .before .before .before .before .before .before .before .loop .inv .1) (c .before .before .before .before .before .before .loop-test .taken) (not-false (c .before .before .before .before .child-apart .result) (c .before .if1 .left)) (c .before .before .before .before .child-apart .ensures .1) (c .word2 .ensures) (c .before .before .before .before .before .before .before .loop .inv .3))
 
 same-length-2 : tie.Need-same-length-2 Inv-loop μ-loop
 same-length-2 c = c .before .loop .inv .0

@@ -4,11 +4,11 @@ use borrow.Author.Needs.{needs}
 use Rattle.sheet.proofs.apart.set_mark.Statement.{statement}
 use Rattle.sheet.proofs.apart.set_mark.Tie as tie
 
-mul-m : tie.Need-mul-m
-mul-m c = search needs
+mul-marks : tie.Need-mul-marks
+mul-marks c = search needs
 
-slice-write-m : tie.Need-slice-write-m
-slice-write-m c = search needs
+slice-write-marks : tie.Need-slice-write-marks
+slice-write-marks c = search needs
 
 same-length : tie.Need-same-length
 same-length c = search needs
@@ -20,4 +20,4 @@ returns-2 : tie.Need-returns-2
 returns-2 c = sym (set-out _ _ _ (c .if1 .left))
 
 pub set-mark-spec : {M : Type 1} → statement M
-set-mark-spec = tie.close (tie.spec mul-m slice-write-m same-length returns returns-2)
+set-mark-spec = tie.close (tie.spec mul-marks slice-write-marks same-length returns returns-2)

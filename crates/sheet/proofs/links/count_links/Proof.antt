@@ -15,7 +15,7 @@ abbrev μ-loop : tie.MeasureT-loop
 μ-loop s n seen₀ r₀ seen r = n - r
 
 loop-holds : tie.Need-loop-holds Inv-loop μ-loop
-loop-holds c = (omega arith, counted-none (c .args .s .now) (c .args .n) (c .args .seen .now) (c .pre .2) (c .pre .4), refl)
+loop-holds c = (omega arith, counted-none (c .args .sheet .now) (c .args .n) (c .args .seen .now) (c .pre .2) (c .pre .4), refl)
 
 mul-next : tie.Need-mul-next Inv-loop μ-loop
 mul-next c = omega arith
@@ -50,7 +50,7 @@ cast-child c = omega (arith, c .shared-slice-known2 .given (8 * c .before .befor
 mul-seen : tie.Need-mul-seen Inv-loop μ-loop
 mul-seen c =
     let z = c .before .before .before in
-    let s = z .before .args .s .now in
+    let s = z .before .args .sheet .now in
     let n = z .before .args .n in
     let r = z .loop .r in
     let seen = z .loop .seen in
@@ -61,7 +61,7 @@ mul-seen c =
 slice-read-seen : tie.Need-slice-read-seen Inv-loop μ-loop
 slice-read-seen c =
     let z = c .before .before .before .before in
-    let s = z .before .args .s .now in
+    let s = z .before .args .sheet .now in
     let n = z .before .args .n in
     let r = z .loop .r in
     let seen = z .loop .seen in
@@ -72,7 +72,7 @@ slice-read-seen c =
 add-seen : tie.Need-add-seen Inv-loop μ-loop
 add-seen c =
     let z = c .before .before .before .before in
-    let s = z .before .args .s .now in
+    let s = z .before .args .sheet .now in
     let n = z .before .args .n in
     let r = z .loop .r in
     let seen = z .loop .seen in
@@ -83,7 +83,7 @@ add-seen c =
 slice-write-seen : tie.Need-slice-write-seen Inv-loop μ-loop
 slice-write-seen c =
     let z = c .before .before .before .before in
-    let s = z .before .args .s .now in
+    let s = z .before .args .sheet .now in
     let n = z .before .args .n in
     let r = z .loop .r in
     let seen = z .loop .seen in
@@ -94,7 +94,7 @@ slice-write-seen c =
 mul-seen-2 : tie.Need-mul-seen-2 Inv-loop μ-loop
 mul-seen-2 c =
     let z = c .before .before .before .before in
-    let s = z .before .args .s .now in
+    let s = z .before .args .sheet .now in
     let n = z .before .args .n in
     let r = z .loop .r in
     let seen = z .loop .seen in
@@ -105,7 +105,7 @@ mul-seen-2 c =
 slice-read-seen-2 : tie.Need-slice-read-seen-2 Inv-loop μ-loop
 slice-read-seen-2 c =
     let z = c .before .before .before .before .before in
-    let s = z .before .args .s .now in
+    let s = z .before .args .sheet .now in
     let n = z .before .args .n in
     let r = z .loop .r in
     let seen = z .loop .seen in
@@ -116,7 +116,7 @@ slice-read-seen-2 c =
 add-seen-2 : tie.Need-add-seen-2 Inv-loop μ-loop
 add-seen-2 c =
     let z = c .before .before .before .before .before in
-    let s = z .before .args .s .now in
+    let s = z .before .args .sheet .now in
     let n = z .before .args .n in
     let r = z .loop .r in
     let seen = z .loop .seen in
@@ -128,7 +128,7 @@ add-seen-2 c =
 slice-write-seen-2 : tie.Need-slice-write-seen-2 Inv-loop μ-loop
 slice-write-seen-2 c =
     let z = c .before .before .before .before .before in
-    let s = z .before .args .s .now in
+    let s = z .before .args .sheet .now in
     let n = z .before .args .n in
     let r = z .loop .r in
     let seen = z .loop .seen in
@@ -145,7 +145,7 @@ loop-less c = omega arith
 loop-again : tie.Need-loop-again Inv-loop μ-loop
 loop-again c =
     let z = c .before .before .before .before .before in
-    let s = z .before .args .s .now in
+    let s = z .before .args .sheet .now in
     let n = z .before .args .n in
     let r = z .loop .r in
     let seen = z .loop .seen in

@@ -22,7 +22,7 @@ same-length c = search needs
 
 -- src/links.rt:68:1
 returns : tie.Need-returns
-returns c = c .all-once .ensures ∙ once-linked (c .before .before .before .before .before .before .before .before .args .s .now) (c .before .before .before .before .before .before .before .before .args .n) _ (c .before .before .before .before .before .before .before .before .pre .0) (c .before .before .before .before .count-links .ensures)
+returns c = c .all-once .ensures ∙ once-linked (c .before .before .before .before .before .before .before .before .args .sheet .now) (c .before .before .before .before .before .before .before .before .args .n) _ (c .before .before .before .before .before .before .before .before .pre .0) (c .before .before .before .before .count-links .ensures)
 
 pub linked-once-spec : {M : Type 1} → statement M
 linked-once-spec = tie.close (tie.spec count-links-requires all-once-requires same-length returns)

@@ -34,7 +34,7 @@ same-length-2 : tie.Need-same-length-2 Inv-loop μ-loop
 same-length-2 c = c .before .before .before .before .before .before .loop .inv .3
 
 returns : tie.Need-returns Inv-loop μ-loop
-returns c = let a = c .before .before .before .before .before .before .before .before .before .before .before .args in capture-last (a .s .now) (a .v .now) (c .before .before .before .before .before .before .loop .i) (nodeOf (a .x)) (storeOf (c .before .before .before .before .before .before .loop .w) (c .before .before .before .before .before .before .loop .t) (c .before .before .before .before .before .before .loop .q)) (c .before .before .before .before .before .loop-test .taken) (sym (c .before .before .before .if1 .taken) ∙ c .before .before .before .before .marks-function .ensures) (c .before .before .entry-word .ensures) (c .if2 .taken) ∙ c .before .before .before .before .before .before .loop .inv .0
+returns c = let a = c .before .before .before .before .before .before .before .before .before .before .before .args in capture-last (a .sheet .now) (a .entries .now) (c .before .before .before .before .before .before .loop .i) (nodeOf (a .x)) (storeOf (c .before .before .before .before .before .before .loop .w) (c .before .before .before .before .before .before .loop .results) (c .before .before .before .before .before .before .loop .nodes)) (c .before .before .before .before .before .loop-test .taken) (sym (c .before .before .before .if1 .taken) ∙ c .before .before .before .before .marks-function .ensures) (c .before .before .entry-word .ensures) (c .if2 .taken) ∙ c .before .before .before .before .before .before .loop .inv .0
 
 word-requires : tie.Need-word-requires Inv-loop μ-loop
 word-requires c κs = search needs
@@ -49,7 +49,7 @@ same-length-4 : tie.Need-same-length-4 Inv-loop μ-loop
 same-length-4 c = c .before .before .before .before .before .before .before .before .before .before .before .loop .inv .3
 
 returns-2 : tie.Need-returns-2 Inv-loop μ-loop
-returns-2 c = let a = c .before .before .before .before .before .before .before .before .before .before .before .before .before .before .before .before .args in capture-found (a .s .now) (a .v .now) (c .before .before .before .before .before .before .before .before .before .before .before .loop .i) (nodeOf (a .x)) (storeOf (c .before .before .before .before .before .before .before .before .before .before .before .loop .w) (c .before .before .before .before .before .before .before .before .before .before .before .loop .t) (c .before .before .before .before .before .before .before .before .before .before .before .loop .q)) (c .before .before .before .before .before .before .before .before .before .before .loop-test .taken) (sym (c .before .before .before .before .before .before .before .before .if1 .taken) ∙ c .before .before .before .before .before .before .before .before .before .marks-function .ensures) (c .before .before .before .before .before .before .before .entry-word .ensures) (c .before .before .before .before .before .if2 .left) (c .before .before .before .word .ensures) (sym (c .if3 .taken) ∙ c .before .has-key .ensures) ∙ c .before .before .before .before .before .before .before .before .before .before .before .loop .inv .0
+returns-2 c = let a = c .before .before .before .before .before .before .before .before .before .before .before .before .before .before .before .before .args in capture-found (a .sheet .now) (a .entries .now) (c .before .before .before .before .before .before .before .before .before .before .before .loop .i) (nodeOf (a .x)) (storeOf (c .before .before .before .before .before .before .before .before .before .before .before .loop .w) (c .before .before .before .before .before .before .before .before .before .before .before .loop .results) (c .before .before .before .before .before .before .before .before .before .before .before .loop .nodes)) (c .before .before .before .before .before .before .before .before .before .before .loop-test .taken) (sym (c .before .before .before .before .before .before .before .before .if1 .taken) ∙ c .before .before .before .before .before .before .before .before .before .marks-function .ensures) (c .before .before .before .before .before .before .before .entry-word .ensures) (c .before .before .before .before .before .if2 .left) (c .before .before .before .word .ensures) (sym (c .if3 .taken) ∙ c .before .has-key .ensures) ∙ c .before .before .before .before .before .before .before .before .before .before .before .loop .inv .0
 
 append-node-requires : tie.Need-append-node-requires Inv-loop μ-loop
 append-node-requires c κs = search needs
@@ -58,13 +58,13 @@ loop-less : tie.Need-loop-less Inv-loop μ-loop
 loop-less c = omega (arith, c .before .before .before .before .before .before .before .before .before .before .before .before .before .before .before .before .before .loop-test .taken)
 
 loop-again : tie.Need-loop-again Inv-loop μ-loop
-loop-again c = let a = c .before .before .before .before .before .before .before .before .before .before .before .before .before .before .before .before .before .before .before .before .before .before .before .args in (capture-in (a .s .now) (a .v .now) (c .before .before .before .before .before .before .before .before .before .before .before .before .before .before .before .before .before .before .loop .i) (nodeOf (a .x)) (storeOf (c .before .before .before .before .before .before .before .before .before .before .before .before .before .before .before .before .before .before .loop .w) (c .before .before .before .before .before .before .before .before .before .before .before .before .before .before .before .before .before .before .loop .t) (c .before .before .before .before .before .before .before .before .before .before .before .before .before .before .before .before .before .before .loop .q)) (c .before .before .before .before .before .before .before .before .before .before .before .before .before .before .before .before .before .loop-test .taken) (sym (c .before .before .before .before .before .before .before .before .before .before .before .before .before .before .before .if1 .taken) ∙ c .before .before .before .before .before .before .before .before .before .before .before .before .before .before .before .before .marks-function .ensures) (c .before .before .before .before .before .before .before .before .before .before .before .before .before .before .entry-word .ensures) (c .before .before .before .before .before .before .before .before .before .before .before .before .if2 .left) (c .before .before .before .before .before .before .before .before .before .before .word .ensures) (sym (c .before .before .before .before .before .before .before .if3 .left) ∙ c .before .before .before .before .before .before .before .before .has-key .ensures) (c .before .before .before .before .append-node .ensures) ∙ c .before .before .before .before .before .before .before .before .before .before .before .before .before .before .before .before .before .before .loop .inv .0, omega (arith, c .before .before .before .before .before .before .before .before .before .before .before .before .before .before .before .before .before .before .loop .inv .1), omega (arith, c .before .before .before .before .append-node .kept, c .before .before .before .before .before .before .before .before .before .before .before .before .before .before .before .before .before .before .loop .inv .2), omega (arith, c .before .before .before .before .append-node .kept, c .before .before .before .before .before .before .before .before .before .before .before .before .before .before .before .before .before .before .loop .inv .3))
+loop-again c = let a = c .before .before .before .before .before .before .before .before .before .before .before .before .before .before .before .before .before .before .before .before .before .before .before .args in (capture-in (a .sheet .now) (a .entries .now) (c .before .before .before .before .before .before .before .before .before .before .before .before .before .before .before .before .before .before .loop .i) (nodeOf (a .x)) (storeOf (c .before .before .before .before .before .before .before .before .before .before .before .before .before .before .before .before .before .before .loop .w) (c .before .before .before .before .before .before .before .before .before .before .before .before .before .before .before .before .before .before .loop .results) (c .before .before .before .before .before .before .before .before .before .before .before .before .before .before .before .before .before .before .loop .nodes)) (c .before .before .before .before .before .before .before .before .before .before .before .before .before .before .before .before .before .loop-test .taken) (sym (c .before .before .before .before .before .before .before .before .before .before .before .before .before .before .before .if1 .taken) ∙ c .before .before .before .before .before .before .before .before .before .before .before .before .before .before .before .before .marks-function .ensures) (c .before .before .before .before .before .before .before .before .before .before .before .before .before .before .entry-word .ensures) (c .before .before .before .before .before .before .before .before .before .before .before .before .if2 .left) (c .before .before .before .before .before .before .before .before .before .before .word .ensures) (sym (c .before .before .before .before .before .before .before .if3 .left) ∙ c .before .before .before .before .before .before .before .before .has-key .ensures) (c .before .before .before .before .append-node .ensures) ∙ c .before .before .before .before .before .before .before .before .before .before .before .before .before .before .before .before .before .before .loop .inv .0, omega (arith, c .before .before .before .before .before .before .before .before .before .before .before .before .before .before .before .before .before .before .loop .inv .1), omega (arith, c .before .before .before .before .append-node .kept, c .before .before .before .before .before .before .before .before .before .before .before .before .before .before .before .before .before .before .loop .inv .2), omega (arith, c .before .before .before .before .append-node .kept, c .before .before .before .before .before .before .before .before .before .before .before .before .before .before .before .before .before .before .loop .inv .3))
 
 loop-less-2 : tie.Need-loop-less-2 Inv-loop μ-loop
 loop-less-2 c = omega (arith, c .before .before .loop-test .taken)
 
 loop-again-2 : tie.Need-loop-again-2 Inv-loop μ-loop
-loop-again-2 c = let a = c .before .before .before .before .before .before .before .before .args in (capture-skip (a .s .now) (a .v .now) (c .before .before .before .loop .i) (nodeOf (a .x)) (storeOf (c .before .before .before .loop .w) (c .before .before .before .loop .t) (c .before .before .before .loop .q)) (c .before .before .loop-test .taken) (sym (c .if1 .left) ∙ c .before .marks-function .ensures) ∙ c .before .before .before .loop .inv .0, omega (arith, c .before .before .before .loop .inv .1), c .before .before .before .loop .inv .2, c .before .before .before .loop .inv .3)
+loop-again-2 c = let a = c .before .before .before .before .before .before .before .before .args in (capture-skip (a .sheet .now) (a .entries .now) (c .before .before .before .loop .i) (nodeOf (a .x)) (storeOf (c .before .before .before .loop .w) (c .before .before .before .loop .results) (c .before .before .before .loop .nodes)) (c .before .before .loop-test .taken) (sym (c .if1 .left) ∙ c .before .marks-function .ensures) ∙ c .before .before .before .loop .inv .0, omega (arith, c .before .before .before .loop .inv .1), c .before .before .before .loop .inv .2, c .before .before .before .loop .inv .3)
 
 same-length-5 : tie.Need-same-length-5 Inv-loop μ-loop
 same-length-5 c = c .before .loop .inv .2
@@ -73,7 +73,7 @@ same-length-6 : tie.Need-same-length-6 Inv-loop μ-loop
 same-length-6 c = c .before .loop .inv .3
 
 returns-3 : tie.Need-returns-3 Inv-loop μ-loop
-returns-3 c = let a = c .before .before .before .before .before .before .args in capture-end (a .s .now) (a .v .now) (c .before .loop .i) (nodeOf (a .x)) (storeOf (c .before .loop .w) (c .before .loop .t) (c .before .loop .q)) (c .loop-test .left) ∙ c .before .loop .inv .0
+returns-3 c = let a = c .before .before .before .before .before .before .args in capture-end (a .sheet .now) (a .entries .now) (c .before .loop .i) (nodeOf (a .x)) (storeOf (c .before .loop .w) (c .before .loop .results) (c .before .loop .nodes)) (c .loop-test .left) ∙ c .before .loop .inv .0
 
 pub reg-captured-spec : {M : Type 1} → statement M
 reg-captured-spec =

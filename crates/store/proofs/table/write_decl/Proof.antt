@@ -20,7 +20,7 @@ returns : tie.Need-returns
 returns c = λ o q.
     let a = c .before .before .before .before .before .before .args in
     c .before .before .write-row .ensures o q
-    ∙ ap (λ (ws : List ℕ). writeRowAt (a .r) ws (storeOf o (a .t .now) q)) (c .before .before .before .words .ensures)
+    ∙ ap (λ (ws : List ℕ). writeRowAt (a .row) ws (storeOf o (a .results .now) q)) (c .before .before .before .words .ensures)
 
 pub write-decl-spec : {M : Type 1} → statement M
 write-decl-spec = tie.close (tie.spec words-requires write-row-requires same-length returns)

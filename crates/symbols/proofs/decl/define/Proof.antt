@@ -17,7 +17,7 @@ same-length : tie.Need-same-length
 same-length c = search needs
 
 returns : tie.Need-returns
-returns c = λ k h. defined (c .before .before .before .before .before .before .before .before .before .args .s .now) (c .before .before .before .before .before .before .before .before .before .args .m) (c .before .before .before .before .before .before .before .before .before .args .d) k (scopesOf (c .before .before .before .before .before .before .before .before .before .args .e) (c .before .before .before .before .before .before .before .before .before .args .v .now)) _ _ _ _ h (c .before .before .push-entry .ensures .0) (c .before .before .push-entry .ensures .1) (c .before .before .before .before .before .slot-after .ensures) (c .before .before .before .before .global-after .ensures)
+returns c = λ k h. defined (c .before .before .before .before .before .before .before .before .before .args .sheet .now) (c .before .before .before .before .before .before .before .before .before .args .m) (c .before .before .before .before .before .before .before .before .before .args .d) k (scopesOf (c .before .before .before .before .before .before .before .before .before .args .env) (c .before .before .before .before .before .before .before .before .before .args .entries .now)) _ _ _ _ h (c .before .before .push-entry .ensures .0) (c .before .before .push-entry .ensures .1) (c .before .before .before .before .before .slot-after .ensures) (c .before .before .before .before .global-after .ensures)
 
 pub define-spec : {M : Type 1} → statement M
 define-spec =

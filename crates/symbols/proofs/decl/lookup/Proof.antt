@@ -8,7 +8,7 @@ find-name-requires : tie.Need-find-name-requires
 find-name-requires c κs = search needs
 
 returns : tie.Need-returns
-returns c = found-none (scopesOf (c .before .before .before .args .e) (c .before .before .before .args .v .now)) (c .before .before .before .args .m) _ (c .before .find-name .ensures) (c .if1 .taken)
+returns c = found-none (scopesOf (c .before .before .before .args .env) (c .before .before .before .args .entries .now)) (c .before .before .before .args .m) _ (c .before .find-name .ensures) (c .if1 .taken)
 
 sub-i : tie.Need-sub-i
 sub-i c = search needs
@@ -26,7 +26,7 @@ entry-word-requires-4 : tie.Need-entry-word-requires-4
 entry-word-requires-4 c κs = search needs
 
 returns-2 : tie.Need-returns-2
-returns-2 c = found-some (scopesOf (c .before .before .before .before .before .before .before .args .e) (c .before .before .before .before .before .before .before .args .v .now)) (c .before .before .before .before .before .before .before .args .m) _ (c .before .before .before .before .before .find-name .ensures) _ _ _ _ (c .before .before .before .before .if1 .left) (c .before .before .before .entry-word .ensures) (c .before .before .entry-word2 .ensures) (c .before .entry-word3 .ensures) (c .entry-word4 .ensures)
+returns-2 c = found-some (scopesOf (c .before .before .before .before .before .before .before .args .env) (c .before .before .before .before .before .before .before .args .entries .now)) (c .before .before .before .before .before .before .before .args .m) _ (c .before .before .before .before .before .find-name .ensures) _ _ _ _ (c .before .before .before .before .if1 .left) (c .before .before .before .entry-word .ensures) (c .before .before .entry-word2 .ensures) (c .before .entry-word3 .ensures) (c .entry-word4 .ensures)
 
 pub lookup-spec : {M : Type 1} → statement M
 lookup-spec =

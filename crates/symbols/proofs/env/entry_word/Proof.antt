@@ -20,7 +20,7 @@ returns : tie.Need-returns
 returns c = search needs
 
 returns-2 : tie.Need-returns-2
-returns-2 c = sym (List·getD-eq-default (c .before .args .v .now) 0 (c .if1 .left))
+returns-2 c = sym (List·getD-eq-default (c .before .args .entries .now) 0 (c .if1 .left))
 
 pub entry-word-spec : {M : Type 1} → statement M
 entry-word-spec =

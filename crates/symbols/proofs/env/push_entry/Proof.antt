@@ -6,62 +6,62 @@ use borrow.Author.Needs.{needs}
 use Rattle.symbols.proofs.env.push_entry.Statement.{statement}
 use Rattle.symbols.proofs.env.push_entry.Tie as tie
 
-mul-v : tie.Need-mul-v
-mul-v c = search needs
+mul-entries : tie.Need-mul-entries
+mul-entries c = search needs
 
-mul-v-2 : tie.Need-mul-v-2
-mul-v-2 c = search needs
+mul-entries-2 : tie.Need-mul-entries-2
+mul-entries-2 c = search needs
 
-slice-write-v : tie.Need-slice-write-v
-slice-write-v c = search needs
+slice-write-entries : tie.Need-slice-write-entries
+slice-write-entries c = search needs
 
-mul-v-3 : tie.Need-mul-v-3
-mul-v-3 c = search needs
+mul-entries-3 : tie.Need-mul-entries-3
+mul-entries-3 c = search needs
 
-add-v : tie.Need-add-v
-add-v c = search needs
+add-entries : tie.Need-add-entries
+add-entries c = search needs
 
-mul-v-4 : tie.Need-mul-v-4
-mul-v-4 c = search needs
+mul-entries-4 : tie.Need-mul-entries-4
+mul-entries-4 c = search needs
 
-slice-write-v-2 : tie.Need-slice-write-v-2
-slice-write-v-2 c = simp (length-set) (omega arith)
+slice-write-entries-2 : tie.Need-slice-write-entries-2
+slice-write-entries-2 c = simp (length-set) (omega arith)
 
-mul-v-5 : tie.Need-mul-v-5
-mul-v-5 c = search needs
+mul-entries-5 : tie.Need-mul-entries-5
+mul-entries-5 c = search needs
 
-add-v-2 : tie.Need-add-v-2
-add-v-2 c = search needs
+add-entries-2 : tie.Need-add-entries-2
+add-entries-2 c = search needs
 
-mul-v-6 : tie.Need-mul-v-6
-mul-v-6 c = search needs
+mul-entries-6 : tie.Need-mul-entries-6
+mul-entries-6 c = search needs
 
-slice-write-v-3 : tie.Need-slice-write-v-3
-slice-write-v-3 c = simp (length-set) (omega arith)
+slice-write-entries-3 : tie.Need-slice-write-entries-3
+slice-write-entries-3 c = simp (length-set) (omega arith)
 
-mul-v-7 : tie.Need-mul-v-7
-mul-v-7 c = search needs
+mul-entries-7 : tie.Need-mul-entries-7
+mul-entries-7 c = search needs
 
-add-v-3 : tie.Need-add-v-3
-add-v-3 c = search needs
+add-entries-3 : tie.Need-add-entries-3
+add-entries-3 c = search needs
 
-mul-v-8 : tie.Need-mul-v-8
-mul-v-8 c = search needs
+mul-entries-8 : tie.Need-mul-entries-8
+mul-entries-8 c = search needs
 
-slice-write-v-4 : tie.Need-slice-write-v-4
-slice-write-v-4 c = simp (length-set) (omega arith)
+slice-write-entries-4 : tie.Need-slice-write-entries-4
+slice-write-entries-4 c = simp (length-set) (omega arith)
 
-mul-v-9 : tie.Need-mul-v-9
-mul-v-9 c = search needs
+mul-entries-9 : tie.Need-mul-entries-9
+mul-entries-9 c = search needs
 
-add-v-4 : tie.Need-add-v-4
-add-v-4 c = search needs
+add-entries-4 : tie.Need-add-entries-4
+add-entries-4 c = search needs
 
-mul-v-10 : tie.Need-mul-v-10
-mul-v-10 c = search needs
+mul-entries-10 : tie.Need-mul-entries-10
+mul-entries-10 c = search needs
 
-slice-write-v-5 : tie.Need-slice-write-v-5
-slice-write-v-5 c = simp (length-set) (omega arith)
+slice-write-entries-5 : tie.Need-slice-write-entries-5
+slice-write-entries-5 c = simp (length-set) (omega arith)
 
 add-result : tie.Need-add-result
 add-result c = search needs
@@ -70,37 +70,37 @@ same-length : tie.Need-same-length
 same-length c = search needs
 
 returns : tie.Need-returns
-returns c = let a = c .before .before .args in (pushed-count (a .v .now) (a .n) (omega (arith, c .before .if1 .taken, c .if2 .taken)), pushed-words (a .v .now) (a .n) (a .tag) (a .name) (a .x) (a .y) (a .slot) (omega (arith, c .before .if1 .taken, c .if2 .taken)))
+returns c = let a = c .before .before .args in (pushed-count (a .entries .now) (a .n) (omega (arith, c .before .if1 .taken, c .if2 .taken)), pushed-words (a .entries .now) (a .n) (a .tag) (a .name) (a .x) (a .y) (a .slot) (omega (arith, c .before .if1 .taken, c .if2 .taken)))
 
 returns-2 : tie.Need-returns-2
-returns-2 c = let a = c .before .before .args in (full-count (a .v .now) (a .n) (omega (arith, c .if2 .left)), full-words (a .v .now) (a .n) (a .tag ∷ a .name ∷ a .x ∷ a .y ∷ a .slot ∷ []) (omega (arith, c .if2 .left)))
+returns-2 c = let a = c .before .before .args in (full-count (a .entries .now) (a .n) (omega (arith, c .if2 .left)), full-words (a .entries .now) (a .n) (a .tag ∷ a .name ∷ a .x ∷ a .y ∷ a .slot ∷ []) (omega (arith, c .if2 .left)))
 
 returns-3 : tie.Need-returns-3
-returns-3 c = let a = c .before .args in (full-count (a .v .now) (a .n) (omega (arith, c .if1 .left)), full-words (a .v .now) (a .n) (a .tag ∷ a .name ∷ a .x ∷ a .y ∷ a .slot ∷ []) (omega (arith, c .if1 .left)))
+returns-3 c = let a = c .before .args in (full-count (a .entries .now) (a .n) (omega (arith, c .if1 .left)), full-words (a .entries .now) (a .n) (a .tag ∷ a .name ∷ a .x ∷ a .y ∷ a .slot ∷ []) (omega (arith, c .if1 .left)))
 
 pub push-entry-spec : {M : Type 1} → statement M
 push-entry-spec =
     tie.close
     (tie.spec
-    mul-v
-    mul-v-2
-    slice-write-v
-    mul-v-3
-    add-v
-    mul-v-4
-    slice-write-v-2
-    mul-v-5
-    add-v-2
-    mul-v-6
-    slice-write-v-3
-    mul-v-7
-    add-v-3
-    mul-v-8
-    slice-write-v-4
-    mul-v-9
-    add-v-4
-    mul-v-10
-    slice-write-v-5
+    mul-entries
+    mul-entries-2
+    slice-write-entries
+    mul-entries-3
+    add-entries
+    mul-entries-4
+    slice-write-entries-2
+    mul-entries-5
+    add-entries-2
+    mul-entries-6
+    slice-write-entries-3
+    mul-entries-7
+    add-entries-3
+    mul-entries-8
+    slice-write-entries-4
+    mul-entries-9
+    add-entries-4
+    mul-entries-10
+    slice-write-entries-5
     add-result
     same-length
     returns

@@ -10,7 +10,7 @@ same-length : tie.Need-same-length
 same-length c = search needs
 
 returns : tie.Need-returns
-returns c = λ s. let a = c .before .before .before .before .before .before .args in looped s (a .e .count) (a .e .slot) (a .e .fun .0) (a .e .globals) _ (a .v .now) _ (c .before .before .push-entry .ensures .0) (c .before .before .push-entry .ensures .1)
+returns c = λ s. let a = c .before .before .before .before .before .before .args in looped s (a .env .count) (a .env .slot) (a .env .fun .0) (a .env .globals) _ (a .entries .now) _ (c .before .before .push-entry .ensures .0) (c .before .before .push-entry .ensures .1)
 
 pub push-loop-spec : {M : Type 1} → statement M
 push-loop-spec = tie.close (tie.spec push-entry-requires same-length returns)

@@ -13,7 +13,7 @@ same-length : tie.Need-same-length
 same-length c = search needs
 
 returns : tie.Need-returns
-returns c = let a = c .before .before .before .before .before .before .before .args in entered (a .s .now) (a .r) (a .e .count) (a .e .slot) (a .e .fun .0) (a .e .globals) _ _ (a .v .now) _ (c .before .before .push-entry .ensures .0) (c .before .before .push-entry .ensures .1) (c .before .before .before .before .fun-inside .ensures)
+returns c = let a = c .before .before .before .before .before .before .before .args in entered (a .sheet .now) (a .row) (a .env .count) (a .env .slot) (a .env .fun .0) (a .env .globals) _ _ (a .entries .now) _ (c .before .before .push-entry .ensures .0) (c .before .before .push-entry .ensures .1) (c .before .before .before .before .fun-inside .ensures)
 
 pub push-scope-spec : {M : Type 1} → statement M
 push-scope-spec = tie.close (tie.spec fun-inside-requires push-entry-requires same-length returns)

@@ -30,7 +30,7 @@ returns-2 : tie.Need-returns-2
 returns-2 c = λ O. c .before .before .before .before .assign-member .ensures O _
 
 returns-3 : tie.Need-returns-3
-returns-3 c = λ O. assign-other O (c .before .before .before .before .before .before .before .before .args .s .now) (c .before .before .before .before .before .before .before .before .args .r) (stateOf (c .before .before .before .before .before .before .before .before .args .w) (c .before .before .before .before .before .before .before .before .args .v .now) (c .before .before .before .before .before .before .before .before .args .t .now) (c .before .before .before .before .before .before .before .before .args .q .now)) (c .before .before .before .before .before .before .before .before .pre .1) (rw (← c .before .before .word .ensures) (λ e. c .match .rest .0 .1 (c .before .word2 .ensures ∙ e))) (rw (← c .before .before .word .ensures) (λ e. c .match .rest .1 (c .before .word2 .ensures ∙ e)))
+returns-3 c = λ O. assign-other O (c .before .before .before .before .before .before .before .before .args .sheet .now) (c .before .before .before .before .before .before .before .before .args .row) (stateOf (c .before .before .before .before .before .before .before .before .args .walk) (c .before .before .before .before .before .before .before .before .args .entries .now) (c .before .before .before .before .before .before .before .before .args .results .now) (c .before .before .before .before .before .before .before .before .args .nodes .now)) (c .before .before .before .before .before .before .before .before .pre .1) (rw (← c .before .before .word .ensures) (λ e. c .match .rest .0 .1 (c .before .word2 .ensures ∙ e))) (rw (← c .before .before .word .ensures) (λ e. c .match .rest .1 (c .before .word2 .ensures ∙ e)))
 
 pub check-assign-spec : {M : Type 1} → statement M
 check-assign-spec =

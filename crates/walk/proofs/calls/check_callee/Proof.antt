@@ -31,7 +31,7 @@ returns-2 : tie.Need-returns-2
 returns-2 c = c .before .before .call-method .ensures _ _ (c .before .before .before .before .before .before .receiver-class .ensures)
 
 returns-3 : tie.Need-returns-3
-returns-3 c = call-other (over (c .before .before .before .before .before .before .before .before .before .before .before .before .args .outside .now)) (c .before .before .before .before .before .before .before .before .before .before .before .before .args .s .now) (c .before .before .before .before .before .before .before .before .before .before .before .before .args .r) (stateOf (c .before .before .before .before .before .before .before .before .before .before .before .before .args .w) (c .before .before .before .before .before .before .before .before .before .before .before .before .args .v .now) (c .before .before .before .before .before .before .before .before .before .before .before .before .args .t .now) (c .before .before .before .before .before .before .before .before .before .before .before .before .args .q .now)) (c .before .before .before .before .before .before .before .before .before .before .before .before .pre) (sym (c .before .before .before .before .before .constructed-class .ensures) ∙ c .before .before .before .if1 .left) (sym (c .before .before .receiver-class .ensures) ∙ c .if2 .left)
+returns-3 c = call-other (over (c .before .before .before .before .before .before .before .before .before .before .before .before .args .outside .now)) (c .before .before .before .before .before .before .before .before .before .before .before .before .args .sheet .now) (c .before .before .before .before .before .before .before .before .before .before .before .before .args .row) (stateOf (c .before .before .before .before .before .before .before .before .before .before .before .before .args .walk) (c .before .before .before .before .before .before .before .before .before .before .before .before .args .entries .now) (c .before .before .before .before .before .before .before .before .before .before .before .before .args .results .now) (c .before .before .before .before .before .before .before .before .before .before .before .before .args .nodes .now)) (c .before .before .before .before .before .before .before .before .before .before .before .before .pre) (sym (c .before .before .before .before .before .constructed-class .ensures) ∙ c .before .before .before .if1 .left) (sym (c .before .before .receiver-class .ensures) ∙ c .if2 .left)
 
 pub check-callee-spec : {M : Type 1} → statement M
 check-callee-spec =

@@ -13,7 +13,7 @@ word-requires-2 : tie.Need-word-requires-2
 word-requires-2 c κs = search needs
 
 returns : tie.Need-returns
-returns c = receiver-none (c .before .before .before .before .before .args .s .now) (c .before .before .before .before .before .args .r) (scopesOf (c .before .before .before .before .before .args .e) (c .before .before .before .before .before .args .v .now)) _ (c .before .before .word .ensures) (λ e. c .if1 .taken (c .before .word2 .ensures ∙ e))
+returns c = receiver-none (c .before .before .before .before .before .args .sheet .now) (c .before .before .before .before .before .args .row) (scopesOf (c .before .before .before .before .before .args .env) (c .before .before .before .before .before .args .entries .now)) _ (c .before .before .word .ensures) (λ e. c .if1 .taken (c .before .word2 .ensures ∙ e))
 
 word-requires-3 : tie.Need-word-requires-3
 word-requires-3 c κs = search needs
@@ -22,7 +22,7 @@ word-requires-4 : tie.Need-word-requires-4
 word-requires-4 c κs = search needs
 
 returns-2 : tie.Need-returns-2
-returns-2 c = receiver-base (c .before .before .before .before .before .before .before .before .args .s .now) (c .before .before .before .before .before .before .before .before .args .r) (scopesOf (c .before .before .before .before .before .before .before .before .args .e) (c .before .before .before .before .before .before .before .before .args .v .now)) _ (c .before .before .before .before .before .word .ensures) _ (c .before .before .word3 .ensures) (λ e. c .if2 .taken (c .before .word4 .ensures ∙ e))
+returns-2 c = receiver-base (c .before .before .before .before .before .before .before .before .args .sheet .now) (c .before .before .before .before .before .before .before .before .args .row) (scopesOf (c .before .before .before .before .before .before .before .before .args .env) (c .before .before .before .before .before .before .before .before .args .entries .now)) _ (c .before .before .before .before .before .word .ensures) _ (c .before .before .word3 .ensures) (λ e. c .if2 .taken (c .before .word4 .ensures ∙ e))
 
 word-requires-5 : tie.Need-word-requires-5
 word-requires-5 c κs = search needs
@@ -34,7 +34,7 @@ class-number-requires : tie.Need-class-number-requires
 class-number-requires c κs = search needs
 
 returns-3 : tie.Need-returns-3
-returns-3 c = receiver-some (c .before .before .before .before .before .before .before .before .before .before .before .args .s .now) (c .before .before .before .before .before .before .before .before .before .before .before .args .r) (scopesOf (c .before .before .before .before .before .before .before .before .before .before .before .args .e) (c .before .before .before .before .before .before .before .before .before .before .before .args .v .now)) _ (c .before .before .before .before .before .before .before .before .word .ensures) _ _ (c .before .before .before .before .before .word3 .ensures) (sym (c .before .before .before .before .before .before .before .word2 .ensures) ∙ c .before .before .before .before .before .before .if1 .left) (sym (c .before .before .before .before .word4 .ensures) ∙ c .before .before .before .if2 .left) (rw (← c .before .before .word5 .ensures) (c .class-number .ensures ∙ ap classNumber (c .before .lookup .ensures .0)))
+returns-3 c = receiver-some (c .before .before .before .before .before .before .before .before .before .before .before .args .sheet .now) (c .before .before .before .before .before .before .before .before .before .before .before .args .row) (scopesOf (c .before .before .before .before .before .before .before .before .before .before .before .args .env) (c .before .before .before .before .before .before .before .before .before .before .before .args .entries .now)) _ (c .before .before .before .before .before .before .before .before .word .ensures) _ _ (c .before .before .before .before .before .word3 .ensures) (sym (c .before .before .before .before .before .before .before .word2 .ensures) ∙ c .before .before .before .before .before .before .if1 .left) (sym (c .before .before .before .before .word4 .ensures) ∙ c .before .before .before .if2 .left) (rw (← c .before .before .word5 .ensures) (c .class-number .ensures ∙ ap classNumber (c .before .lookup .ensures .0)))
 
 pub receiver-class-spec : {M : Type 1} → statement M
 receiver-class-spec =

@@ -10,7 +10,7 @@ use Rattle.walk.proofs.declare.declare.Statement.{statement}
 use Rattle.walk.proofs.declare.declare.Tie as tie
 
 returns : tie.Need-returns
-returns c = λ O q. idle O (c .before .before .before .before .before .args .s .now) (declare (c .before .before .before .before .before .args .r)) (stateOf (c .before .before .before .before .before .args .w) (c .before .before .before .before .before .args .v .now) (c .before .before .before .before .before .args .t .now) q) (c .if1 .taken)
+returns c = λ O q. idle O (c .before .before .before .before .before .args .sheet .now) (declare (c .before .before .before .before .before .args .row)) (stateOf (c .before .before .before .before .before .args .walk) (c .before .before .before .before .before .args .entries .now) (c .before .before .before .before .before .args .results .now) q) (c .if1 .taken)
 
 word-requires : tie.Need-word-requires
 word-requires c κs = search needs
@@ -28,7 +28,7 @@ same-length : tie.Need-same-length
 same-length c = search needs
 
 returns-2 : tie.Need-returns-2
-returns-2 c = λ O q. declare-no O (c .before .before .before .before .before .before .before .before .before .before .before .before .before .args .s .now) (c .before .before .before .before .before .before .before .before .before .before .before .before .before .args .r) (stateOf (c .before .before .before .before .before .before .before .before .before .before .before .before .before .args .w) (c .before .before .before .before .before .before .before .before .before .before .before .before .before .args .v .now) (c .before .before .before .before .before .before .before .before .before .before .before .before .before .args .t .now) q) (c .before .before .before .before .before .before .before .before .if1 .left) _ (c .before .before .before .before .before .word .ensures) _ (c .before .declare-question .ensures) (sym (c .before .before .before .has-local .ensures) ∙ c .before .before .if2 .taken) (c .refuse .ensures (c .before .before .before .before .before .before .before .before .before .before .before .before .before .args .v .now) (c .before .before .before .before .before .before .before .before .before .before .before .before .before .args .t .now) q)
+returns-2 c = λ O q. declare-no O (c .before .before .before .before .before .before .before .before .before .before .before .before .before .args .sheet .now) (c .before .before .before .before .before .before .before .before .before .before .before .before .before .args .row) (stateOf (c .before .before .before .before .before .before .before .before .before .before .before .before .before .args .walk) (c .before .before .before .before .before .before .before .before .before .before .before .before .before .args .entries .now) (c .before .before .before .before .before .before .before .before .before .before .before .before .before .args .results .now) q) (c .before .before .before .before .before .before .before .before .if1 .left) _ (c .before .before .before .before .before .word .ensures) _ (c .before .declare-question .ensures) (sym (c .before .before .before .has-local .ensures) ∙ c .before .before .if2 .taken) (c .refuse .ensures (c .before .before .before .before .before .before .before .before .before .before .before .before .before .args .entries .now) (c .before .before .before .before .before .before .before .before .before .before .before .before .before .args .results .now) q)
 
 declared-by-requires : tie.Need-declared-by-requires
 declared-by-requires c κs = search needs
@@ -37,7 +37,7 @@ store-let-requires : tie.Need-store-let-requires
 store-let-requires c κs =
     let a = c .before .before .before .before .before .before .before .before .before .before .before .before .before .args in (
       c .before .before .before .before .before .before .before .before .before .before .before .before .before .pre,
-      new-declared (a .s .now) (a .r) (scopesOf (a .w .env) (a .v .now)) _ (c .before .declared-by .ensures (a .v .now)),
+      new-declared (a .sheet .now) (a .row) (scopesOf (a .walk .env) (a .entries .now)) _ (c .before .declared-by .ensures (a .entries .now)),
     )
 
 define-requires : tie.Need-define-requires
@@ -50,7 +50,7 @@ same-length-3 : tie.Need-same-length-3
 same-length-3 c = search needs
 
 returns-3 : tie.Need-returns-3
-returns-3 c = λ O q. declare-yes O (c .before .before .before .before .before .before .before .before .before .before .before .before .before .before .before .before .before .before .before .before .args .s .now) (c .before .before .before .before .before .before .before .before .before .before .before .before .before .before .before .before .before .before .before .before .args .r) (stateOf (c .before .before .before .before .before .before .before .before .before .before .before .before .before .before .before .before .before .before .before .before .args .w) (c .before .before .before .before .before .before .before .before .before .before .before .before .before .before .before .before .before .before .before .before .args .v .now) (c .before .before .before .before .before .before .before .before .before .before .before .before .before .before .before .before .before .before .before .before .args .t .now) q) (c .before .before .before .before .before .before .before .before .before .before .before .before .before .before .before .if1 .left) _ (c .before .before .before .before .before .before .before .before .before .before .before .before .word .ensures) (sym (c .before .before .before .before .before .before .before .before .before .before .has-local .ensures) ∙ c .before .before .before .before .before .before .before .before .before .if2 .left) (c .before .before .define .ensures (newMeaning (c .before .before .before .before .before .before .before .before .before .before .before .before .before .before .before .before .before .before .before .before .args .s .now) (c .before .before .before .before .before .before .before .before .before .before .before .before .before .before .before .before .before .before .before .before .args .r) (scopesOf (c .before .before .before .before .before .before .before .before .before .before .before .before .before .before .before .before .before .before .before .before .args .w .env) (c .before .before .before .before .before .before .before .before .before .before .before .before .before .before .before .before .before .before .before .before .args .v .now))) (c .before .before .before .before .before .before .before .before .declared-by .ensures (c .before .before .before .before .before .before .before .before .before .before .before .before .before .before .before .before .before .before .before .before .args .v .now))) (c .before .before .before .before .before .before .store-let .ensures O (c .before .before .before .before .before .before .before .before .before .before .before .before .before .before .before .before .before .before .before .before .args .w .store) (c .before .before .before .before .before .before .before .before .before .before .before .before .before .before .before .before .before .before .before .before .args .v .now) q (c .before .before .before .before .before .before .before .before .declared-by .ensures (c .before .before .before .before .before .before .before .before .before .before .before .before .before .before .before .before .before .before .before .before .args .v .now)))
+returns-3 c = λ O q. declare-yes O (c .before .before .before .before .before .before .before .before .before .before .before .before .before .before .before .before .before .before .before .before .args .sheet .now) (c .before .before .before .before .before .before .before .before .before .before .before .before .before .before .before .before .before .before .before .before .args .row) (stateOf (c .before .before .before .before .before .before .before .before .before .before .before .before .before .before .before .before .before .before .before .before .args .walk) (c .before .before .before .before .before .before .before .before .before .before .before .before .before .before .before .before .before .before .before .before .args .entries .now) (c .before .before .before .before .before .before .before .before .before .before .before .before .before .before .before .before .before .before .before .before .args .results .now) q) (c .before .before .before .before .before .before .before .before .before .before .before .before .before .before .before .if1 .left) _ (c .before .before .before .before .before .before .before .before .before .before .before .before .word .ensures) (sym (c .before .before .before .before .before .before .before .before .before .before .has-local .ensures) ∙ c .before .before .before .before .before .before .before .before .before .if2 .left) (c .before .before .define .ensures (newMeaning (c .before .before .before .before .before .before .before .before .before .before .before .before .before .before .before .before .before .before .before .before .args .sheet .now) (c .before .before .before .before .before .before .before .before .before .before .before .before .before .before .before .before .before .before .before .before .args .row) (scopesOf (c .before .before .before .before .before .before .before .before .before .before .before .before .before .before .before .before .before .before .before .before .args .walk .env) (c .before .before .before .before .before .before .before .before .before .before .before .before .before .before .before .before .before .before .before .before .args .entries .now))) (c .before .before .before .before .before .before .before .before .declared-by .ensures (c .before .before .before .before .before .before .before .before .before .before .before .before .before .before .before .before .before .before .before .before .args .entries .now))) (c .before .before .before .before .before .before .store-let .ensures O (c .before .before .before .before .before .before .before .before .before .before .before .before .before .before .before .before .before .before .before .before .args .walk .store) (c .before .before .before .before .before .before .before .before .before .before .before .before .before .before .before .before .before .before .before .before .args .entries .now) q (c .before .before .before .before .before .before .before .before .declared-by .ensures (c .before .before .before .before .before .before .before .before .before .before .before .before .before .before .before .before .before .before .before .before .args .entries .now)))
 
 pub declare-spec : {M : Type 1} → statement M
 declare-spec =

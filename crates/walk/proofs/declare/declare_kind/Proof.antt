@@ -23,7 +23,7 @@ word-requires : tie.Need-word-requires Inv-loop μ-loop
 word-requires c κs = search needs
 
 loop-holds : tie.Need-loop-holds Inv-loop μ-loop
-loop-holds c = ((λ O q. each-start O (c .before .before .before .before .args .s .now) (is (c .before .before .before .before .args .s .now) (c .before .before .before .before .args .kind)) (c .before .before .before .before .args .r) _ _ (stateOf (c .before .before .before .before .args .w) (c .before .before .before .before .args .v .now) (c .before .before .before .before .args .t .now) q) (c .word .ensures) refl), refl, refl)
+loop-holds c = ((λ O q. each-start O (c .before .before .before .before .args .sheet .now) (is (c .before .before .before .before .args .sheet .now) (c .before .before .before .before .args .kind)) (c .before .before .before .before .args .row) _ _ (stateOf (c .before .before .before .before .args .walk) (c .before .before .before .before .args .entries .now) (c .before .before .before .before .args .results .now) q) (c .word .ensures) refl), refl, refl)
 
 same-length : tie.Need-same-length Inv-loop μ-loop
 same-length c = c .before .before .loop .inv .1
@@ -32,7 +32,7 @@ same-length-2 : tie.Need-same-length-2 Inv-loop μ-loop
 same-length-2 c = c .before .before .loop .inv .2
 
 returns : tie.Need-returns Inv-loop μ-loop
-returns c = λ O q. each-end O (c .before .before .before .before .before .before .before .args .s .now) (is (c .before .before .before .before .before .before .before .args .s .now) (c .before .before .before .before .before .before .before .args .kind)) (c .before .before .loop .n) (c .before .before .loop .k) (stateOf (c .before .before .loop .a) (c .before .before .loop .v) (c .before .before .loop .t) q) (c .if1 .taken) ∙ c .before .before .loop .inv .0 O q
+returns c = λ O q. each-end O (c .before .before .before .before .before .before .before .args .sheet .now) (is (c .before .before .before .before .before .before .before .args .sheet .now) (c .before .before .before .before .before .before .before .args .kind)) (c .before .before .loop .n) (c .before .before .loop .k) (stateOf (c .before .before .loop .a) (c .before .before .loop .entries) (c .before .before .loop .results) q) (c .if1 .taken) ∙ c .before .before .loop .inv .0 O q
 
 declare-if-requires : tie.Need-declare-if-requires Inv-loop μ-loop
 declare-if-requires c κs = search needs
@@ -47,7 +47,7 @@ loop-less : tie.Need-loop-less Inv-loop μ-loop
 loop-less c = omega (arith, c .before .before .before .before .before .before .before .before .before .loop-test .taken)
 
 loop-again : tie.Need-loop-again Inv-loop μ-loop
-loop-again c = ((λ O q. each-more O (c .before .before .before .before .before .before .before .before .before .before .before .before .before .before .before .args .s .now) (is (c .before .before .before .before .before .before .before .before .before .before .before .before .before .before .before .args .s .now) (c .before .before .before .before .before .before .before .before .before .before .before .before .before .before .before .args .kind)) (c .before .before .before .before .before .before .before .before .before .before .loop .n) (c .before .before .before .before .before .before .before .before .before .before .loop .k) _ (stateOf (c .before .before .before .before .before .before .before .before .before .before .loop .a) (c .before .before .before .before .before .before .before .before .before .before .loop .v) (c .before .before .before .before .before .before .before .before .before .before .loop .t) q) _ (c .before .before .before .before .before .before .before .before .before .loop-test .taken) (c .before .before .before .before .before .before .before .before .if1 .left) (c .before .before .before .before .before .declare-if .ensures O q) (c .word2 .ensures) ∙ c .before .before .before .before .before .before .before .before .before .before .loop .inv .0 O q), omega (arith, c .before .before .before .before .before .declare-if .kept, c .before .before .before .before .before .before .before .before .before .before .loop .inv .1), omega (arith, c .before .before .before .before .before .declare-if .kept, c .before .before .before .before .before .before .before .before .before .before .loop .inv .2))
+loop-again c = ((λ O q. each-more O (c .before .before .before .before .before .before .before .before .before .before .before .before .before .before .before .args .sheet .now) (is (c .before .before .before .before .before .before .before .before .before .before .before .before .before .before .before .args .sheet .now) (c .before .before .before .before .before .before .before .before .before .before .before .before .before .before .before .args .kind)) (c .before .before .before .before .before .before .before .before .before .before .loop .n) (c .before .before .before .before .before .before .before .before .before .before .loop .k) _ (stateOf (c .before .before .before .before .before .before .before .before .before .before .loop .a) (c .before .before .before .before .before .before .before .before .before .before .loop .entries) (c .before .before .before .before .before .before .before .before .before .before .loop .results) q) _ (c .before .before .before .before .before .before .before .before .before .loop-test .taken) (c .before .before .before .before .before .before .before .before .if1 .left) (c .before .before .before .before .before .declare-if .ensures O q) (c .word2 .ensures) ∙ c .before .before .before .before .before .before .before .before .before .before .loop .inv .0 O q), omega (arith, c .before .before .before .before .before .declare-if .kept, c .before .before .before .before .before .before .before .before .before .before .loop .inv .1), omega (arith, c .before .before .before .before .before .declare-if .kept, c .before .before .before .before .before .before .before .before .before .before .loop .inv .2))
 
 same-length-3 : tie.Need-same-length-3 Inv-loop μ-loop
 same-length-3 c = c .before .loop .inv .1
@@ -56,7 +56,7 @@ same-length-4 : tie.Need-same-length-4 Inv-loop μ-loop
 same-length-4 c = c .before .loop .inv .2
 
 returns-2 : tie.Need-returns-2 Inv-loop μ-loop
-returns-2 c = λ O q. each-none O (c .before .before .before .before .before .before .args .s .now) (is (c .before .before .before .before .before .before .args .s .now) (c .before .before .before .before .before .before .args .kind)) (c .before .loop .n) (c .before .loop .k) (stateOf (c .before .loop .a) (c .before .loop .v) (c .before .loop .t) q) (c .loop-test .left) ∙ c .before .loop .inv .0 O q
+returns-2 c = λ O q. each-none O (c .before .before .before .before .before .before .args .sheet .now) (is (c .before .before .before .before .before .before .args .sheet .now) (c .before .before .before .before .before .before .args .kind)) (c .before .loop .n) (c .before .loop .k) (stateOf (c .before .loop .a) (c .before .loop .entries) (c .before .loop .results) q) (c .loop-test .left) ∙ c .before .loop .inv .0 O q
 
 pub declare-kind-spec : {M : Type 1} → statement M
 declare-kind-spec =

@@ -18,7 +18,7 @@ same-length : tie.Need-same-length
 same-length c = search needs
 
 returns : tie.Need-returns
-returns c = λ O t q. listed-as O (c .before .before .before .before .before .before .before .before .args .s .now) (c .before .before .before .before .before .before .before .before .args .u) (c .before .before .before .before .before .before .before .before .args .i) (c .before .before .before .before .before .before .before .before .args .k) (stateOf (c .before .before .before .before .before .before .before .before .args .w) (c .before .before .before .before .before .before .before .before .args .v .now) t q) (c .before .before .before .before .before .word .result) (exportOf (c .before .before .before .before .before .before .before .before .args .s .now) (c .before .before .before .before .find-export .result)) (c .before .before .before .before .before .word .ensures) (c .before .before .before .before .find-export .ensures) (c .before .before .bring .ensures O t q)
+returns c = λ O t q. listed-as O (c .before .before .before .before .before .before .before .before .args .sheet .now) (c .before .before .before .before .before .before .before .before .args .u) (c .before .before .before .before .before .before .before .before .args .i) (c .before .before .before .before .before .before .before .before .args .k) (stateOf (c .before .before .before .before .before .before .before .before .args .walk) (c .before .before .before .before .before .before .before .before .args .entries .now) t q) (c .before .before .before .before .before .word .result) (exportOf (c .before .before .before .before .before .before .before .before .args .sheet .now) (c .before .before .before .before .find-export .result)) (c .before .before .before .before .before .word .ensures) (c .before .before .before .before .find-export .ensures) (c .before .before .bring .ensures O t q)
 
 pub bring-listed-spec : {M : Type 1} → statement M
 bring-listed-spec =

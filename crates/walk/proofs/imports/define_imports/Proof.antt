@@ -31,7 +31,7 @@ same-length : tie.Need-same-length Inv-loop μ-loop
 same-length c = c .before .before .loop .inv .1
 
 returns : tie.Need-returns Inv-loop μ-loop
-returns c = λ O t q. chain-end O (c .before .before .before .before .before .before .args .s .now) (ofImport (c .before .before .before .before .before .before .args .s .now) (c .before .before .before .before .before .before .args .u)) (c .before .before .loop .n) (c .before .before .loop .k) (stateOf (c .before .before .loop .x) (c .before .before .loop .v) t q) (c .if1 .taken) ∙ c .before .before .loop .inv .0 O t q ∙ imports-start O (c .before .before .before .before .before .before .args .s .now) (c .before .before .before .word .result) (stateOf (c .before .before .before .before .before .before .args .w) (c .before .before .before .before .before .before .args .v .now) t q) (c .before .before .before .before .before .before .args .u) (c .before .before .before .word .ensures)
+returns c = λ O t q. chain-end O (c .before .before .before .before .before .before .args .sheet .now) (ofImport (c .before .before .before .before .before .before .args .sheet .now) (c .before .before .before .before .before .before .args .u)) (c .before .before .loop .n) (c .before .before .loop .k) (stateOf (c .before .before .loop .x) (c .before .before .loop .entries) t q) (c .if1 .taken) ∙ c .before .before .loop .inv .0 O t q ∙ imports-start O (c .before .before .before .before .before .before .args .sheet .now) (c .before .before .before .word .result) (stateOf (c .before .before .before .before .before .before .args .walk) (c .before .before .before .before .before .before .args .entries .now) t q) (c .before .before .before .before .before .before .args .u) (c .before .before .before .word .ensures)
 
 import-if-requires : tie.Need-import-if-requires Inv-loop μ-loop
 import-if-requires c κs = search needs
@@ -46,13 +46,13 @@ loop-less : tie.Need-loop-less Inv-loop μ-loop
 loop-less c = omega (arith, c .before .before .before .before .before .before .loop-test .taken)
 
 loop-again : tie.Need-loop-again Inv-loop μ-loop
-loop-again c = (λ O t q. chain-next O (c .before .before .before .before .before .before .before .before .before .before .before .args .s .now) (ofImport (c .before .before .before .before .before .before .before .before .before .before .before .args .s .now) (c .before .before .before .before .before .before .before .before .before .before .before .args .u)) (c .before .before .before .before .before .before .before .loop .n) (c .before .before .before .before .before .before .before .loop .k) (stateOf (c .before .before .before .before .before .before .before .loop .x) (c .before .before .before .before .before .before .before .loop .v) t q) (c .before .before .before .before .before .before .loop-test .taken) (c .before .before .before .before .before .if1 .left) (c .word2 .ensures) (c .before .before .before .import-if .ensures O t q) ∙ c .before .before .before .before .before .before .before .loop .inv .0 O t q, omega (arith, c .before .before .before .import-if .kept, c .before .before .before .before .before .before .before .loop .inv .1))
+loop-again c = (λ O t q. chain-next O (c .before .before .before .before .before .before .before .before .before .before .before .args .sheet .now) (ofImport (c .before .before .before .before .before .before .before .before .before .before .before .args .sheet .now) (c .before .before .before .before .before .before .before .before .before .before .before .args .u)) (c .before .before .before .before .before .before .before .loop .n) (c .before .before .before .before .before .before .before .loop .k) (stateOf (c .before .before .before .before .before .before .before .loop .x) (c .before .before .before .before .before .before .before .loop .entries) t q) (c .before .before .before .before .before .before .loop-test .taken) (c .before .before .before .before .before .if1 .left) (c .word2 .ensures) (c .before .before .before .import-if .ensures O t q) ∙ c .before .before .before .before .before .before .before .loop .inv .0 O t q, omega (arith, c .before .before .before .import-if .kept, c .before .before .before .before .before .before .before .loop .inv .1))
 
 same-length-2 : tie.Need-same-length-2 Inv-loop μ-loop
 same-length-2 c = c .before .loop .inv .1
 
 returns-2 : tie.Need-returns-2 Inv-loop μ-loop
-returns-2 c = λ O t q. chain-none O (c .before .before .before .before .before .args .s .now) (ofImport (c .before .before .before .before .before .args .s .now) (c .before .before .before .before .before .args .u)) (c .before .loop .n) (c .before .loop .k) (stateOf (c .before .loop .x) (c .before .loop .v) t q) (c .loop-test .left) ∙ c .before .loop .inv .0 O t q ∙ imports-start O (c .before .before .before .before .before .args .s .now) (c .before .before .word .result) (stateOf (c .before .before .before .before .before .args .w) (c .before .before .before .before .before .args .v .now) t q) (c .before .before .before .before .before .args .u) (c .before .before .word .ensures)
+returns-2 c = λ O t q. chain-none O (c .before .before .before .before .before .args .sheet .now) (ofImport (c .before .before .before .before .before .args .sheet .now) (c .before .before .before .before .before .args .u)) (c .before .loop .n) (c .before .loop .k) (stateOf (c .before .loop .x) (c .before .loop .entries) t q) (c .loop-test .left) ∙ c .before .loop .inv .0 O t q ∙ imports-start O (c .before .before .before .before .before .args .sheet .now) (c .before .before .word .result) (stateOf (c .before .before .before .before .before .args .walk) (c .before .before .before .before .before .args .entries .now) t q) (c .before .before .before .before .before .args .u) (c .before .before .word .ensures)
 
 pub define-imports-spec : {M : Type 1} → statement M
 define-imports-spec =

@@ -17,7 +17,7 @@ same-length : tie.Need-same-length
 same-length c = search needs
 
 returns : tie.Need-returns
-returns c = λ O t q. all-brought O (c .before .before .before .before .before .before .before .before .before .before .before .before .before .before .args .s .now) (c .before .before .before .before .before .before .before .before .before .before .before .before .before .before .args .i) (c .before .before .before .before .before .before .before .before .before .before .before .before .before .before .args .u) (stateOf (c .before .before .before .before .before .before .before .before .before .before .before .before .before .before .args .w) (c .before .before .before .before .before .before .before .before .before .before .before .before .before .before .args .v .now) t q) (c .before .before .before .before .before .before .before .before .before .before .import-kind .ensures O t q) (c .before .before .before .before .before .before .import-kind2 .ensures O t q) (c .before .before .import-kind3 .ensures O t q)
+returns c = λ O t q. all-brought O (c .before .before .before .before .before .before .before .before .before .before .before .before .before .before .args .sheet .now) (c .before .before .before .before .before .before .before .before .before .before .before .before .before .before .args .i) (c .before .before .before .before .before .before .before .before .before .before .before .before .before .before .args .u) (stateOf (c .before .before .before .before .before .before .before .before .before .before .before .before .before .before .args .walk) (c .before .before .before .before .before .before .before .before .before .before .before .before .before .before .args .entries .now) t q) (c .before .before .before .before .before .before .before .before .before .before .import-kind .ensures O t q) (c .before .before .before .before .before .before .import-kind2 .ensures O t q) (c .before .before .import-kind3 .ensures O t q)
 
 pub import-all-spec : {M : Type 1} → statement M
 import-all-spec =

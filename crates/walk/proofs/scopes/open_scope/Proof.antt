@@ -6,7 +6,7 @@ use Rattle.walk.proofs.scopes.open_scope.Statement.{statement}
 use Rattle.walk.proofs.scopes.open_scope.Tie as tie
 
 returns : tie.Need-returns
-returns c = λ O t q. idle O (c .before .before .before .before .args .s .now) (enter (c .before .before .before .before .args .r)) (stateOf (c .before .before .before .before .args .w) (c .before .before .before .before .args .v .now) t q) (c .if1 .taken)
+returns c = λ O t q. idle O (c .before .before .before .before .args .sheet .now) (enter (c .before .before .before .before .args .row)) (stateOf (c .before .before .before .before .args .walk) (c .before .before .before .before .args .entries .now) t q) (c .if1 .taken)
 
 push-scope-requires : tie.Need-push-scope-requires
 push-scope-requires c κs = search needs
@@ -15,7 +15,7 @@ same-length : tie.Need-same-length
 same-length c = search needs
 
 returns-2 : tie.Need-returns-2
-returns-2 c = λ O t q. entered O (c .before .before .before .before .before .before .before .before .before .args .s .now) (stateOf (c .before .before .before .before .before .before .before .before .before .args .w) (c .before .before .before .before .before .before .before .before .before .args .v .now) t q) (c .before .before .before .before .before .if1 .left) (c .before .before .before .before .before .before .before .before .before .args .r) (c .before .before .push-scope .ensures)
+returns-2 c = λ O t q. entered O (c .before .before .before .before .before .before .before .before .before .args .sheet .now) (stateOf (c .before .before .before .before .before .before .before .before .before .args .walk) (c .before .before .before .before .before .before .before .before .before .args .entries .now) t q) (c .before .before .before .before .before .if1 .left) (c .before .before .before .before .before .before .before .before .before .args .row) (c .before .before .push-scope .ensures)
 
 pub open-scope-spec : {M : Type 1} → statement M
 open-scope-spec = tie.close (tie.spec returns push-scope-requires same-length returns-2)

@@ -10,7 +10,7 @@ use Rattle.walk.proofs.visits.resolve_ident.Statement.{statement}
 use Rattle.walk.proofs.visits.resolve_ident.Tie as tie
 
 returns : tie.Need-returns
-returns c = λ O. idle O (c .before .before .before .before .before .before .args .s .now) (visit (c .before .before .before .before .before .before .args .r)) (stateOf (c .before .before .before .before .before .before .args .w) (c .before .before .before .before .before .before .args .v .now) (c .before .before .before .before .before .before .args .t .now) (c .before .before .before .before .before .before .args .q .now)) (c .if1 .taken)
+returns c = λ O. idle O (c .before .before .before .before .before .before .args .sheet .now) (visit (c .before .before .before .before .before .before .args .row)) (stateOf (c .before .before .before .before .before .before .args .walk) (c .before .before .before .before .before .before .args .entries .now) (c .before .before .before .before .before .before .args .results .now) (c .before .before .before .before .before .before .args .nodes .now)) (c .if1 .taken)
 
 word-requires : tie.Need-word-requires
 word-requires c κs = search needs
@@ -28,7 +28,7 @@ refuse-requires : tie.Need-refuse-requires
 refuse-requires c κs = search needs
 
 returns-2 : tie.Need-returns-2
-returns-2 c = λ O. ident-no O (c .before .before .before .before .before .before .before .before .before .before .before .before .before .before .args .s .now) (c .before .before .before .before .before .before .before .before .before .before .before .before .before .before .args .r) (stateOf (c .before .before .before .before .before .before .before .before .before .before .before .before .before .before .args .w) (c .before .before .before .before .before .before .before .before .before .before .before .before .before .before .args .v .now) (c .before .before .before .before .before .before .before .before .before .before .before .before .before .before .args .t .now) (c .before .before .before .before .before .before .before .before .before .before .before .before .before .before .args .q .now)) (c .before .before .before .before .before .before .before .before .if1 .left) (c .before .before .before .before .before .before .before .before .before .before .before .before .before .before .pre .1) _ _ (c .before .before .before .before .before .word .ensures) (c .before .before .before .before .lookup .ensures .0) _ (c .before .undeclared .ensures) (sym (c .before .before .before .is-declared .ensures) ∙ not-true (c .before .before .before .is-declared .result) (c .before .before .if2 .taken)) (c .refuse .ensures (c .before .before .before .before .before .before .before .before .before .before .before .before .before .before .args .v .now) (c .before .before .before .before .before .before .before .before .before .before .before .before .before .before .args .t .now) (c .before .before .before .before .before .before .before .before .before .before .before .before .before .before .args .q .now))
+returns-2 c = λ O. ident-no O (c .before .before .before .before .before .before .before .before .before .before .before .before .before .before .args .sheet .now) (c .before .before .before .before .before .before .before .before .before .before .before .before .before .before .args .row) (stateOf (c .before .before .before .before .before .before .before .before .before .before .before .before .before .before .args .walk) (c .before .before .before .before .before .before .before .before .before .before .before .before .before .before .args .entries .now) (c .before .before .before .before .before .before .before .before .before .before .before .before .before .before .args .results .now) (c .before .before .before .before .before .before .before .before .before .before .before .before .before .before .args .nodes .now)) (c .before .before .before .before .before .before .before .before .if1 .left) (c .before .before .before .before .before .before .before .before .before .before .before .before .before .before .pre .1) _ _ (c .before .before .before .before .before .word .ensures) (c .before .before .before .before .lookup .ensures .0) _ (c .before .undeclared .ensures) (sym (c .before .before .before .is-declared .ensures) ∙ not-true (c .before .before .before .is-declared .result) (c .before .before .if2 .taken)) (c .refuse .ensures (c .before .before .before .before .before .before .before .before .before .before .before .before .before .before .args .entries .now) (c .before .before .before .before .before .before .before .before .before .before .before .before .before .before .args .results .now) (c .before .before .before .before .before .before .before .before .before .before .before .before .before .before .args .nodes .now))
 
 capture-requires : tie.Need-capture-requires
 capture-requires c κs = search needs
@@ -50,7 +50,7 @@ same-length-2 : tie.Need-same-length-2
 same-length-2 c = search needs
 
 returns-3 : tie.Need-returns-3
-returns-3 c = λ O. ident-yes O (c .before .before .before .before .before .before .before .before .before .before .before .before .before .before .before .before .before .before .before .before .before .before .before .before .before .before .before .args .s .now) (c .before .before .before .before .before .before .before .before .before .before .before .before .before .before .before .before .before .before .before .before .before .before .before .before .before .before .before .args .r) (stateOf (c .before .before .before .before .before .before .before .before .before .before .before .before .before .before .before .before .before .before .before .before .before .before .before .before .before .before .before .args .w) (c .before .before .before .before .before .before .before .before .before .before .before .before .before .before .before .before .before .before .before .before .before .before .before .before .before .before .before .args .v .now) (c .before .before .before .before .before .before .before .before .before .before .before .before .before .before .before .before .before .before .before .before .before .before .before .before .before .before .before .args .t .now) (c .before .before .before .before .before .before .before .before .before .before .before .before .before .before .before .before .before .before .before .before .before .before .before .before .before .before .before .args .q .now)) (c .before .before .before .before .before .before .before .before .before .before .before .before .before .before .before .before .before .before .before .before .before .if1 .left) (c .before .before .before .before .before .before .before .before .before .before .before .before .before .before .before .before .before .before .before .before .before .before .before .before .before .before .before .pre .1) _ _ (c .before .before .before .before .before .before .before .before .before .before .before .before .before .before .before .before .before .before .word .ensures) (c .before .before .before .before .before .before .before .before .before .before .before .before .before .before .before .before .before .lookup .ensures .0) _ _ _ _ _ (c .before .before .before .before .before .before .before .before .before .before .before .before .before .before .before .before .before .lookup .ensures .1) (c .before .before .before .before .before .before .before .before .before .before .before .before .before .before .before .before .before .lookup .ensures .2) (sym (c .before .before .before .before .before .before .before .before .before .before .before .before .before .before .before .before .is-declared .ensures) ∙ not-false (c .before .before .before .before .before .before .before .before .before .before .before .before .before .before .before .before .is-declared .result) (c .before .before .before .before .before .before .before .before .before .before .before .before .before .before .before .if2 .left)) (c .before .before .before .before .before .before .before .before .before .before .before .capture .ensures) (told-four (c .before .before .before .before .seen-in .result) ∙ c .before .before .before .before .seen-in .ensures _) (c .before .before .write-decl .ensures _ _)
+returns-3 c = λ O. ident-yes O (c .before .before .before .before .before .before .before .before .before .before .before .before .before .before .before .before .before .before .before .before .before .before .before .before .before .before .before .args .sheet .now) (c .before .before .before .before .before .before .before .before .before .before .before .before .before .before .before .before .before .before .before .before .before .before .before .before .before .before .before .args .row) (stateOf (c .before .before .before .before .before .before .before .before .before .before .before .before .before .before .before .before .before .before .before .before .before .before .before .before .before .before .before .args .walk) (c .before .before .before .before .before .before .before .before .before .before .before .before .before .before .before .before .before .before .before .before .before .before .before .before .before .before .before .args .entries .now) (c .before .before .before .before .before .before .before .before .before .before .before .before .before .before .before .before .before .before .before .before .before .before .before .before .before .before .before .args .results .now) (c .before .before .before .before .before .before .before .before .before .before .before .before .before .before .before .before .before .before .before .before .before .before .before .before .before .before .before .args .nodes .now)) (c .before .before .before .before .before .before .before .before .before .before .before .before .before .before .before .before .before .before .before .before .before .if1 .left) (c .before .before .before .before .before .before .before .before .before .before .before .before .before .before .before .before .before .before .before .before .before .before .before .before .before .before .before .pre .1) _ _ (c .before .before .before .before .before .before .before .before .before .before .before .before .before .before .before .before .before .before .word .ensures) (c .before .before .before .before .before .before .before .before .before .before .before .before .before .before .before .before .before .lookup .ensures .0) _ _ _ _ _ (c .before .before .before .before .before .before .before .before .before .before .before .before .before .before .before .before .before .lookup .ensures .1) (c .before .before .before .before .before .before .before .before .before .before .before .before .before .before .before .before .before .lookup .ensures .2) (sym (c .before .before .before .before .before .before .before .before .before .before .before .before .before .before .before .before .is-declared .ensures) ∙ not-false (c .before .before .before .before .before .before .before .before .before .before .before .before .before .before .before .before .is-declared .result) (c .before .before .before .before .before .before .before .before .before .before .before .before .before .before .before .if2 .left)) (c .before .before .before .before .before .before .before .before .before .before .before .capture .ensures) (told-four (c .before .before .before .before .seen-in .result) ∙ c .before .before .before .before .seen-in .ensures _) (c .before .before .write-decl .ensures _ _)
 
 pub resolve-ident-spec : {M : Type 1} → statement M
 resolve-ident-spec =

@@ -10,7 +10,7 @@ use Rattle.walk.proofs.visits.resolve_parent.Statement.{statement}
 use Rattle.walk.proofs.visits.resolve_parent.Tie as tie
 
 returns : tie.Need-returns
-returns c = λ O q. idle O (c .before .before .before .before .before .args .s .now) (visit (c .before .before .before .before .before .args .r)) (stateOf (c .before .before .before .before .before .args .w) (c .before .before .before .before .before .args .v .now) (c .before .before .before .before .before .args .t .now) q) (c .if1 .taken)
+returns c = λ O q. idle O (c .before .before .before .before .before .args .sheet .now) (visit (c .before .before .before .before .before .args .row)) (stateOf (c .before .before .before .before .before .args .walk) (c .before .before .before .before .before .args .entries .now) (c .before .before .before .before .before .args .results .now) q) (c .if1 .taken)
 
 word-requires : tie.Need-word-requires
 word-requires c κs = search needs
@@ -31,7 +31,7 @@ refuse-requires : tie.Need-refuse-requires
 refuse-requires c κs = search needs
 
 returns-2 : tie.Need-returns-2
-returns-2 c = λ O q. parent-no O (c .before .before .before .before .before .before .before .before .before .before .before .before .args .s .now) (c .before .before .before .before .before .before .before .before .before .before .before .before .args .r) (stateOf (c .before .before .before .before .before .before .before .before .before .before .before .before .args .w) (c .before .before .before .before .before .before .before .before .before .before .before .before .args .v .now) (c .before .before .before .before .before .before .before .before .before .before .before .before .args .t .now) q) (c .before .before .before .before .before .before .before .if1 .left) (c .before .before .before .before .before .before .before .before .before .before .before .before .pre) _ _ _ (c .before .before .before .before .before .before .word .ensures) (c .before .before .before .before .before .word2 .ensures) (c .before .before .before .class-number .ensures ∙ ap classNumber (c .before .before .before .before .lookup .ensures .0)) (sym (c .before .before .names-class .ensures) ∙ not-true (c .before .before .names-class .result) (c .before .if2 .taken)) (c .refuse .ensures (c .before .before .before .before .before .before .before .before .before .before .before .before .args .v .now) (c .before .before .before .before .before .before .before .before .before .before .before .before .args .t .now) q)
+returns-2 c = λ O q. parent-no O (c .before .before .before .before .before .before .before .before .before .before .before .before .args .sheet .now) (c .before .before .before .before .before .before .before .before .before .before .before .before .args .row) (stateOf (c .before .before .before .before .before .before .before .before .before .before .before .before .args .walk) (c .before .before .before .before .before .before .before .before .before .before .before .before .args .entries .now) (c .before .before .before .before .before .before .before .before .before .before .before .before .args .results .now) q) (c .before .before .before .before .before .before .before .if1 .left) (c .before .before .before .before .before .before .before .before .before .before .before .before .pre) _ _ _ (c .before .before .before .before .before .before .word .ensures) (c .before .before .before .before .before .word2 .ensures) (c .before .before .before .class-number .ensures ∙ ap classNumber (c .before .before .before .before .lookup .ensures .0)) (sym (c .before .before .names-class .ensures) ∙ not-true (c .before .before .names-class .result) (c .before .if2 .taken)) (c .refuse .ensures (c .before .before .before .before .before .before .before .before .before .before .before .before .args .entries .now) (c .before .before .before .before .before .before .before .before .before .before .before .before .args .results .now) q)
 
 write-parent-requires : tie.Need-write-parent-requires
 write-parent-requires c κs = search needs
@@ -40,7 +40,7 @@ same-length : tie.Need-same-length
 same-length c = search needs
 
 returns-3 : tie.Need-returns-3
-returns-3 c = λ O q. parent-yes O (c .before .before .before .before .before .before .before .before .before .before .before .before .before .before .before .args .s .now) (c .before .before .before .before .before .before .before .before .before .before .before .before .before .before .before .args .r) (stateOf (c .before .before .before .before .before .before .before .before .before .before .before .before .before .before .before .args .w) (c .before .before .before .before .before .before .before .before .before .before .before .before .before .before .before .args .v .now) (c .before .before .before .before .before .before .before .before .before .before .before .before .before .before .before .args .t .now) q) (c .before .before .before .before .before .before .before .before .before .before .if1 .left) (c .before .before .before .before .before .before .before .before .before .before .before .before .before .before .before .pre) _ _ _ (c .before .before .before .before .before .before .before .before .before .word .ensures) (c .before .before .before .before .before .before .before .before .word2 .ensures) (c .before .before .before .before .before .before .class-number .ensures ∙ ap classNumber (c .before .before .before .before .before .before .before .lookup .ensures .0)) _ (sym (c .before .before .before .before .before .names-class .ensures) ∙ not-false (c .before .before .before .before .before .names-class .result) (c .before .before .before .before .if2 .left)) (c .before .before .write-parent .ensures _ q)
+returns-3 c = λ O q. parent-yes O (c .before .before .before .before .before .before .before .before .before .before .before .before .before .before .before .args .sheet .now) (c .before .before .before .before .before .before .before .before .before .before .before .before .before .before .before .args .row) (stateOf (c .before .before .before .before .before .before .before .before .before .before .before .before .before .before .before .args .walk) (c .before .before .before .before .before .before .before .before .before .before .before .before .before .before .before .args .entries .now) (c .before .before .before .before .before .before .before .before .before .before .before .before .before .before .before .args .results .now) q) (c .before .before .before .before .before .before .before .before .before .before .if1 .left) (c .before .before .before .before .before .before .before .before .before .before .before .before .before .before .before .pre) _ _ _ (c .before .before .before .before .before .before .before .before .before .word .ensures) (c .before .before .before .before .before .before .before .before .word2 .ensures) (c .before .before .before .before .before .before .class-number .ensures ∙ ap classNumber (c .before .before .before .before .before .before .before .lookup .ensures .0)) _ (sym (c .before .before .before .before .before .names-class .ensures) ∙ not-false (c .before .before .before .before .before .names-class .result) (c .before .before .before .before .if2 .left)) (c .before .before .write-parent .ensures _ q)
 
 pub resolve-parent-spec : {M : Type 1} → statement M
 resolve-parent-spec =
