@@ -9,12 +9,12 @@ ghost use Rattle.row_fits.specs.Pass.{rowsNoted};
 ghost use Rattle.links.specs.Rising.{Rising};
 ghost use Rattle.first_four.specs.Questions.{formatQuestion};
 ghost use Rattle.first_four.specs.Whole.{linksOk, rowsAll};
-use crate::pass::all_cross;
-use crate::pass::all_depths;
-use crate::pass::fill;
 use distinct::all_apart;
 use links::linked_once;
 use links::links_rise;
+use passes::all_cross;
+use passes::all_depths;
+use passes::fill;
 use tree::words::word;
 
 // Row 0 is the header.

@@ -4,7 +4,6 @@ ghost use Rattle.definition.specs.Outcome.{rowsFit};
 ghost use Rattle.first_four.specs.Questions.{firstFour};
 
 mod format;
-mod pass;
 
 use crate::format::format_question;
 

@@ -7,8 +7,8 @@ use native.Mathlib.Omega.{arith}
 use Prim.Native.Nat.{ℕ, _<_, _≤_, _-_}
 use mathlib.Core.Bool.{true}
 use mathlib.Core.Path.{_≡_, sym, _∙_}
-use Rattle.first_four.proofs.pass.all_depths.Statement.{statement}
-use Rattle.first_four.proofs.pass.all_depths.Tie as tie
+use Rattle.passes.proofs.all_depths.Statement.{statement}
+use Rattle.passes.proofs.all_depths.Tie as tie
 
 abbrev Inv-loop : tie.InvT-loop
 Inv-loop n t r₀ r = (r ≤ n) × ((k : ℕ) → k < r → depthOk t k ≡ true)

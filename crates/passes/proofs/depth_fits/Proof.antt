@@ -1,7 +1,7 @@
 use Rattle.row_fits.specs.Pass.{depthOk}
 use borrow.Author.Needs.{needs}
-use Rattle.first_four.proofs.pass.depth_fits.Statement.{statement}
-use Rattle.first_four.proofs.pass.depth_fits.Tie as tie
+use Rattle.passes.proofs.depth_fits.Statement.{statement}
+use Rattle.passes.proofs.depth_fits.Tie as tie
 
 word-requires : tie.Need-word-requires
 word-requires c κs = search needs

@@ -1,8 +1,8 @@
 use Rattle.row_fits.specs.Pass.{crossOk}
 use borrow.Author.Tests.{not-true, not-false}
 use borrow.Author.Needs.{needs}
-use Rattle.first_four.proofs.pass.cross_fits.Statement.{statement}
-use Rattle.first_four.proofs.pass.cross_fits.Tie as tie
+use Rattle.passes.proofs.cross_fits.Statement.{statement}
+use Rattle.passes.proofs.cross_fits.Tie as tie
 
 literal-fits-requires : tie.Need-literal-fits-requires
 literal-fits-requires c κs = search needs

@@ -9,8 +9,8 @@ use borrow.Author.Needs.{needs}
 use native.Mathlib.Omega.{arith}
 use Prim.Native.Nat.{_≤_, _-_}
 use mathlib.Core.Path.{_≡_, refl, sym, _∙_}
-use Rattle.first_four.proofs.pass.fill.Statement.{statement}
-use Rattle.first_four.proofs.pass.fill.Tie as tie
+use Rattle.passes.proofs.fill.Statement.{statement}
+use Rattle.passes.proofs.fill.Tie as tie
 
 abbrev Inv-loop : tie.InvT-loop
 Inv-loop s n last t₀ r₀ t r = (r ≤ n) × (length t ≡ length t₀) × (rowsOk s last (n - r) r t ≡ rowsOk s last n 0 t₀) × (rowsNoted s (n - r) r t ≡ rowsNoted s n 0 t₀)
