@@ -17,7 +17,7 @@ ghost use Rattle.outside.specs.Words.{over};
 mod rows;
 
 use crate::rows::emit_rows;
-use class_rows::marks::mark_parents;
+use class_names::marks::mark_parents;
 use first_four::first_four;
 use fun_rows::literals::link_literals;
 use inherit::later_refusal;

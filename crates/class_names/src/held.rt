@@ -5,7 +5,7 @@ ghost use Rattle.outside.specs.Words.{over};
 ghost use Rattle.outside.specs.Found.{recordedNames};
 ghost use Rattle.store.specs.Stored.{storeOf};
 ghost use Rattle.store.specs.declared.nodes.Store.{Store};
-ghost use Rattle.class_rows.specs.Names.{rowNames, ownIn, namesIn, inherited};
+ghost use Rattle.class_names.specs.Names.{rowNames, ownIn, namesIn, inherited};
 use ast::ClassId;
 use ast::FIRST_CLASS;
 use inherit::parent_of;

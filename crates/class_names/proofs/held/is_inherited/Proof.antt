@@ -1,8 +1,8 @@
-use Rattle.class_rows.proofs.NameLaws.{inherits-none, inherits-some}
+use Rattle.class_names.proofs.NameLaws.{inherits-none, inherits-some}
 use Rattle.store.specs.Stored.{storeOf}
 use borrow.Author.Needs.{needs}
-use Rattle.class_rows.proofs.held.is_inherited.Statement.{statement}
-use Rattle.class_rows.proofs.held.is_inherited.Tie as tie
+use Rattle.class_names.proofs.held.is_inherited.Statement.{statement}
+use Rattle.class_names.proofs.held.is_inherited.Tie as tie
 use Rattle.outside.specs.Words.{over}
 
 returns : tie.Need-returns

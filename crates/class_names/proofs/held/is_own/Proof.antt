@@ -1,15 +1,15 @@
 use Rattle.tree.proofs.FindLaws.{row-number}
-use Rattle.class_rows.proofs.NameLaws.{own-row, own-record}
+use Rattle.class_names.proofs.NameLaws.{own-row, own-record}
 use Rattle.store.specs.Stored.{storeOf}
 use Rattle.outside.specs.Words.{over}
 use mathlib.Core.Path.{sym, _∙_}
 use borrow.Author.Needs.{needs}
-use Rattle.class_rows.proofs.held.is_own.Statement.{statement}
-use Rattle.class_rows.proofs.held.is_own.Tie as tie
-use Rattle.class_rows.proofs.held.is_own.Reads as reads
-use Rattle.class_rows.proofs.held.is_own.Lts as lts
-use Rattle.class_rows.proofs.held.is_recorded.Reads as is-recorded-reads
-use Rattle.class_rows.proofs.held.is_row_name.Reads as is-row-name-reads
+use Rattle.class_names.proofs.held.is_own.Statement.{statement}
+use Rattle.class_names.proofs.held.is_own.Tie as tie
+use Rattle.class_names.proofs.held.is_own.Reads as reads
+use Rattle.class_names.proofs.held.is_own.Lts as lts
+use Rattle.class_names.proofs.held.is_recorded.Reads as is-recorded-reads
+use Rattle.class_names.proofs.held.is_row_name.Reads as is-row-name-reads
 use Rattle.tree.proofs.lists.is_class_row.Reads as is-class-row-reads
 
 -- src/held.rt:52:8

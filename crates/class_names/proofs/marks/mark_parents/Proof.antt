@@ -1,11 +1,11 @@
-use Rattle.class_rows.proofs.MarkLaws.{MarkedTo, marked-start, marked-next, marked-end}
+use Rattle.class_names.proofs.MarkLaws.{MarkedTo, marked-start, marked-next, marked-end}
 use borrow.Author.Needs.{needs}
 use lib.ListN.{length}
 use native.Mathlib.Omega.{arith}
 use Prim.Native.Nat.{_-_, _≤_}
 use mathlib.Core.Path.{_≡_, refl}
-use Rattle.class_rows.proofs.marks.mark_parents.Statement.{statement}
-use Rattle.class_rows.proofs.marks.mark_parents.Tie as tie
+use Rattle.class_names.proofs.marks.mark_parents.Statement.{statement}
+use Rattle.class_names.proofs.marks.mark_parents.Tie as tie
 
 abbrev Inv-loop : tie.InvT-loop
 Inv-loop s t marks₀ n r₀ marks r = MarkedTo s t marks r × (r ≤ n) × (length marks ≡ length marks₀)

@@ -14,7 +14,7 @@ use Rattle.definition.specs.Classes.{ofSheet, ownMethods, methodAt, mergeFields
 use Rattle.machine.specs.Machine.{Store, Node, cell, listAt, chainTo, hasKey}
 use Rattle.machine.proofs.Lists.{eqb-same, any-append}
 use Rattle.after.specs.Inherited.{parentIn, ownFieldsIn, fieldsIn, methodNamesIn}
-use Rattle.class_rows.specs.Names.{rowNames, ownIn, namesIn, inherited, newOf}
+use Rattle.class_names.specs.Names.{rowNames, ownIn, namesIn, inherited, newOf}
 
 pub or-false : (t : Bool) → (t || false) ≡ t
 or-false true = refl

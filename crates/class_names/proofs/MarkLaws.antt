@@ -12,8 +12,8 @@ use Rattle.definition.specs.Basics.{if_then_else_, any, from}
 use Rattle.definition.specs.Sheet.{Sheet, kind, rows, is}
 use Rattle.machine.specs.Machine.{cell}
 use Rattle.after.specs.Inherited.{hasChildrenIn}
-use Rattle.class_rows.specs.Names.{ParentMarks, markParent}
-use Rattle.class_rows.proofs.NameLaws.{or-false}
+use Rattle.class_names.specs.Names.{ParentMarks, markParent}
+use Rattle.class_names.proofs.NameLaws.{or-false}
 
 or-true : (t : Bool) → (t || true) ≡ true
 or-true true = refl

@@ -1,5 +1,5 @@
-use Rattle.class_rows.proofs.NameLaws.{names-own, names-top, names-up, names-none}
-use Rattle.class_rows.specs.Names.{namesIn}
+use Rattle.class_names.proofs.NameLaws.{names-own, names-top, names-up, names-none}
+use Rattle.class_names.specs.Names.{namesIn}
 use Rattle.store.specs.declared.nodes.Store.{Store}
 use Rattle.store.specs.Stored.{storeOf}
 use Rattle.definition.specs.Basics.{_∈?_}
@@ -8,8 +8,8 @@ use borrow.Author.Needs.{needs}
 use native.Mathlib.Omega.{arith}
 use Prim.Native.Nat.{_≤_}
 use mathlib.Core.Path.{_≡_, refl, sym, _∙_}
-use Rattle.class_rows.proofs.held.has_name.Statement.{statement}
-use Rattle.class_rows.proofs.held.has_name.Tie as tie
+use Rattle.class_names.proofs.held.has_name.Statement.{statement}
+use Rattle.class_names.proofs.held.has_name.Tie as tie
 
 abbrev Inv-loop : tie.InvT-loop
 Inv-loop s outside t q kind n m at₀ left₀ at left = ((o : Store) → (m ∈? namesIn (over outside) s (storeOf o t q) kind left at) ≡ (m ∈? namesIn (over outside) s (storeOf o t q) kind left₀ at₀)) × (left ≤ left₀)

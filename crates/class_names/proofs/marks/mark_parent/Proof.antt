@@ -1,7 +1,7 @@
-use Rattle.class_rows.proofs.MarkLaws.{mark-none, mark-outside, mark-set, mark-past}
+use Rattle.class_names.proofs.MarkLaws.{mark-none, mark-outside, mark-set, mark-past}
 use borrow.Author.Needs.{needs}
-use Rattle.class_rows.proofs.marks.mark_parent.Statement.{statement}
-use Rattle.class_rows.proofs.marks.mark_parent.Tie as tie
+use Rattle.class_names.proofs.marks.mark_parent.Statement.{statement}
+use Rattle.class_names.proofs.marks.mark_parent.Tie as tie
 
 word-requires : tie.Need-word-requires
 word-requires c κs = search needs

@@ -3,10 +3,10 @@ use Prim.Native.Nat.{ℕ}
 use mathlib.Core.List.{List}
 use mathlib.Core.Path.{ap, _∙_}
 use borrow.Author.Needs.{needs}
-use Rattle.class_rows.proofs.held.is_recorded.Statement.{statement}
-use Rattle.class_rows.proofs.held.is_recorded.Tie as tie
-use Rattle.class_rows.proofs.held.is_recorded.Reads as reads
-use Rattle.class_rows.proofs.held.is_recorded.Lts as lts
+use Rattle.class_names.proofs.held.is_recorded.Statement.{statement}
+use Rattle.class_names.proofs.held.is_recorded.Tie as tie
+use Rattle.class_names.proofs.held.is_recorded.Reads as reads
+use Rattle.class_names.proofs.held.is_recorded.Lts as lts
 use Rattle.outside.proofs.records.is_listed.Reads as is-listed-reads
 use Rattle.outside.proofs.records.recorded_names.Reads as recorded-names-reads
 

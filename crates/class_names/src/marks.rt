@@ -3,7 +3,7 @@ ghost use mathlib.Core.Path.{_≡_};
 ghost use Prim.Native.Nat.{ℕ, _≤_};
 ghost use lib.ListN.{length, getD};
 ghost use Rattle.definition.specs.Sheet.{rows};
-ghost use Rattle.class_rows.specs.Names.{ParentMarks, markParent};
+ghost use Rattle.class_names.specs.Names.{ParentMarks, markParent};
 use ast::FIRST_CLASS;
 use tree::words::word;
 

@@ -1,11 +1,11 @@
-use Rattle.class_rows.proofs.NameLaws.{row-listed, row-stored, row-none}
+use Rattle.class_names.proofs.NameLaws.{row-listed, row-stored, row-none}
 use Rattle.store.specs.Stored.{storeOf}
 use mathlib.Core.Path.{sym, _∙_}
 use borrow.Author.Needs.{needs}
-use Rattle.class_rows.proofs.held.is_row_name.Statement.{statement}
-use Rattle.class_rows.proofs.held.is_row_name.Tie as tie
-use Rattle.class_rows.proofs.held.is_row_name.Reads as reads
-use Rattle.class_rows.proofs.held.is_row_name.Lts as lts
+use Rattle.class_names.proofs.held.is_row_name.Statement.{statement}
+use Rattle.class_names.proofs.held.is_row_name.Tie as tie
+use Rattle.class_names.proofs.held.is_row_name.Reads as reads
+use Rattle.class_names.proofs.held.is_row_name.Lts as lts
 use Rattle.store.proofs.nodes.has_key.Reads as has-key-reads
 use Rattle.tree.proofs.lists.has_named.Reads as has-named-reads
 use Rattle.tree.proofs.words.word.Reads as word-reads
