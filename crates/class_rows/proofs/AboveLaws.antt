@@ -16,7 +16,7 @@ use Rattle.after.specs.Inherited.{parentIn, methodsIn}
 use Rattle.sink.specs.Sink.{sink, emitAll}
 use Rattle.store.specs.Stored.{storeOf}
 use Rattle.store.specs.declared.nodes.Store.{Store}
-use Rattle.class_rows.specs.Names.{namesIn}
+use Rattle.class_names.specs.Names.{namesIn}
 use Rattle.class_rows.specs.Put.{Wants}
 use Rattle.class_rows.specs.Places.{functionIn, nameColumn, Stands, Placed, placeOf, aboveOf, Shows, Shown, Counted}
 use Rattle.class_rows.specs.declared.places.Above.{Above}

@@ -19,10 +19,10 @@ use Rattle.sink.specs.Sink.{Sink, sink, emit, emitAll}
 use Rattle.sink.proofs.SinkLaws.{emit-full, emit-none, emit-first, emit-both}
 use Rattle.store.specs.Stored.{storeOf}
 use Rattle.store.specs.declared.nodes.Store.{Store}
-use Rattle.class_rows.specs.Names.{namesIn, ClassReady, headWords}
+use Rattle.class_names.specs.Names.{namesIn, ClassReady, headWords}
 use Rattle.class_rows.specs.Put.{Filled, Wants, nameRow, put, putAll}
 use Rattle.class_rows.specs.declared.put.Wanted.{Wanted}
-use Rattle.class_rows.proofs.NameLaws.{names-fields, names-methods}
+use Rattle.class_names.proofs.NameLaws.{names-fields, names-methods}
 use Rattle.class_rows.proofs.PutLaws.{slot-counts}
 
 pub bit-clear : (x : ℕ) → x ≡ 0 → 0 ≡ bit (not (eqb x 0))

@@ -1,4 +1,3 @@
-mod NameLaws
 mod PutLaws
 mod KeptLaws
 mod StableLaws
@@ -6,4 +5,3 @@ pub mod PlaceLaws
 mod AboveLaws
 mod LineLaws
 mod ClassLaws
-mod MarkLaws

@@ -15,11 +15,11 @@ use Rattle.machine.specs.Machine.{Store as Stored}
 use Rattle.after.specs.Inherited.{parentIn}
 use Rattle.inherit.proofs.MethodLaws.{method-here, method-up}
 use Rattle.sink.specs.Sink.{sink}
-use Rattle.class_rows.specs.Names.{ownIn, namesIn, inherited, newOf}
+use Rattle.class_names.specs.Names.{ownIn, namesIn, inherited, newOf}
 use Rattle.class_rows.specs.Put.{Filled, nameRow, put, putAll, copiedRow}
 use Rattle.class_rows.specs.Places.{column, functionIn, nameColumn}
 use Rattle.class_rows.specs.declared.put.Wanted.{Wanted}
-use Rattle.class_rows.proofs.NameLaws.{names-split}
+use Rattle.class_names.proofs.NameLaws.{names-split}
 use Rattle.class_rows.proofs.KeptLaws.{Kept, emit-kept, kept-then}
 use Rattle.class_rows.proofs.PutLaws.{put-none, names-after, slot-counts}
 

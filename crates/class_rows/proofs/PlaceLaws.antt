@@ -19,9 +19,9 @@ use Rattle.after.specs.Rows.{classRowsNamed}
 use Rattle.sink.specs.Sink.{Sink, sink, emitAll}
 use Rattle.store.specs.Stored.{storeOf}
 use Rattle.store.specs.declared.nodes.Store.{Store}
-use Rattle.class_rows.specs.Names.{namesIn, headWords}
+use Rattle.class_names.specs.Names.{namesIn, headWords}
 use Rattle.class_rows.specs.Places.{column, Stands, Placed}
-use Rattle.class_rows.proofs.NameLaws.{names-fields, names-methods}
+use Rattle.class_names.proofs.NameLaws.{names-fields, names-methods}
 use Rattle.class_rows.proofs.KeptLaws.{Kept, all-kept, column-length, column-kept, column-append, all-fit, all-written}
 use Rattle.class_rows.proofs.StableLaws.{Steady}
 

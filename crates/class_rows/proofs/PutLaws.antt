@@ -18,10 +18,10 @@ use Rattle.machine.specs.Machine.{Store, Node, oneMore, cell, nodeWord, nodeAt,
 use Rattle.machine.proofs.ByKind.{list-none, list-more}
 use Rattle.after.specs.Inherited.{parentIn, methodsIn, ownFieldsIn}
 use Rattle.sink.specs.Sink.{Sink, emit}
-use Rattle.class_rows.specs.Names.{rowNames, ownIn, namesIn, inherited, newOf}
+use Rattle.class_names.specs.Names.{rowNames, ownIn, namesIn, inherited, newOf}
 use Rattle.class_rows.specs.Put.{Filled, nameRow, put, putAll}
 use Rattle.class_rows.specs.declared.put.Wanted.{Wanted}
-use Rattle.class_rows.proofs.NameLaws.{names-split}
+use Rattle.class_names.proofs.NameLaws.{names-split}
 
 pub more-fits : (n : ℕ) → n < 4294967295 → n + 1 ≡ oneMore n
 more-fits n l = let e : n + 1 ≡ suc n = omega arith in rw (lt-ltb n 4294967295 l, e)

@@ -11,7 +11,7 @@ use Rattle.definition.specs.Outside.{Outside}
 use Rattle.definition.specs.Classes.{ofSheet, ownMethods, mergeFields, mergeMethods}
 use Rattle.machine.specs.Machine.{Store as Stored}
 use Rattle.after.specs.Inherited.{parentIn, methodsIn}
-use Rattle.class_rows.specs.Names.{ownIn, namesIn}
+use Rattle.class_names.specs.Names.{ownIn, namesIn}
 
 module _ (O : Outside) (s : Sheet) (o : Stored) where
   -- What f gives for the class of row r is the same for all climbs of more than r classes.

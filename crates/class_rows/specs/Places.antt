@@ -12,7 +12,7 @@ use Rattle.machine.specs.Machine.{Store as Stored}
 use Rattle.after.specs.Inherited.{parentIn, methodsIn}
 use Rattle.store.specs.Stored.{storeOf}
 use Rattle.store.specs.declared.nodes.Store.{Store}
-use Rattle.class_rows.specs.Names.{namesIn}
+use Rattle.class_names.specs.Names.{namesIn}
 use Rattle.class_rows.specs.declared.places.Above.{Above}
 
 -- column c of the n rows from row i on

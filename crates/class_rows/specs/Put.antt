@@ -12,7 +12,7 @@ use Rattle.machine.specs.Machine.{Store as Stored, oneMore}
 use Rattle.after.specs.Inherited.{methodsIn}
 use Rattle.sink.specs.Sink.{Sink, sink, emit}
 use Rattle.sink.specs.declared.AnswerRow.{AnswerRow}
-use Rattle.class_rows.specs.Names.{inherited, newOf}
+use Rattle.class_names.specs.Names.{inherited, newOf}
 use Rattle.class_rows.specs.declared.put.Passed.{Passed}
 use Rattle.class_rows.specs.declared.put.Wanted.{Wanted}
 use Rattle.class_rows.specs.declared.put.Written.{Written}

@@ -12,14 +12,12 @@ ghost use Rattle.after.specs.Rows.{classRowsNamed};
 ghost use Rattle.sink.specs.Sink.{sink, emitAll};
 ghost use Rattle.store.specs.Stored.{storeOf};
 ghost use Rattle.store.specs.declared.nodes.Store.{Store};
-ghost use Rattle.class_rows.specs.Names.{ClassReady, headWords};
+ghost use Rattle.class_names.specs.Names.{ClassReady, headWords};
 ghost use Rattle.class_rows.specs.Put.{Wants, wordsOf};
 ghost use Rattle.class_rows.specs.Places.{Placed, Shown, Counted};
 
 mod copied;
-mod held;
 mod line;
-pub mod marks;
 mod places;
 mod put;
 

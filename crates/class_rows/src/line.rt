@@ -6,7 +6,7 @@ ghost use Rattle.definition.specs.Sheet.{rows};
 ghost use Rattle.outside.specs.Words.{over};
 ghost use Rattle.store.specs.Stored.{storeOf};
 ghost use Rattle.store.specs.declared.nodes.Store.{Store};
-ghost use Rattle.class_rows.specs.Names.{namesIn};
+ghost use Rattle.class_names.specs.Names.{namesIn};
 ghost use Rattle.class_rows.specs.Put.{filled, nameRow, putAll};
 ghost use Rattle.class_rows.specs.Places.{Shown, Counted};
 use crate::copied::put_copied;

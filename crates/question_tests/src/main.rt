@@ -28,7 +28,7 @@ use libc::STDIN_FILENO;
 use libc::STDOUT_FILENO;
 
 fn ask(case: &[u8], words: &[u32], names: &[u8], used: Used) {
-    let no = sheet::first_four(
+    let no = first_four::first_four(
         first_words(words, used.words),
         first_bytes(names, used.names),
     );

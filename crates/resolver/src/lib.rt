@@ -17,13 +17,13 @@ ghost use Rattle.outside.specs.Words.{over};
 mod rows;
 
 use crate::rows::emit_rows;
-use class_rows::marks::mark_parents;
+use class_names::marks::mark_parents;
+use first_four::first_four;
 use fun_rows::literals::link_literals;
 use inherit::later_refusal;
 use lexer::SrcPos;
 use outside::plain::core_words;
 use resolve_syms::resolve_units;
-use sheet::first_four;
 use store::nodes::Store;
 use text::clear;
 use tree::words::word;

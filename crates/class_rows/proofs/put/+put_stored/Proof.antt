@@ -1,6 +1,6 @@
 use Rattle.class_rows.proofs.PutLaws.{stored-none, stored-last}
 use Rattle.class_rows.specs.Put.{filled, nameRow}
-use Rattle.class_rows.specs.Names.{inherited}
+use Rattle.class_names.specs.Names.{inherited}
 use Rattle.store.specs.Stored.{storeOf}
 use borrow.Author.Needs.{needs}
 use native.Mathlib.Omega.{arith}

@@ -1,6 +1,6 @@
 use Rattle.class_rows.proofs.ClassLaws.{names-counted}
 use Rattle.class_rows.specs.Put.{nameRow}
-use Rattle.class_rows.specs.Names.{namesIn}
+use Rattle.class_names.specs.Names.{namesIn}
 use Rattle.store.specs.Stored.{storeOf}
 use mathlib.Core.Path.{refl}
 use borrow.Author.Needs.{needs}

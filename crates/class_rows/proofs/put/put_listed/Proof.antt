@@ -1,6 +1,6 @@
 use Rattle.class_rows.proofs.PutLaws.{namesFrom, listed-start, listed-none, listed-end, listed-here, listed-skip}
 use Rattle.class_rows.specs.Put.{filled, nameRow, putAll}
-use Rattle.class_rows.specs.Names.{inherited, newOf}
+use Rattle.class_names.specs.Names.{inherited, newOf}
 use Rattle.store.specs.declared.nodes.Store.{Store}
 use Rattle.store.specs.Stored.{storeOf}
 use Rattle.definition.specs.Sheet.{a, kidsOf}

@@ -1,6 +1,6 @@
 use Rattle.class_rows.proofs.PutLaws.{new-old, new-put}
 use Rattle.class_rows.specs.Put.{filled, nameRow}
-use Rattle.class_rows.specs.Names.{inherited}
+use Rattle.class_names.specs.Names.{inherited}
 use Rattle.store.specs.Stored.{storeOf}
 use mathlib.Core.Path.{sym, _∙_}
 use borrow.Author.Needs.{needs}

@@ -1,7 +1,7 @@
 use Rattle.tree.proofs.FindLaws.{row-number}
 use Rattle.class_rows.proofs.PutLaws.{own-stored, own-listed, own-recorded}
 use Rattle.class_rows.specs.Put.{filled, nameRow}
-use Rattle.class_rows.specs.Names.{inherited}
+use Rattle.class_names.specs.Names.{inherited}
 use Rattle.store.specs.Stored.{storeOf}
 use Rattle.outside.specs.Words.{over}
 use mathlib.Core.Path.{sym, _∙_}

@@ -1,6 +1,6 @@
 use Rattle.class_rows.proofs.PutLaws.{spaced-end, spaced-next}
 use Rattle.class_rows.specs.Put.{filled, nameRow, putAll, putNew}
-use Rattle.class_rows.specs.Names.{inherited, newOf}
+use Rattle.class_names.specs.Names.{inherited, newOf}
 use Rattle.store.specs.declared.nodes.Store.{Store}
 use Rattle.store.specs.Stored.{storeOf}
 use Rattle.outside.proofs.RecordLaws.{step-few}

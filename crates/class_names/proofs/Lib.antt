@@ -1,0 +1,2 @@
+pub mod NameLaws
+mod MarkLaws

@@ -1,0 +1,18 @@
+use Rattle.class_names.proofs.NameLaws.{inherits-none, inherits-some}
+use Rattle.store.specs.Stored.{storeOf}
+use borrow.Author.Needs.{needs}
+use Rattle.class_names.proofs.held.is_inherited.Statement.{statement}
+use Rattle.class_names.proofs.held.is_inherited.Tie as tie
+use Rattle.outside.specs.Words.{over}
+
+returns : tie.Need-returns
+returns c = λ o. let a = c .before .before .before .before .before .before .args in inherits-none (over (a .outside .now)) (a .sheet .now) (storeOf o (a .results .now) (a .nodes .now)) (a .kind) (a .n) (a .p .0) (a .m) (c .if1 .taken)
+
+has-name-requires : tie.Need-has-name-requires
+has-name-requires c κs = search needs
+
+returns-2 : tie.Need-returns-2
+returns-2 c = λ o. let a = c .before .before .before .before .before .before .before .args in inherits-some (over (a .outside .now)) (a .sheet .now) (storeOf o (a .results .now) (a .nodes .now)) (a .kind) (a .n) (a .p .0) (a .m) (c .before .if1 .left) (c .has-name .ensures o)
+
+pub is-inherited-spec : {M : Type 1} → statement M
+is-inherited-spec = tie.close (tie.spec returns has-name-requires returns-2)

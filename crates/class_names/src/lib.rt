@@ -1,0 +1,3 @@
+// Which names a class has, and which classes have children.
+pub mod held;
+pub mod marks;

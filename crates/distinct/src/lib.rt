@@ -1,0 +1,114 @@
+// Names of one unit's classes and exports, and of one class's fields and methods: is none there twice?
+ghost use mathlib.Core.Path.{_≡_};
+ghost use mathlib.Core.Bool.{true};
+ghost use Prim.Native.Nat.{_*_, _<_, _≤_};
+ghost use lib.ListN.{length, getD, set};
+ghost use Rattle.definition.specs.Basics.{all, from};
+ghost use Rattle.definition.specs.Sheet.{rows, kids};
+ghost use Rattle.definition.specs.Format.{linksRise};
+ghost use Rattle.distinct.specs.Apart.{childUnmarked, childMarked, unmarked, marked, stamp, unitUnmarked, unitMarked, classUnmarked, classMarked, rowUnmarked, rowMarked, allUnmarked};
+ghost use Rattle.links.specs.Rising.{Rising};
+use tree::words::word;
+
+fn mark_of(marks: &[u32], i: u32) -> u32
+    ensures { λ x. ⌜ x ≡ getD (now (marks .entry)) i 0 ⌝ }
+{
+    let at = i as usize;
+    if at < marks.len() { marks[at] } else { 0 }
+}
+
+fn set_mark(marks: &mut [u32], i: u32, mark: u32)
+    ensures { λ _. ⌜ now (marks .exit) ≡ set (now (marks .entry)) i mark ⌝ }
+{
+    let at = i as usize;
+    if at < marks.len() {
+        marks[at] = mark;
+    }
+}
+
+// Has row `c`, if it is of a kind, a name that is not marked with `mark` yet? It is marked then.
+fn child_apart(sheet: &[u32], c: u32, kind: u32, mark: u32, marks: &mut [u32]) -> bool
+    ensures { λ x. ⌜ x ≡ childUnmarked (now (sheet .entry)) kind mark (now (marks .entry)) c ⌝ }
+    ensures { λ x. ⌜ (x ≡ true → now (marks .exit) ≡ childMarked (now (sheet .entry)) kind mark (now (marks .entry)) c) ⌝ }
+{
+    if word(sheet, c, 0) != kind {
+        return true;
+    }
+    let name = word(sheet, c, 6);
+    if mark_of(marks, name) == mark {
+        return false;
+    }
+    set_mark(marks, name, mark);
+    true
+}
+
+// Have the children of `row` that are of a kind names that are not marked with `mark` yet? Each is marked then.
+fn names_apart(sheet: &[u32], row: u32, kind: u32, mark: u32, marks: &mut [u32]) -> bool
+    requires { ⌜ Rising (now sheet) × (row < rows (now sheet)) ⌝ }
+    ensures { λ x. ⌜ x ≡ unmarked (now (sheet .entry)) kind mark (now (marks .entry)) (kids (now (sheet .entry)) row) ⌝ }
+    ensures { λ x. ⌜ (x ≡ true → now (marks .exit) ≡ marked (now (sheet .entry)) kind mark (now (marks .entry)) (kids (now (sheet .entry)) row)) ⌝ }
+{
+    let mut c = word(sheet, row, 2);
+    while c != 0 {
+        if !child_apart(sheet, c, kind, mark, marks) {
+            return false;
+        }
+        c = word(sheet, c, 1);
+    }
+    true
+}
+
+fn unit_apart(sheet: &[u32], row: u32, marks: &mut [u32]) -> bool
+    requires { ⌜ Rising (now sheet) × (row < rows (now sheet)) × (row < 2048) ⌝ }
+    ensures { λ x. ⌜ x ≡ unitUnmarked (now (sheet .entry)) row (now (marks .entry)) ⌝ }
+    ensures { λ x. ⌜ (x ≡ true → now (marks .exit) ≡ unitMarked (now (sheet .entry)) row (now (marks .entry))) ⌝ }
+{
+    if !names_apart(sheet, row, 4, 4 * row + 1, marks) {
+        return false;
+    }
+    if !names_apart(sheet, row, 7, 4 * row + 2, marks) {
+        return false;
+    }
+    names_apart(sheet, row, 8, 4 * row + 3, marks)
+}
+
+fn class_apart(sheet: &[u32], row: u32, marks: &mut [u32]) -> bool
+    requires { ⌜ Rising (now sheet) × (row < rows (now sheet)) × (row < 2048) ⌝ }
+    ensures { λ x. ⌜ x ≡ classUnmarked (now (sheet .entry)) row (now (marks .entry)) ⌝ }
+    ensures { λ x. ⌜ (x ≡ true → now (marks .exit) ≡ classMarked (now (sheet .entry)) row (now (marks .entry))) ⌝ }
+{
+    if !names_apart(sheet, row, 10, 4 * row + 1, marks) {
+        return false;
+    }
+    names_apart(sheet, row, 6, 4 * row + 2, marks)
+}
+
+fn row_apart(sheet: &[u32], row: u32, marks: &mut [u32]) -> bool
+    requires { ⌜ Rising (now sheet) × (row < rows (now sheet)) × (row < 2048) ⌝ }
+    ensures { λ x. ⌜ x ≡ rowUnmarked (now (sheet .entry)) row (now (marks .entry)) ⌝ }
+    ensures { λ x. ⌜ (x ≡ true → now (marks .exit) ≡ rowMarked (now (sheet .entry)) row (now (marks .entry))) ⌝ }
+{
+    let kind = word(sheet, row, 0);
+    if kind == 2 {
+        return unit_apart(sheet, row, marks);
+    }
+    if kind == 4 {
+        return class_apart(sheet, row, marks);
+    }
+    true
+}
+
+// The same of every row. `marks` has a mark for each name, all 0 at first.
+pub fn all_apart(sheet: &[u32], n: u32, marks: &mut [u32]) -> bool
+    requires { ⌜ Rising (now sheet) × (n ≤ rows (now sheet)) × (n ≤ 2048) ⌝ }
+    ensures { λ x. ⌜ x ≡ allUnmarked (now (sheet .entry)) n 0 (now (marks .entry)) ⌝ }
+{
+    let mut r: u32 = 0;
+    while r < n {
+        if !row_apart(sheet, r, marks) {
+            return false;
+        }
+        r += 1;
+    }
+    true
+}

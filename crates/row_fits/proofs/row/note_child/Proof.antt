@@ -1,0 +1,26 @@
+use Rattle.row_fits.specs.Pass.{noteChild}
+use borrow.Author.Tests.{eq-eqb, ne-eqb}
+use borrow.Author.Needs.{needs}
+use Rattle.row_fits.proofs.row.note_child.Statement.{statement}
+use Rattle.row_fits.proofs.row.note_child.Tie as tie
+
+child-entry-requires : tie.Need-child-entry-requires
+child-entry-requires c κs = search needs
+
+put-entry-requires : tie.Need-put-entry-requires
+put-entry-requires c κs = search needs
+
+same-length : tie.Need-same-length
+same-length c = search needs
+
+returns : tie.Need-returns
+unfolding noteChild
+returns c = rw (ne-eqb _ _ (c .before .before .before .before .before .if1 .taken), c .before .before .put-entry .ensures, c .before .before .before .child-entry .ensures)
+
+returns-2 : tie.Need-returns-2
+unfolding noteChild
+returns-2 c = rw (eq-eqb _ _ (c .if1 .left))
+
+pub note-child-spec : {M : Type 1} → statement M
+note-child-spec =
+    tie.close (tie.spec child-entry-requires put-entry-requires same-length returns returns-2)

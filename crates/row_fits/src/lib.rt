@@ -1,0 +1,3 @@
+// What question 3 asks of one row.
+pub mod row;
+mod tables;

@@ -1,0 +1,368 @@
+// One row of a sheet: what question 3 asks of it when the pass reaches it, and what it tells of its next row and first child.
+ghost use mathlib.Core.Path.{_≡_};
+ghost use mathlib.Core.Bool.{not, _&&_, _||_};
+ghost use Prim.Native.Nat.{_+_, _-_, min};
+ghost use lib.Dec.{eqb, leb, ltb};
+ghost use Rattle.definition.specs.Sheet.{kind, next, rows, is};
+ghost use Rattle.definition.specs.Shape.{holds as holdsRule};
+ghost use Rattle.row_fits.specs.States.{entryOf, kindTable, ruleAt};
+ghost use Rattle.row_fits.specs.Pass.{rowIn, entryIn, columnsOk, plainOk, functionOk, stateAfter, endsIn, endsOk, newOk, rowAsked, rowOk, putEntry, noteNext, noteChild, noteOwn, noteDeclared, noteRow, unitHere, funInside, classHere, childEntry, nextEntry};
+use crate::tables::class_of;
+use crate::tables::may_end;
+use crate::tables::next_state;
+use crate::tables::rule_a;
+use crate::tables::rule_b;
+use crate::tables::start_of;
+use tree::words::put;
+use tree::words::word;
+
+// The words of a row that are asked about.
+pub struct Row {
+    pub kind: u32,
+    pub next: u32,
+    pub child: u32,
+    pub file: u32,
+    pub a: u32,
+    pub b: u32,
+}
+
+// What the table says of a row.
+pub struct Entry {
+    pub parent: u32,
+    pub depth: u32,
+    pub unit: u32,
+    pub fun: u32,
+    pub class: u32,
+    pub state: u32,
+}
+
+fn row_at(sheet: &[u32], row: u32) -> Row
+    ensures { λ x. ⌜ x ≡ rowIn (now (sheet .entry)) row ⌝ }
+{
+    Row {
+        kind: word(sheet, row, 0),
+        next: word(sheet, row, 1),
+        child: word(sheet, row, 2),
+        file: word(sheet, row, 3),
+        a: word(sheet, row, 6),
+        b: word(sheet, row, 7),
+    }
+}
+
+fn entry_at(table: &[u32], row: u32) -> Entry
+    ensures { λ x. ⌜ x ≡ entryIn (now (table .entry)) row ⌝ }
+{
+    Entry {
+        parent: word(table, row, 0),
+        depth: word(table, row, 1),
+        unit: word(table, row, 2),
+        fun: word(table, row, 3),
+        class: word(table, row, 4),
+        state: word(table, row, 5),
+    }
+}
+
+fn put_entry(table: &mut [u32], row: u32, e: Entry)
+    ensures { λ _. ⌜ now (table .exit) ≡ putEntry (now (table .entry)) row e ⌝ }
+{
+    put(table, row, 0, e.parent);
+    put(table, row, 1, e.depth);
+    put(table, row, 2, e.unit);
+    put(table, row, 3, e.fun);
+    put(table, row, 4, e.class);
+    put(table, row, 5, e.state);
+}
+
+// Is `mark` a row of kind `k`?
+fn is_row(sheet: &[u32], k: u32, mark: u32) -> bool
+    ensures { λ x. ⌜ x ≡ (ltb mark (rows (now (sheet .entry))) && is (now (sheet .entry)) k mark) ⌝ }
+{
+    if (mark as usize) < sheet.len() / 8 {
+        return word(sheet, mark, 0) == k;
+    }
+    false
+}
+
+// Is `mark` a name's number, where `last` is the last?
+fn is_name(last: u32, mark: u32) -> bool
+    ensures { λ x. ⌜ x ≡ (leb 1 mark && leb mark last) ⌝ }
+{
+    if 1 <= mark {
+        return mark <= last;
+    }
+    false
+}
+
+fn zero_or(mark: u32, x: bool) -> bool
+    ensures { λ y. ⌜ y ≡ (eqb mark 0 || x) ⌝ }
+{
+    if mark == 0 {
+        return true;
+    }
+    x
+}
+
+// Is `mark` a let's mode: 0, 1, or 2 + g for a global g below `start`?
+fn is_mode(start: u32, mark: u32) -> bool
+    ensures { λ x. ⌜ x ≡ (leb mark 1 || ltb (mark - 2) start) ⌝ }
+{
+    if mark <= 1 {
+        return true;
+    }
+    mark - 2 < start
+}
+
+// Does value `mark` fit a rule of columns, where `last` is the last name?
+fn holds(sheet: &[u32], last: u32, rule: u32, mark: u32) -> bool
+    ensures { λ x. ⌜ x ≡ holdsRule (now (sheet .entry)) last (ruleAt rule) mark ⌝ }
+{
+    match rule {
+        1 => true,
+        2 => mark <= 1,
+        3 => is_name(last, mark),
+        4 => zero_or(mark, is_name(last, mark)),
+        5 => mark <= 1000000,
+        6 => is_row(sheet, 2, mark),
+        7 => is_row(sheet, 6, mark),
+        8 => is_row(sheet, 4, mark),
+        9 => zero_or(mark, is_row(sheet, 4, mark)),
+        10 => zero_or(mark, is_row(sheet, 6, mark)),
+        11 => mark < word(sheet, 0, 6),
+        12 => is_mode(word(sheet, 0, 6), mark),
+        _ => mark <= 0,
+    }
+}
+
+fn columns_fit(sheet: &[u32], last: u32, w: Row) -> bool
+    ensures { λ x. ⌜ x ≡ columnsOk (now (sheet .entry)) last (w .kind) (w .a) (w .b) ⌝ }
+{
+    if holds(sheet, last, rule_a(w.kind), w.a) {
+        return holds(sheet, last, rule_b(w.kind), w.b);
+    }
+    false
+}
+
+fn plain_fits(sheet: &[u32], w: Row) -> bool
+    ensures { λ x. ⌜ x ≡ plainOk (now (sheet .entry)) w ⌝ }
+{
+    if w.file >= 262144 {
+        return false;
+    }
+    if w.kind != 29 {
+        return true;
+    }
+    if w.b < 2 {
+        return true;
+    }
+    word(sheet, w.child, 0) != 52
+}
+
+// A unit's function has a block and nothing else.
+fn unit_function_fits(sheet: &[u32], w: Row) -> bool
+    ensures { λ x. ⌜ x ≡ (eqb (w .b) 1 && (eqb (kind (now (sheet .entry)) (w .child)) 25 && eqb (next (now (sheet .entry)) (w .child)) 0)) ⌝ }
+{
+    if w.b != 1 {
+        return false;
+    }
+    if word(sheet, w.child, 0) != 25 {
+        return false;
+    }
+    word(sheet, w.child, 1) == 0
+}
+
+fn function_fits(sheet: &[u32], w: Row, p: u32) -> bool
+    ensures { λ x. ⌜ x ≡ functionOk (now (sheet .entry)) w p ⌝ }
+{
+    if w.kind != 6 {
+        return true;
+    }
+    let holder = word(sheet, p, 0);
+    if holder == 2 {
+        return unit_function_fits(sheet, w);
+    }
+    if w.b != 0 {
+        return false;
+    }
+    if holder != 4 {
+        return true;
+    }
+    w.a != 0
+}
+
+fn state_after(q: u32, kind: u32) -> u32
+    ensures { λ x. ⌜ x ≡ stateAfter q kind ⌝ }
+{
+    next_state(q, class_of(kind))
+}
+
+// May the list that a row is in, with state `q` before it, end after it if it does? Row 0 is in none.
+fn list_ends(w: Row, row: u32, q: u32) -> bool
+    ensures { λ x. ⌜ x ≡ (eqb row 0 || (not (eqb (w .next) 0) || endsIn (stateAfter q (w .kind)))) ⌝ }
+{
+    if row == 0 {
+        return true;
+    }
+    if w.next != 0 {
+        return true;
+    }
+    may_end(state_after(q, w.kind))
+}
+
+// May the child list of a row be empty if it is?
+fn child_list_ends(w: Row) -> bool
+    ensures { λ x. ⌜ x ≡ (not (eqb (w .child) 0) || endsIn (entryOf kindTable (w .kind) 1)) ⌝ }
+{
+    if w.child != 0 {
+        return true;
+    }
+    may_end(start_of(w.kind))
+}
+
+fn ends_fit(w: Row, row: u32, q: u32) -> bool
+    ensures { λ x. ⌜ x ≡ endsOk w row q ⌝ }
+{
+    if !child_list_ends(w) {
+        return false;
+    }
+    list_ends(w, row, q)
+}
+
+fn first_declared(table: &[u32], w: Row) -> bool
+    ensures { λ x. ⌜ x ≡ newOk (now (table .entry)) w ⌝ }
+{
+    if w.kind != 30 {
+        return true;
+    }
+    word(table, w.a, 7) == 0
+}
+
+// What question 3 asks of `row` with words `w`, parent `p` and the state `q` of its list before it.
+fn row_asked(sheet: &[u32], last: u32, w: Row, row: u32, p: u32, q: u32, table: &[u32]) -> bool
+    ensures { λ x. ⌜ x ≡ rowAsked (now (sheet .entry)) last w row p q (now (table .entry)) ⌝ }
+{
+    if !columns_fit(sheet, last, w) {
+        return false;
+    }
+    if !plain_fits(sheet, w) {
+        return false;
+    }
+    if !function_fits(sheet, w, p) {
+        return false;
+    }
+    if !ends_fit(w, row, q) {
+        return false;
+    }
+    first_declared(table, w)
+}
+
+// The same when the pass reaches `row`.
+pub fn row_fits(sheet: &[u32], last: u32, row: u32, table: &[u32]) -> bool
+    ensures { λ x. ⌜ x ≡ rowOk (now (sheet .entry)) last row (now (table .entry)) ⌝ }
+{
+    let w = row_at(sheet, row);
+    let p = word(table, row, 0);
+    let q = word(table, row, 5);
+    row_asked(sheet, last, w, row, p, q, table)
+}
+
+fn deeper(d: u32) -> u32
+    ensures { λ x. ⌜ x ≡ min (d + 1) 4294967295 ⌝ }
+{
+    if d < 4294967295 { d + 1 } else { d }
+}
+
+fn class_here(sheet: &[u32], kind: u32, e: Entry) -> u32
+    ensures { λ x. ⌜ x ≡ classHere (now (sheet .entry)) kind e ⌝ }
+{
+    if kind != 6 {
+        return e.class;
+    }
+    if word(sheet, e.parent, 0) != 4 {
+        return e.class;
+    }
+    e.parent
+}
+
+fn unit_here(row: u32, kind: u32, e: Entry) -> u32
+    ensures { λ x. ⌜ x ≡ unitHere row kind e ⌝ }
+{
+    if kind == 2 { row } else { e.unit }
+}
+
+// The innermost function around what `row` holds.
+fn fun_inside(row: u32, kind: u32, e: Entry) -> u32
+    ensures { λ x. ⌜ x ≡ funInside row kind e ⌝ }
+{
+    if kind == 6 { row } else { e.fun }
+}
+
+fn child_entry(sheet: &[u32], row: u32, kind: u32, e: Entry) -> Entry
+    ensures { λ x. ⌜ x ≡ childEntry (now (sheet .entry)) row kind e ⌝ }
+{
+    Entry {
+        parent: row,
+        depth: deeper(e.depth),
+        unit: unit_here(row, kind, e),
+        fun: fun_inside(row, kind, e),
+        class: class_here(sheet, kind, e),
+        state: start_of(kind),
+    }
+}
+
+fn next_entry(kind: u32, e: Entry) -> Entry
+    ensures { λ x. ⌜ x ≡ nextEntry kind e ⌝ }
+{
+    Entry {
+        parent: e.parent,
+        depth: e.depth,
+        unit: e.unit,
+        fun: e.fun,
+        class: e.class,
+        state: state_after(e.state, kind),
+    }
+}
+
+fn note_next(next: u32, kind: u32, e: Entry, table: &mut [u32])
+    ensures { λ _. ⌜ now (table .exit) ≡ noteNext next kind e (now (table .entry)) ⌝ }
+{
+    if next != 0 {
+        put_entry(table, next, next_entry(kind, e));
+    }
+}
+
+fn note_child(sheet: &[u32], row: u32, w: Row, e: Entry, table: &mut [u32])
+    ensures { λ _. ⌜ now (table .exit) ≡ noteChild (now (sheet .entry)) row w e (now (table .entry)) ⌝ }
+{
+    if w.child != 0 {
+        put_entry(table, w.child, child_entry(sheet, row, w.kind, e));
+    }
+}
+
+fn note_own(sheet: &[u32], row: u32, kind: u32, e: Entry, table: &mut [u32])
+    ensures { λ _. ⌜ now (table .exit) ≡ noteOwn (now (sheet .entry)) row kind e (now (table .entry)) ⌝ }
+{
+    let unit = unit_here(row, kind, e);
+    let class = class_here(sheet, kind, e);
+    put(table, row, 2, unit);
+    put(table, row, 4, class);
+}
+
+fn note_declared(row: u32, w: Row, table: &mut [u32])
+    ensures { λ _. ⌜ now (table .exit) ≡ noteDeclared row w (now (table .entry)) ⌝ }
+{
+    if w.kind == 30 {
+        put(table, w.a, 7, row);
+    }
+}
+
+// What `row` tells: the entries of its next row and first child, its own unit and class, the class that it declares.
+pub fn note_row(sheet: &[u32], row: u32, table: &mut [u32])
+    ensures { λ _. ⌜ now (table .exit) ≡ noteRow (now (sheet .entry)) row (now (table .entry)) ⌝ }
+{
+    let w = row_at(sheet, row);
+    let e = entry_at(table, row);
+    note_next(w.next, w.kind, e, table);
+    note_child(sheet, row, w, e, table);
+    note_own(sheet, row, w.kind, e, table);
+    note_declared(row, w, table);
+}
