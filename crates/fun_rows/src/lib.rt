@@ -167,14 +167,5 @@ pub fn emit_function(
     ];
     let counted = emit_words(f.0, x, k, out);
     let captured = emit_captured(sheet, nodes, f.0, last, counted, out);
-    emit_escapes(
-        sheet,
-        results,
-        nodes,
-        literals,
-        siblings,
-        f,
-        captured,
-        out,
-    )
+    emit_escapes(sheet, results, nodes, literals, siblings, f, captured, out)
 }
