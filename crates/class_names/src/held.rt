@@ -11,10 +11,10 @@ use ast::FIRST_CLASS;
 use inherit::parent_of;
 use outside::records::is_listed;
 use outside::records::recorded_names;
+use sheet::has_named;
+use sheet::is_class_row;
 use store::nodes::has_key;
-use tree::lists::has_named;
-use tree::lists::is_class_row;
-use tree::words::word;
+use words::word;
 
 // Is `m` a name of a class from outside?
 fn is_recorded(outside: &[u32], kind: u32, c: ClassId, m: u32) -> bool

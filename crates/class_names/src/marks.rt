@@ -5,7 +5,7 @@ ghost use lib.ListN.{length, getD};
 ghost use Rattle.definition.specs.Sheet.{rows};
 ghost use Rattle.class_names.specs.Names.{ParentMarks, markParent};
 use ast::FIRST_CLASS;
-use tree::words::word;
+use words::word;
 
 // Marks the row of the parent of `row`, if `row` is a class whose parent is of the sheet.
 fn mark_parent(sheet: &[u32], results: &[u32], row: u32, subclassed: &mut [u32])

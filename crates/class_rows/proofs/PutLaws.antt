@@ -1,7 +1,7 @@
 -- Rows that tell names, written one after another.
 use mathlib.Core.Path.{_≡_, refl, sym, ap, _∙_}
 use mathlib.Core.Bool.{Bool, true, false, not}
-use mathlib.Core.List.{List, [], _∷_, _++_, map}
+use mathlib.Core.List.{List, [], _∷_, _++_, map, append-nil}
 use Prim.Native.Nat.{ℕ, zero, suc, _+_, _-_, _*_, _<_, _≤_, min}
 use native.Mathlib.Omega.{arith}
 use lib.Dec.{ltb}
@@ -155,10 +155,6 @@ module _ (f : ℕ → ℕ → List ℕ) (up q : List ℕ) (p : ℕ) (k : Filled)
           ∙ sym (ap (keysTo q) z ∙ ap (map (λ (y : Node). y .key)) (list-more q (p - 1)) ∙ map-last (chainTo q (previous q (p - 1))) (nodeAt q (p - 1)))
 
 -- Own names, by the row or the record of class c.
-append-none : (xs : List ℕ) → xs ≡ xs ++ []
-append-none [] = refl
-append-none (x ∷ xs) = ap (λ (l : List ℕ). x ∷ l) (append-none xs)
-
 module _ (O : Outside) (f : ℕ → ℕ → List ℕ) (up : List ℕ) (s : Sheet) (o : Store) (j c : ℕ) (k : Filled) where
   module _ (t : true ≡ ofSheet s c) {x : Filled} (h : x ≡ putAll f (newOf up (map (a s) (kidsOf s j (c - 256)))) k) where
     by-row : putAll f (newOf up (rowNames s o j (c - 256))) k ≡ putAll f (newOf up (ownIn O s o j c)) k
@@ -174,7 +170,7 @@ module _ (O : Outside) (f : ℕ → ℕ → List ℕ) (up : List ℕ) (s : Sheet
     -- methods: listed
     pub own-listed : (j ≡ 10 → ⊥) → x ≡ putAll f (newOf up (ownIn O s o j c)) k
     unfolding rowNames
-    own-listed e = h ∙ ap (λ (ms : List ℕ). putAll f (newOf up ms) k) (append-none (map (a s) (kidsOf s j (c - 256))))
+    own-listed e = h ∙ ap (λ (ms : List ℕ). putAll f (newOf up ms) k) (sym (append-nil (map (a s) (kidsOf s j (c - 256)))))
         ∙ ap (λ (u : Bool). putAll f (newOf up (map (a s) (kidsOf s j (c - 256)) ++ (if u then map (λ y. y .key) (listAt o (8 * (c - 256) + 7)) else []))) k) (sym (ne-eqb j 10 e)) ∙ by-row
 
   pub own-recorded : {ms : List ℕ} {x : Filled} → false ≡ ofSheet s c → ms ≡ recordedNames O j c → x ≡ putAll f (newOf up ms) k → x ≡ putAll f (newOf up (ownIn O s o j c)) k

@@ -14,7 +14,7 @@ use ast::FunId;
 use outside::records::own_method;
 use sink::AnswerRow;
 use sink::emit;
-use symbols::decl::one_more;
+use words::one_more;
 
 // The own method of name `m` of a class, else function `f`.
 fn own_or(sheet: &[u32], outside: &[u32], c: ClassId, m: u32, f: FunId) -> FunId

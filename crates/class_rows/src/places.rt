@@ -8,7 +8,7 @@ ghost use Rattle.definition.specs.Classes.{ofSheet};
 ghost use Rattle.class_rows.specs.Places.{placeOf, aboveOf};
 use ast::ClassId;
 use ast::FIRST_CLASS;
-use tree::lists::is_class_row;
+use sheet::is_class_row;
 
 // Where the names of a class stand: their first row and their number. Row 0: nowhere.
 pub struct Above {

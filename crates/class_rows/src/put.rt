@@ -19,14 +19,14 @@ use inherit::parent_of;
 use outside::records::Listed;
 use outside::records::recorded_names;
 use outside::records::step_of;
-use outside::records::word_at;
+use sheet::is_class_row;
 use sink::AnswerRow;
 use sink::emit;
 use store::nodes::node_before;
 use store::nodes::node_word;
-use symbols::decl::one_more;
-use tree::lists::is_class_row;
-use tree::words::word;
+use words::one_more;
+use words::word;
+use words::word_at;
 
 // Whose names are written, and which: the kind of their rows, the class's row, the class.
 pub struct Wanted {

@@ -6,25 +6,9 @@ ghost use Rattle.definition.specs.Sheet.{rows};
 ghost use Rattle.definition.specs.Outside.{Outside};
 ghost use Rattle.machine.specs.Reads.{PastFour};
 ghost use Rattle.classes.specs.Table.{kidsClass, linked, rowDone, Clear, ClassTable};
-use tree::words::word;
-
-// Entry `i` of a table. An entry past the end reads as 0.
-pub fn entry_at(table: &[u32], i: u32) -> u32
-    ensures { λ x. ⌜ x ≡ getD (now (table .entry)) i 0 ⌝ }
-{
-    let at = i as usize;
-    if at < table.len() { table[at] } else { 0 }
-}
-
-// Writes entry `i`. Writing past the end does nothing.
-pub fn put_entry(table: &mut [u32], i: u32, x: u32)
-    ensures { λ _. ⌜ now (table .exit) ≡ set (now (table .entry)) i x ⌝ }
-{
-    let at = i as usize;
-    if at < table.len() {
-        table[at] = x;
-    }
-}
+use words::entry_at;
+use words::put_entry;
+use words::word;
 
 // Writes the entry of row `i`, unless the link is 0.
 fn put_linked(classes: &mut [u32], i: u32, x: u32)

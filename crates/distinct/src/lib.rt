@@ -8,23 +8,9 @@ ghost use Rattle.definition.specs.Sheet.{rows, kids};
 ghost use Rattle.definition.specs.Format.{linksRise};
 ghost use Rattle.distinct.specs.Apart.{childUnmarked, childMarked, unmarked, marked, stamp, unitUnmarked, unitMarked, classUnmarked, classMarked, rowUnmarked, rowMarked, allUnmarked};
 ghost use Rattle.links.specs.Rising.{Rising};
-use tree::words::word;
-
-fn mark_of(marks: &[u32], i: u32) -> u32
-    ensures { λ x. ⌜ x ≡ getD (now (marks .entry)) i 0 ⌝ }
-{
-    let at = i as usize;
-    if at < marks.len() { marks[at] } else { 0 }
-}
-
-fn set_mark(marks: &mut [u32], i: u32, mark: u32)
-    ensures { λ _. ⌜ now (marks .exit) ≡ set (now (marks .entry)) i mark ⌝ }
-{
-    let at = i as usize;
-    if at < marks.len() {
-        marks[at] = mark;
-    }
-}
+use words::entry_at;
+use words::put_entry;
+use words::word;
 
 // Has row `c`, if it is of a kind, a name that is not marked with `mark` yet? It is marked then.
 fn child_apart(sheet: &[u32], c: u32, kind: u32, mark: u32, marks: &mut [u32]) -> bool
@@ -35,10 +21,10 @@ fn child_apart(sheet: &[u32], c: u32, kind: u32, mark: u32, marks: &mut [u32]) -
         return true;
     }
     let name = word(sheet, c, 6);
-    if mark_of(marks, name) == mark {
+    if entry_at(marks, name) == mark {
         return false;
     }
-    set_mark(marks, name, mark);
+    put_entry(marks, name, mark);
     true
 }
 

@@ -15,7 +15,7 @@ use links::links_rise;
 use passes::all_cross;
 use passes::all_depths;
 use passes::fill;
-use tree::words::word;
+use words::word;
 
 // Row 0 is the header.
 fn header_first(sheet: &[u32]) -> bool

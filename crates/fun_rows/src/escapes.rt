@@ -17,11 +17,11 @@ use crate::captured_at;
 use crate::emit_decl;
 use ast::Decl;
 use ast::FunId;
-use classes::entry_at;
 use store::nodes::Store;
 use store::nodes::node_before;
 use symbols::decl::is_mutable;
-use tree::words::word;
+use words::entry_at;
+use words::word;
 
 // Is node `i` of a capture list the mutable local of function `f` in slot `j`?
 fn is_slot(sheet: &[u32], nodes: &[u32], i: u32, f: FunId, j: u32) -> bool

@@ -21,14 +21,14 @@ use ast::Decl;
 use ast::FunId;
 use sink::AnswerRow;
 use sink::emit;
+use store::code::code_of;
+use store::code::seen_in;
 use store::nodes::Store;
 use store::nodes::count_nodes;
 use store::nodes::node_before;
 use store::nodes::node_word;
 use symbols::decl::OpenDecl;
-use tree::words::word;
-use walk::code::code_of;
-use walk::code::seen_in;
+use words::word;
 
 // The row of sheet row `r` with a code and three values.
 fn emit_words(r: u32, x: [u32; 4], k: usize, out: &mut [u32]) -> usize

@@ -6,9 +6,9 @@ ghost use lib.ListN.{length};
 ghost use Rattle.definition.specs.Sheet.{rows, kind};
 ghost use Rattle.classes.specs.Table.{Clear};
 ghost use Rattle.fun_rows.specs.Literals.{isReached, LiteralChains};
-use classes::entry_at;
-use classes::put_entry;
-use tree::words::word;
+use words::entry_at;
+use words::put_entry;
+use words::word;
 
 // Is row `l` a literal that the walk reached?
 fn is_reached(sheet: &[u32], results: &[u32], l: u32) -> bool

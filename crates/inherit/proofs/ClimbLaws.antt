@@ -17,7 +17,7 @@ use Rattle.machine.specs.Machine.{Store}
 use Rattle.symbols.proofs.DeclLaws.{kind-inside}
 use Rattle.after.specs.Inherited.{parentIn, climbIn}
 use Rattle.inherit.specs.Answered.{lacksRecord, Marked}
-use Rattle.tree.proofs.FindLaws.{row-number}
+use Rattle.sheet.proofs.FindLaws.{row-number}
 use Rattle.inherit.proofs.ClassLaws.{row-kind}
 
 -- the same climb, where the classes climbed through are those marked with k in m

@@ -16,7 +16,7 @@ use Rattle.definition.specs.Classes.{ofSheet}
 use Rattle.machine.specs.Machine.{Store}
 use Rattle.after.specs.Inherited.{parentIn}
 use Rattle.inherit.specs.Answered.{lacksRecord, Marked, Ends, Climbed}
-use Rattle.tree.proofs.FindLaws.{row-number}
+use Rattle.sheet.proofs.FindLaws.{row-number}
 use Rattle.inherit.proofs.ClimbLaws.{climbMarked, climb-off, climb-up, row-inside, row-marked}
 
 -- How many of the first n marks are k.

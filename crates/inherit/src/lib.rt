@@ -18,12 +18,12 @@ use outside::records::NO_METHOD;
 use outside::records::class_name;
 use outside::records::has_record;
 use outside::records::own_method;
+use sheet::arguments;
+use sheet::is_class_row;
 use store::nodes::Store;
 use store::nodes::node_before;
 use store::nodes::node_word;
-use tree::lists::arguments;
-use tree::lists::is_class_row;
-use tree::words::word;
+use words::word;
 
 // The name of a constructor.
 const INIT: u32 = 23;

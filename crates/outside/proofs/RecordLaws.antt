@@ -15,7 +15,7 @@ use Rattle.outside.specs.Words.{spacedAt, methodIn, methodsAt, recordAt,
 use Rattle.outside.specs.Found.{rowRecord, Records, Tells, stepOf}
 use Rattle.outside.specs.declared.records.Recorded.{Recorded}
 use Rattle.outside.specs.declared.records.Method.{Method}
-use Rattle.tree.proofs.FindLaws.{row-number, method-function, method-params}
+use Rattle.sheet.proofs.FindLaws.{row-number, method-function, method-params}
 
 -- What is told of a record: whether there is one, its name, fields and methods.
 pub record Seen : Type 0 where

@@ -9,10 +9,11 @@ ghost use Rattle.outside.specs.Found.{rowRecord, Records, Tells, recorde
 use ast::ClassId;
 use ast::FIRST_CLASS;
 use ast::FunId;
-use tree::lists::arity;
-use tree::lists::first_named;
-use tree::lists::is_class_row;
-use tree::words::word;
+use sheet::arity;
+use sheet::first_named;
+use sheet::is_class_row;
+use words::word;
+use words::word_at;
 
 // The record of a class from outside: its name, where its fields and methods begin and how many there are. `some` is false if it has none.
 pub struct Recorded {
@@ -50,13 +51,6 @@ pub const NO_METHOD: Method = Method {
     fun: FunId(0),
     params: 0,
 };
-
-// The word at place `p`. A word past the end reads as 0.
-pub fn word_at(outside: &[u32], p: usize) -> u32
-    ensures { λ x. ⌜ x ≡ getD (now (outside .entry)) p 0 ⌝ }
-{
-    if p < outside.len() { outside[p] } else { 0 }
-}
 
 // The record of row `i`.
 fn record_at(outside: &[u32], i: u32) -> Recorded

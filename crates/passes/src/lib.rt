@@ -5,7 +5,7 @@ ghost use Rattle.definition.specs.Basics.{all, from};
 ghost use Rattle.row_fits.specs.Pass.{rowsOk, rowsNoted, literalOk, declarationOk, classOk, methodOk, crossOk, depthOk};
 use row_fits::row::note_row;
 use row_fits::row::row_fits;
-use tree::words::word;
+use words::word;
 
 // Do the rows fit as they are reached, in rising order? Each tells the table what it knows of its next row and first child.
 pub fn fill(sheet: &[u32], n: u32, last: u32, table: &mut [u32]) -> bool

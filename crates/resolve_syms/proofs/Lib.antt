@@ -1,3 +1,2 @@
-mod RowLaws
 mod WalkLaws
 mod StartLaws

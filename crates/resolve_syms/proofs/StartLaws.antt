@@ -20,10 +20,10 @@ use Rattle.definition.proofs.Walk.Fitting.{fits}
 use Rattle.machine.specs.Machine.{State, Scopes, pushName, openNames, noScopes, startState, runState}
 use Rattle.machine.specs.Reads.{PastFour, Walked}
 use Rattle.machine.proofs.Theorems.{rows-few, walk-refines}
-use Rattle.resolve_syms.specs.Prepared.{Lent}
+use Rattle.row_events.specs.Prepared.{Lent}
 use Rattle.resolve_syms.specs.Walked.{walked, partsWalked}
 use Rattle.resolve_syms.proofs.WalkLaws.{walk-by}
-use Rattle.resolve_syms.proofs.RowLaws.{runs-none}
+use Rattle.row_events.proofs.RowLaws.{runs-none}
 
 -- the names of the rows from row i to row n
 abbrev pub namesFrom : List ℕ → ℕ → ℕ → List Named

@@ -9,19 +9,19 @@ ghost use Rattle.definition.specs.Sheet.{kind};
 ghost use Rattle.definition.specs.Walk.{isPart};
 ghost use Rattle.outside.specs.Words.{over};
 ghost use Rattle.walk.specs.WalkState.{stateOf};
-ghost use Rattle.resolve_syms.specs.Prepared.{Prepared};
+ghost use Rattle.row_events.specs.Prepared.{Prepared};
 ghost use Rattle.resolve_syms.specs.Walked.{walked, partsWalked, partWalked};
-use crate::rows::after_expr;
-use crate::rows::after_part;
-use crate::rows::after_stmt;
-use crate::rows::before_fun;
-use crate::rows::before_stmt;
-use crate::rows::before_unit;
-use crate::rows::is_part;
-use crate::rows::part_list;
-use tree::words::word;
+use row_events::after_expr;
+use row_events::after_part;
+use row_events::after_stmt;
+use row_events::before_fun;
+use row_events::before_stmt;
+use row_events::before_unit;
+use row_events::is_part;
+use row_events::part_list;
 use walk::scopes::close_scope;
 use walk::state::Walk;
+use words::word;
 
 // The place of the next part after row `k`, which is part `i` if it is one.
 fn place_after(sheet: &[u32], k: u32, i: usize) -> usize

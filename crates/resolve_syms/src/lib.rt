@@ -8,10 +8,9 @@ ghost use Rattle.outside.specs.Words.{nameAt, over};
 ghost use Rattle.symbols.specs.OpenScopes.{scopesOf};
 ghost use Rattle.symbols.specs.OpenDecls.{entryFor};
 ghost use Rattle.walk.specs.WalkState.{stateOf};
-ghost use Rattle.resolve_syms.specs.Prepared.{Lent};
+ghost use Rattle.row_events.specs.Prepared.{Lent};
 
 mod cycle;
-mod rows;
 
 use crate::cycle::resolve_parts;
 use ast::FunId;
@@ -20,8 +19,8 @@ use store::nodes::Store;
 use symbols::decl::OpenDecl;
 use symbols::decl::define;
 use symbols::env::Env;
-use tree::words::word;
 use walk::state::Walk;
+use words::word;
 
 // What the name of row `i` of the outside means, as the next entry of the open scopes holds it.
 fn visible_at(outside: &[u32], i: u32, env: Env) -> OpenDecl

@@ -9,7 +9,7 @@ use Rattle.definition.specs.Outside.{Outside}
 use Rattle.machine.specs.Reads.{PastFour}
 use Rattle.machine.proofs.Theorems.{rows-few}
 use Rattle.classes.specs.Table.{Clear}
-use Rattle.resolve_syms.specs.Prepared.{Lent}
+use Rattle.row_events.specs.Prepared.{Lent}
 use Rattle.class_rows.specs.Places.{Placed}
 use Rattle.resolver.specs.Settled.{Scratch}
 

@@ -6,7 +6,7 @@ ghost use lib.ListN.{length, replicate};
 ghost use Rattle.definition.specs.Sheet.{file as fileAt};
 ghost use Rattle.definition.specs.Outcome.{refused, refusedAt};
 ghost use Rattle.machine.specs.Reads.{PastFour, Walked};
-ghost use Rattle.resolve_syms.specs.Prepared.{Lent};
+ghost use Rattle.row_events.specs.Prepared.{Lent};
 ghost use Rattle.store.specs.Stored.{storeOf};
 ghost use Rattle.walk.specs.WalkState.{stateOf};
 ghost use Rattle.resolver.specs.Answered.{Answered, Tells};
@@ -25,9 +25,9 @@ use lexer::SrcPos;
 use outside::plain::core_words;
 use resolve_syms::resolve_units;
 use store::nodes::Store;
-use text::clear;
-use tree::words::word;
 use walk::state::Walk;
+use words::clear;
+use words::word;
 
 // The question that got a no (0: none), its position and the name asked about; the number of answer rows, and of globals.
 pub struct Answer {

@@ -13,8 +13,8 @@ use crate::tables::next_state;
 use crate::tables::rule_a;
 use crate::tables::rule_b;
 use crate::tables::start_of;
-use tree::words::put;
-use tree::words::word;
+use words::put;
+use words::word;
 
 // The words of a row that are asked about.
 pub struct Row {

@@ -1,3 +1,4 @@
 mod ListLaws
 mod StoreLaws
 pub mod TableLaws
+pub mod CodeLaws

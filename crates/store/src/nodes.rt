@@ -11,8 +11,8 @@ ghost use Rattle.definition.specs.Sheet.{is};
 ghost use Rattle.machine.specs.Machine.{entryWord, nodeWord, previous, chainTo, hasKey, functionMarks, appendNode, appendCall, addNew, addCapture, fieldNode};
 ghost use Rattle.store.specs.Stored.{storeOf, nodeOf, usedPushed, nodesPushed};
 use symbols::env::entry_word;
-use tree::words::put;
-use tree::words::word;
+use words::put;
+use words::word;
 
 // The counters: nodes in use, and the last node of the constructor calls.
 pub struct Store {

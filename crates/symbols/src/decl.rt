@@ -16,7 +16,8 @@ use crate::env::find_name;
 use crate::env::push_entry;
 use ast::ClassId;
 use ast::FIRST_CLASS;
-use tree::words::word;
+use words::one_more;
+use words::word;
 
 // A declaration as an open entry holds it. Tags: 2 none, 3 function, 4 class, 5 global known before the walk (its number; 1 if
 // mutable), 6 local or argument (its row; its function), 7 let of a unit (its row; its global number). The slot is that of a local.
@@ -173,13 +174,6 @@ pub fn declared_by(sheet: &[u32], row: u32, env: Env) -> OpenDecl
         second: fun.0,
         slot: slot,
     }
-}
-
-// One more, unless that would not fit a word.
-pub fn one_more(n: u32) -> u32
-    ensures { λ x. ⌜ x ≡ oneMore n ⌝ }
-{
-    if n < 4294967295 { n + 1 } else { n }
 }
 
 // The next slot after `d` is declared: a local takes one.

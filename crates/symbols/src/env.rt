@@ -7,7 +7,7 @@ ghost use Rattle.definition.specs.Sheet.{Sheet, is};
 ghost use Rattle.machine.specs.Machine.{entryWord, findName, takenIn, loopIn, lastMark, countPushed, wordsPushed, stepScopes};
 ghost use Rattle.symbols.specs.OpenScopes.{scopesOf};
 use ast::FunId;
-use tree::words::word;
+use words::word;
 
 // The counters: entries in use, the next slot of a local, the innermost function or 0, the number of the next global.
 pub struct Env {

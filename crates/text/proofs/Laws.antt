@@ -2,7 +2,7 @@
 use mathlib.Core.Path.{_≡_, refl, sym, ap, _∙_, subst}
 use mathlib.Core.Logic.{_⊎_, inl, inr}
 use mathlib.Core.Bool.{Bool, true, false, not, _&&_}
-use mathlib.Core.List.{List, [], _∷_, _++_, map}
+use mathlib.Core.List.{List, [], _∷_, _++_, map, append-nil}
 use Prim.Native.Nat.{ℕ, zero, suc, _+_, _*_, _-_, _/_, _%_, _^_, _<_, _≤_}
 use native.Mathlib.Numerals.{add-one}
 use native.Mathlib.Omega.{arith}
@@ -21,7 +21,7 @@ use Rattle.definition.specs.Outcome.{rowsFit}
 use Rattle.text.specs.Lines.{lineAt, columnAt, isLine, numbersOf, numbersIn, lineOf}
 use Rattle.text.specs.Reading.{isReadable, linesRead, wordsRead}
 use Rattle.text.specs.Writing.{rowAt, rowsIn, bytesWritten, textWritten}
-use Rattle.text.proofs.Lists.{element-of-part, append-none, map-alike, concat-alike, map-at, from-length, concat-more, pieces-length, piece-at}
+use Rattle.text.proofs.Lists.{element-of-part, map-alike, concat-alike, map-at, from-length, concat-more, pieces-length, piece-at}
 use Rattle.text.proofs.Reading.{readable, trimmed-space, trimmed-other, text-lines, sheet-is, text-numbers}
 use Rattle.text.proofs.Writing.{quotient-more}
 
@@ -178,7 +178,7 @@ module _ (ws : List ℕ) (n : ℕ) (whole : length ws ≡ 8 * n) (small : (i : �
 
   line-at : (r : ℕ) → r < n → lineAt text r ≡ lineOf (rowAt ws r)
   line-at r h =
-      ap (λ (t : List ℕ). lineAt t r) (sym text-is ∙ sym (append-none (concatMap lineOf (rowsIn ws))))
+      ap (λ (t : List ℕ). lineAt t r) (sym text-is ∙ sym (append-nil (concatMap lineOf (rowsIn ws))))
       ∙ piece-at 81 lineOf [] (rowsIn ws) [] r line-size (omega (arith, rows-length))
       ∙ ap lineOf (row-at r h)
 
@@ -274,5 +274,5 @@ rows-of-joined rs h = ext-getD [] (rowsIn ws) rs same at-row
     at-row : (i : ℕ) → i < length (rowsIn ws) → getD (rowsIn ws) i [] ≡ getD rs i []
     at-row i l =
         map-at (rowAt ws) [] (rows ws) i (omega (arith, same, number))
-        ∙ ap (λ (l : List ℕ). rowAt l i) (sym (append-none ws))
+        ∙ ap (λ (l : List ℕ). rowAt l i) (sym (append-nil ws))
         ∙ piece-at 8 (λ (r : List ℕ). r) [] rs [] i h (omega (arith, same))

@@ -1,7 +1,7 @@
 -- Lists and parts of lists. Assumes nothing.
 use mathlib.Core.Path.{_≡_, refl, sym, ap, _∙_}
 use mathlib.Core.Bool.{Bool, _&&_}
-use mathlib.Core.List.{List, [], _∷_, _++_, map, append-assoc}
+use mathlib.Core.List.{List, [], _∷_, _++_, map, append-assoc, append-nil}
 use Prim.Native.Nat.{ℕ, zero, suc, _+_, _*_, _-_, _<_, _≤_}
 use native.Mathlib.Numerals.{add-one}
 use native.Mathlib.Omega.{arith}
@@ -52,10 +52,6 @@ module _ {A : Type 0} where
   concat-map f g [] = refl
   concat-map {C = C} f g (x ∷ xs) = ap (λ (l : List C). f (g x) ++ l) (concat-map f g xs)
 
-  pub append-none : (xs : List A) → xs ++ [] ≡ xs
-  append-none [] = refl
-  append-none (x ∷ xs) = ap (λ (l : List A). x ∷ l) (append-none xs)
-
 -- what agrees on a run of numbers
 pub all-alike : (p q : ℕ → Bool) (k m : ℕ) → ((i : ℕ) → i < k + m → p i ≡ q i) → all p (from k m) ≡ all q (from k m)
 all-alike p q k zero h = refl
@@ -95,13 +91,7 @@ module _ {A : Type 0} where
   map-more f n = rw add-one (ap (map f) (from-suc n) ∙ map-append f (from 0 n) (n ∷ []))
 
   pub concat-more : (f : ℕ → List A) (n : ℕ) → concatMap f (from 0 (n + 1)) ≡ concatMap f (from 0 n) ++ f n
-  concat-more f n = rw add-one (ap (concatMap f) (from-suc n) ∙ concat-append f (from 0 n) (n ∷ []) ∙ ap (λ (l : List A). concatMap f (from 0 n) ++ l) (append-none (f n)))
-
--- a list that was filled to its end
-pub filled : (l : List ℕ) (i : ℕ) → length l ≤ i → i ≤ length l → replicate i 0 ++ drop i l ≡ replicate (length l) 0
-filled l i h g =
-    let e : i ≡ length l = omega arith in
-    rw (drop-of-length-le l h) (append-none (replicate i 0) ∙ ap (λ (n : ℕ). replicate n 0) e)
+  concat-more f n = rw add-one (ap (concatMap f) (from-suc n) ∙ concat-append f (from 0 n) (n ∷ []) ∙ ap (λ (l : List A). concatMap f (from 0 n) ++ l) (append-nil (f n)))
 
 -- pieces of w elements each, joined
 module _ {A B : Type 0} (w : ℕ) (f : A → List B) (d : A) where

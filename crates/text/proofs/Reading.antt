@@ -1,7 +1,7 @@
 -- Steps of reading: spaces, digits, a number. Assumes nothing.
 use mathlib.Core.Path.{_≡_, refl, sym, ap, _∙_, subst}
 use mathlib.Core.Bool.{Bool, true, false, _&&_}
-use mathlib.Core.List.{List, [], _∷_, _++_, map}
+use mathlib.Core.List.{List, [], _∷_, _++_, map, append-nil}
 use Prim.Native.Nat.{ℕ, _+_, _*_, _-_, _/_, _^_, _<_, _≤_}
 use native.Mathlib.Numerals.{add-one}
 use native.Mathlib.Omega.{arith}
@@ -17,7 +17,7 @@ use Rattle.definition.proofs.Lists.Tests.{and-left, and-right, if-true}
 use Rattle.definition.proofs.Format.Passes.{all-fails}
 use Rattle.text.specs.Lines.{lineAt, columnAt, digitsFrom, numberIn, isLine, numbersOf, goodLines, numbersIn, wholeLines}
 use Rattle.text.specs.Reading.{isReadable, linesRead, wordsRead, SheetRead}
-use Rattle.text.proofs.Lists.{drop-next, take-stored, put-front, part-of-part, element-of-part, append-none, all-alike, map-alike, concat-alike, all-more, map-more, concat-more}
+use Rattle.text.proofs.Lists.{drop-next, take-stored, put-front, part-of-part, element-of-part, all-alike, map-alike, concat-alike, all-more, map-more, concat-more}
 
 -- spaces
 pub trimmed-space : (x : ℕ) (xs : List ℕ) → x ≡ 32 → trimmed (x ∷ xs) ≡ trimmed xs
@@ -298,4 +298,4 @@ module _ (t : List ℕ) (lent : ℕ) where
       size = rw after (omega (arith, length-drop (8 * n) before))
 
       all-words : putMid (8 * n) (length before - 8 * n) before last ≡ numbersIn t n ++ replicate (lent - 8 * n) 0
-      all-words = rw rest (ap (λ (l : List ℕ). take (8 * n) before ++ l) (append-none last) ∙ cc (q, z, size))
+      all-words = rw rest (ap (λ (l : List ℕ). take (8 * n) before ++ l) (append-nil last) ∙ cc (q, z, size))

@@ -1,7 +1,7 @@
 -- Steps of writing: a digit, a number, a line. Assumes nothing.
 use mathlib.Core.Path.{_≡_, refl, sym, ap, _∙_, subst}
 use mathlib.Core.Bool.{Bool, true, false, _&&_}
-use mathlib.Core.List.{List, [], _∷_, _++_}
+use mathlib.Core.List.{List, [], _∷_, _++_, append-nil}
 use Prim.Native.Nat.{ℕ, suc, _+_, _*_, _-_, _/_, _%_, _^_, _<_, _≤_}
 use native.Mathlib.Numerals.{add-one}
 use native.Mathlib.Decide.{decLt}
@@ -17,7 +17,7 @@ use Rattle.definition.specs.Sheet.{rows}
 use Rattle.definition.specs.Text.{digitByte, inTen, textOf}
 use Rattle.text.specs.Lines.{placeByte, lineOf, linesOf}
 use Rattle.text.specs.Writing.{rowAt, rowsIn, bytesWritten, textWritten, RowsWritten}
-use Rattle.text.proofs.Lists.{drop-next, put-front, map-at, append-none, concat-append, concat-map, concat-more}
+use Rattle.text.proofs.Lists.{drop-next, put-front, map-at, concat-append, concat-map, concat-more}
 
 -- the byte at place i of ten
 module _ (n i : ℕ) where
@@ -92,7 +92,7 @@ module _ (row line : List ℕ) (c : ℕ) where
       let s : 10 * (c + 1) ≡ 10 * c + 10 = omega arith in
       rw (s, add-one, take-suc row c 0 h)
       (put-front (10 * c) (10 * c + 10) line column (omega arith) g (omega arith)
-      ∙ cc (e, q, append-none (f (getD row c 0)))
+      ∙ cc (e, q, append-nil (f (getD row c 0)))
       ∙ sym (concat-append f (take c row) (getD row c 0 ∷ [])))
 
   pub number-written : (column : List ℕ) → c < length row → 10 * c + 10 ≤ length line → take (10 * c) line ≡ concatMap inTen (take c row)

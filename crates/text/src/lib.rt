@@ -7,6 +7,7 @@ ghost use Rattle.definition.specs.Text.{trimmed, inTen};
 ghost use Rattle.text.specs.Lines.{isLine, numbersOf, numberIn, digitsFrom, wholeLines, goodLines, numbersIn, lineOf, placeByte};
 ghost use Rattle.text.specs.Reading.{SheetRead};
 ghost use Rattle.text.specs.Writing.{RowsWritten};
+use words::clear;
 
 const MAX_LINES: usize = 2048;
 
@@ -113,16 +114,6 @@ fn lines_to_read(bytes: usize, lent: usize) -> usize
         return 0;
     }
     n
-}
-
-pub fn clear(words: &mut [u32])
-    ensures { λ r. ⌜ now (words .exit) ≡ replicate (length (now (words .entry))) 0 ⌝ }
-{
-    let mut i: usize = 0;
-    while i < words.len() {
-        words[i] = 0;
-        i += 1;
-    }
 }
 
 // Reads a sheet's text into the lent words, and clears those after it. Returns the number of lines, or 0 where nothing is read.

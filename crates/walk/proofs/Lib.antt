@@ -1,7 +1,4 @@
-mod StepLaws
-mod CodeLaws
-mod VisitLaws
-mod CallLaws
+pub mod StepLaws
+pub mod VisitLaws
 pub mod RunLaws
 mod DeclareLaws
-mod ImportLaws

@@ -15,9 +15,9 @@ ghost use Rattle.symbols.specs.OpenScopes.{scopesOf};
 ghost use Rattle.symbols.specs.OpenDecls.{means, entryFor};
 ghost use Rattle.store.specs.Stored.{storeOf};
 ghost use Rattle.walk.specs.WalkState.{stateOf};
-use crate::code::code_of;
 use crate::state::Walk;
 use crate::state::refuse;
+use store::code::code_of;
 use store::nodes::Store;
 use store::table::raise_locals;
 use store::table::write_decl;
@@ -25,10 +25,10 @@ use symbols::decl::OpenDecl;
 use symbols::decl::declared_by;
 use symbols::decl::define;
 use symbols::decl::is_local;
-use symbols::decl::one_more;
 use symbols::env::Env;
 use symbols::env::has_local;
-use tree::words::word;
+use words::one_more;
+use words::word;
 
 // Is `row` a let whose value is a function literal?
 fn is_literal_let(sheet: &[u32], row: u32) -> bool

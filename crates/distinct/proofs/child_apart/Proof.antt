@@ -16,25 +16,25 @@ returns c = (rw (← c .before .word .ensures, ne-eqb _ _ (c .if1 .taken)), λ e
 word-requires-2 : tie.Need-word-requires-2
 word-requires-2 c κs = search needs
 
-mark-of-requires : tie.Need-mark-of-requires
-mark-of-requires c κs = search needs
+entry-at-requires : tie.Need-entry-at-requires
+entry-at-requires c κs = search needs
 
 same-length : tie.Need-same-length
 same-length c = search needs
 
 returns-2 : tie.Need-returns-2
 unfolding childUnmarked
-returns-2 c = (rw (← c .before .before .before .before .before .word .ensures, eq-eqb _ _ (c .before .before .before .before .if1 .left), ← c .before .before .before .word2 .ensures, ← c .before .mark-of .ensures, eq-eqb _ _ (c .if2 .taken)), λ e. absurd (subst T (sym e) tt))
+returns-2 c = (rw (← c .before .before .before .before .before .word .ensures, eq-eqb _ _ (c .before .before .before .before .if1 .left), ← c .before .before .before .word2 .ensures, ← c .before .entry-at .ensures, eq-eqb _ _ (c .if2 .taken)), λ e. absurd (subst T (sym e) tt))
 
-set-mark-requires : tie.Need-set-mark-requires
-set-mark-requires c κs = search needs
+put-entry-requires : tie.Need-put-entry-requires
+put-entry-requires c κs = search needs
 
 same-length-2 : tie.Need-same-length-2
 same-length-2 c = search needs
 
 returns-3 : tie.Need-returns-3
 unfolding childUnmarked childMarked
-returns-3 c = (rw (← c .before .before .before .before .before .before .before .before .before .word .ensures, eq-eqb _ _ (c .before .before .before .before .before .before .before .before .if1 .left), ← c .before .before .before .before .before .before .before .word2 .ensures, ← c .before .before .before .before .before .mark-of .ensures, ne-eqb _ _ (c .before .before .before .before .if2 .left)), λ e. rw (← c .before .before .before .before .before .before .before .before .before .word .ensures, eq-eqb _ _ (c .before .before .before .before .before .before .before .before .if1 .left), ← c .before .before .before .before .before .before .before .word2 .ensures, c .before .before .set-mark .ensures))
+returns-3 c = (rw (← c .before .before .before .before .before .before .before .before .before .word .ensures, eq-eqb _ _ (c .before .before .before .before .before .before .before .before .if1 .left), ← c .before .before .before .before .before .before .before .word2 .ensures, ← c .before .before .before .before .before .entry-at .ensures, ne-eqb _ _ (c .before .before .before .before .if2 .left)), λ e. rw (← c .before .before .before .before .before .before .before .before .before .word .ensures, eq-eqb _ _ (c .before .before .before .before .before .before .before .before .if1 .left), ← c .before .before .before .before .before .before .before .word2 .ensures, c .before .before .put-entry .ensures))
 
 pub child-apart-spec : {M : Type 1} → statement M
 child-apart-spec =
@@ -43,9 +43,9 @@ child-apart-spec =
     word-requires
     returns
     word-requires-2
-    mark-of-requires
+    entry-at-requires
     same-length
     returns-2
-    set-mark-requires
+    put-entry-requires
     same-length-2
     returns-3)

@@ -15,7 +15,7 @@ use Rattle.fun_rows.proofs.+emit_captured.Lts-emit_captured as emit-cap
 use Rattle.fun_rows.proofs.captured_at.Reads as captured-at-reads
 use Rattle.fun_rows.proofs.emit_decl.Reads as emit-decl-reads
 use Rattle.store.proofs.nodes.node_before.Reads as node-before-reads
-use Rattle.walk.proofs.code.code_of.Reads as code-of-reads
+use Rattle.store.proofs.code.code_of.Reads as code-of-reads
 use Rattle.fun_rows.proofs.+emit_captured.{statement}
 use Rattle.fun_rows.proofs.+emit_captured.Tie.{close}
 

@@ -16,7 +16,7 @@ use Rattle.fun_rows.proofs.+emit_sources.Lts-emit_sources as emit-sourc
 use Rattle.fun_rows.proofs.captured_at.Reads as captured-at-reads
 use Rattle.fun_rows.proofs.emit_decl.Reads as emit-decl-reads
 use Rattle.store.proofs.nodes.node_before.Reads as node-before-reads
-use Rattle.walk.proofs.code.seen_in.Reads as seen-in-reads
+use Rattle.store.proofs.code.seen_in.Reads as seen-in-reads
 use Rattle.fun_rows.proofs.+emit_sources.{statement}
 use Rattle.fun_rows.proofs.+emit_sources.Tie.{close}
 

@@ -13,7 +13,7 @@ use Rattle.after.specs.Inherited.{climbIn}
 use Rattle.inherit.specs.Answered.{Marked, Ends}
 use Rattle.inherit.proofs.ClimbLaws.{row-inside, climbMarked, climb-start, climb-off, climb-circle, climb-lacking, row-marked, mark-later, mark-most}
 use Rattle.inherit.proofs.LineLaws.{remaining, remaining-some, remaining-start, remaining-less, Climbing, ends-top, climbing-start, climbing-end, climbing-met, climbing-up, climb-ends, climb-next}
-use Rattle.tree.proofs.FindLaws.{row-number}
+use Rattle.sheet.proofs.FindLaws.{row-number}
 use Rattle.inherit.proofs.climb.Statement.{statement}
 use Rattle.inherit.proofs.climb.Tie as tie
 

@@ -23,39 +23,30 @@ Inv-loop s outside t n left₀ at₀ left at = (o : Store) (q : List ℕ) → me
 abbrev μ-loop : tie.MeasureT-loop
 μ-loop s outside t n left₀ at₀ left at = left
 
--- src/lib.rt:125:5
 loop-holds : tie.Need-loop-holds Inv-loop μ-loop
 loop-holds c = λ o q. refl
 
--- src/lib.rt:126:13
 own-method-requires : tie.Need-own-method-requires Inv-loop μ-loop
 own-method-requires c κs = search needs
 
--- src/lib.rt:129:13
 returns : tie.Need-returns Inv-loop μ-loop
 returns c = λ o q. let a = c .before .before .before .before .before .before .before .before .before .args in tells-as (a .n) (c .before .before .before .own-method .ensures) (method-here (over (a .outside .now)) (a .sheet .now) (storeOf o (a .results .now) q) (a .n) (c .before .before .before .before .before .loop .left) (c .before .before .before .before .before .loop .at) (c .before .before .before .before .loop-test .taken) (c .before .before .before .own-method .ensures .funIs) (c .if1 .taken) ∙ c .before .before .before .before .before .loop .inv o q)
 
--- src/lib.rt:131:13
 parent-of-requires : tie.Need-parent-of-requires Inv-loop μ-loop
 parent-of-requires c κs = search needs
 
--- src/lib.rt:133:13
 returns-2 : tie.Need-returns-2 Inv-loop μ-loop
 returns-2 c = λ o q. let a = c .before .before .before .before .before .before .before .before .before .before .before .before .args in tells-as (a .n) (c .before .before .before .before .before .before .own-method .ensures) (method-last (over (a .outside .now)) (a .sheet .now) (storeOf o (a .results .now) q) (a .n) (c .before .before .before .before .before .before .before .before .loop .left) (c .before .before .before .before .before .before .before .before .loop .at) (c .before .before .before .before .before .before .before .loop-test .taken) (c .before .before .before .before .before .before .own-method .ensures .funIs) (c .before .before .before .if1 .left) (c .before .before .parent-of .ensures o q) (c .if2 .taken) ∙ c .before .before .before .before .before .before .before .before .loop .inv o q)
 
--- src/lib.rt:136:9
 sub-left : tie.Need-sub-left Inv-loop μ-loop
 sub-left c = c .before .before .before .before .before .before .before .loop-test .taken
 
--- src/lib.rt:125:5
 loop-less : tie.Need-loop-less Inv-loop μ-loop
 loop-less c = omega (arith, c .before .before .before .before .before .before .before .loop-test .taken)
 
--- src/lib.rt:125:5
 loop-again : tie.Need-loop-again Inv-loop μ-loop
 loop-again c = λ o q. let a = c .before .before .before .before .before .before .before .before .before .before .before .before .args in method-up (over (a .outside .now)) (a .sheet .now) (storeOf o (a .results .now) q) (a .n) (c .before .before .before .before .before .before .before .before .loop .left) (c .before .before .before .before .before .before .before .before .loop .at) (c .before .before .before .before .before .before .before .loop-test .taken) (c .before .before .before .before .before .before .own-method .ensures .funIs) (c .before .before .before .if1 .left) (c .before .before .parent-of .ensures o q) (c .if2 .left) ∙ c .before .before .before .before .before .before .before .before .loop .inv o q
 
--- src/lib.rt:120:1
 returns-3 : tie.Need-returns-3 Inv-loop μ-loop
 returns-3 c = λ o q. let a = c .before .before .before .before .before .args in tells-none (a .n) (method-end (over (a .outside .now)) (a .sheet .now) (storeOf o (a .results .now) q) (a .n) (c .before .loop .left) (c .before .loop .at) (c .loop-test .left) ∙ c .before .loop .inv o q)
 

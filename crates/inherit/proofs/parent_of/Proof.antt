@@ -1,7 +1,7 @@
 use mathlib.Core.Path.{sym, _∙_}
 use borrow.Author.Needs.{needs}
 use Rattle.store.specs.Stored.{storeOf}
-use Rattle.tree.proofs.FindLaws.{row-number}
+use Rattle.sheet.proofs.FindLaws.{row-number}
 use Rattle.inherit.proofs.ClassLaws.{parent-stored, parent-none}
 use Rattle.inherit.proofs.parent_of.Statement.{statement}
 use Rattle.inherit.proofs.parent_of.Tie as tie

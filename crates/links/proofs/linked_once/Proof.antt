@@ -8,19 +8,15 @@ use Rattle.links.proofs.linked_once.Lts as lts
 use Rattle.links.proofs.all_once.Reads as all-once-reads
 use Rattle.links.proofs.count_links.Reads as count-links-reads
 
--- src/lib.rt:72:5
 count-links-requires : tie.Need-count-links-requires
 count-links-requires c κs = search needs
 
--- src/lib.rt:73:5
 all-once-requires : tie.Need-all-once-requires
 all-once-requires c κs = search needs
 
--- src/lib.rt:68:1
 same-length : tie.Need-same-length
 same-length c = search needs
 
--- src/lib.rt:68:1
 returns : tie.Need-returns
 returns c = c .all-once .ensures ∙ once-linked (c .before .before .before .before .before .before .before .before .args .sheet .now) (c .before .before .before .before .before .before .before .before .args .n) _ (c .before .before .before .before .before .before .before .before .pre .0) (c .before .before .before .before .count-links .ensures)
 

@@ -12,7 +12,7 @@ use Rattle.resolve_syms.proofs.open_names.Reads as reads
 use Rattle.resolve_syms.proofs.open_names.Lts as lts
 use Rattle.resolve_syms.proofs.visible_at.Reads as visible-at-reads
 use Rattle.symbols.proofs.decl.define.Reads as define-reads
-use Rattle.tree.proofs.words.word.Reads as word-reads
+use Rattle.words.proofs.word.Reads as word-reads
 
 abbrev Inv-loop : tie.InvT-loop
 Inv-loop s outside v₀ globals e₀ i₀ v e i = (scopesOf e v ≡ openNames s (namesFrom outside i i₀) (noScopes s v₀)) × (i ≤ i₀) × (min i₀ 1 ≤ i) × (length v ≡ length v₀)
@@ -20,47 +20,36 @@ Inv-loop s outside v₀ globals e₀ i₀ v e i = (scopesOf e v ≡ openNames s 
 abbrev μ-loop : tie.MeasureT-loop
 μ-loop s outside v₀ globals e₀ i₀ v e i = i
 
--- src/lib.rt:57:9
 word-requires : tie.Need-word-requires Inv-loop μ-loop
 word-requires c κs = tt
 
--- src/lib.rt:64:9
 word-requires-2 : tie.Need-word-requires-2 Inv-loop μ-loop
 word-requires-2 c κs = tt
 
--- src/lib.rt:65:5
 loop-holds : tie.Need-loop-holds Inv-loop μ-loop
 loop-holds c = (rw (c .before .word .ensures) (names-last (c .before .before .before .before .before .args .sheet .now) (c .before .before .before .before .before .args .outside .now) (c .word2 .result) (noScopes (c .before .before .before .before .before .args .sheet .now) (c .before .before .before .before .before .args .entries .now))), omega arith, omega arith, refl)
 
--- src/lib.rt:66:9
 sub-i : tie.Need-sub-i Inv-loop μ-loop
 sub-i c = omega (arith, c .loop-test .taken)
 
--- src/lib.rt:67:23
 word-requires-3 : tie.Need-word-requires-3 Inv-loop μ-loop
 word-requires-3 c κs = tt
 
--- src/lib.rt:67:44
 visible-at-requires : tie.Need-visible-at-requires Inv-loop μ-loop
 visible-at-requires c κs = tt
 
--- src/lib.rt:67:9
 define-requires : tie.Need-define-requires Inv-loop μ-loop
 define-requires c κs = tt
 
--- src/lib.rt:65:5
 loop-less : tie.Need-loop-less Inv-loop μ-loop
 loop-less c = omega (arith, c .before .before .before .before .before .before .loop-test .taken)
 
--- src/lib.rt:65:5
 loop-again : tie.Need-loop-again Inv-loop μ-loop
 loop-again c = (c .before .before .define .ensures (nameAt (c .before .before .before .before .before .before .before .before .before .before .before .before .before .args .outside .now) (c .before .before .before .before .before .before .before .loop .i - 1) .means) (c .before .before .before .before .visible-at .ensures (c .before .before .before .before .before .before .before .loop .entries)) ∙ names-more (c .before .before .before .before .before .before .before .before .before .before .before .before .before .args .sheet .now) (c .before .before .before .before .before .before .before .before .before .before .before .before .before .args .outside .now) (c .before .before .before .before .before .before .before .loop .i) (c .before .before .before .before .before .before .before .before .word2 .result) (noScopes (c .before .before .before .before .before .before .before .before .before .before .before .before .before .args .sheet .now) (c .before .before .before .before .before .before .before .before .before .before .before .before .before .args .entries .now)) (scopesOf (c .before .before .before .before .before .before .before .loop .e) (c .before .before .before .before .before .before .before .loop .entries)) (c .before .before .before .before .before .before .loop-test .taken) (c .before .before .before .before .before .before .before .loop .inv .1) (c .before .before .before .before .before .before .before .loop .inv .0) (c .before .before .before .before .before .word3 .ensures), omega (arith, c .before .before .before .before .before .before .before .loop .inv .1), omega (arith, c .before .before .before .before .before .before .loop-test .taken), omega (arith, c .before .before .define .kept, c .before .before .before .before .before .before .before .loop .inv .3))
 
--- src/lib.rt:54:1
 same-length : tie.Need-same-length Inv-loop μ-loop
 same-length c = c .before .loop .inv .3
 
--- src/lib.rt:54:1
 returns : tie.Need-returns Inv-loop μ-loop
 returns c = names-all (c .before .before .before .before .before .before .before .args .sheet .now) (c .before .before .before .before .before .before .before .args .outside .now) (c .before .loop .i) (c .before .before .word2 .result) (noScopes (c .before .before .before .before .before .before .before .args .sheet .now) (c .before .before .before .before .before .before .before .args .entries .now)) (omega (arith, c .loop-test .left)) (c .before .loop .inv .1) (c .before .loop .inv .2) (c .before .before .word2 .ensures) (c .before .loop .inv .0)
 

@@ -10,39 +10,30 @@ use Rattle.classes.proofs.class_table.Reads as class-table-reads
 use Rattle.resolve_syms.proofs.cycle.resolve_parts.Reads as resolve-parts-reads
 use Rattle.resolve_syms.proofs.open_names.Reads as open-names-reads
 
--- src/lib.rt:85:5
 class-table-requires : tie.Need-class-table-requires
 class-table-requires c κs = ((over (c .before .before .before .before .before .before .before .args .outside .now), c .before .before .before .before .before .before .before .pre .0), c .before .before .before .before .before .before .before .pre .1 .for-classes, c .before .before .before .before .before .before .before .pre .1 .clear-classes)
 
--- src/lib.rt:86:9
 open-names-requires : tie.Need-open-names-requires
 open-names-requires c κs = search needs
 
--- src/lib.rt:95:43
 sub-resolve-parts : tie.Need-sub-resolve-parts
 sub-resolve-parts c = omega (arith, some-rows (over (c .before .before .before .before .before .before .before .before .before .before .before .before .before .before .before .args .outside .now)) (c .before .before .before .before .before .before .before .before .before .before .before .before .before .before .before .args .sheet .now) (c .before .before .before .before .before .before .before .before .before .before .before .before .before .before .before .pre .0))
 
--- src/lib.rt:95:5
 resolve-parts-requires : tie.Need-resolve-parts-requires
 resolve-parts-requires c κs = record { small = sheet-small (over (c .before .before .before .before .before .before .before .before .before .before .before .before .before .before .before .before .before .before .args .outside .now)) (c .before .before .before .before .before .before .before .before .before .before .before .before .before .before .before .before .before .before .args .sheet .now) (c .before .before .before .before .before .before .before .before .before .before .before .before .before .before .before .before .before .before .pre .0); classes = c .before .before .before .before .before .before .before .before .before .before .class-table .ensures }
 
--- src/lib.rt:74:1
 same-length : tie.Need-same-length
 same-length c = search needs
 
--- src/lib.rt:74:1
 same-length-2 : tie.Need-same-length-2
 same-length-2 c = search needs
 
--- src/lib.rt:74:1
 same-length-3 : tie.Need-same-length-3
 same-length-3 c = search needs
 
--- src/lib.rt:74:1
 same-length-4 : tie.Need-same-length-4
 same-length-4 c = search needs
 
--- src/lib.rt:74:1
 returns : tie.Need-returns
 returns c = units-walked (over (c .before .before .before .before .before .before .before .before .before .before .before .before .before .before .before .before .before .before .before .before .before .before .before .before .before .args .outside .now)) (c .before .before .before .before .before .before .before .before .before .before .before .before .before .before .before .before .before .before .before .before .before .before .before .before .before .args .sheet .now) (c .before .before .before .before .before .before .before .before .before .before .before .before .before .before .before .before .before .before .before .before .before .before .before .before .before .args .classes .now) (c .before .before .before .before .before .before .before .before .before .before .before .before .before .before .before .before .before .before .before .before .before .before .before .before .before .args .entries .now) (c .before .before .before .before .before .before .before .before .before .before .before .before .before .before .before .before .before .before .before .before .before .before .before .before .before .args .results .now) (c .before .before .before .before .before .before .before .before .before .before .before .before .before .before .before .before .before .before .before .before .before .before .before .before .before .args .nodes .now) _ _ (c .before .before .before .before .before .before .before .before .before .before .before .before .before .before .before .before .before .before .before .before .before .before .before .before .before .pre .0) (c .before .before .before .before .before .before .before .before .before .before .before .before .before .before .before .before .before .before .before .before .before .before .before .before .before .pre .1) (c .before .before .before .before .before .before .before .before .before .before .before .before .before .open-names .ensures) (c .before .before .before .before .before .before .resolve-parts .ensures)
 

@@ -7,31 +7,25 @@ use Rattle.resolve_syms.proofs.visible_at.Statement.{statement}
 use Rattle.resolve_syms.proofs.visible_at.Tie as tie
 use Rattle.resolve_syms.proofs.visible_at.Reads as reads
 use Rattle.resolve_syms.proofs.visible_at.Lts as lts
-use Rattle.tree.proofs.words.word.Reads as word-reads
+use Rattle.words.proofs.word.Reads as word-reads
 
--- src/lib.rt:30:9
 word-requires : tie.Need-word-requires
 word-requires c κs = search needs
 
--- src/lib.rt:31:11
 word-requires-2 : tie.Need-word-requires-2
 word-requires-2 c κs = search needs
 
--- src/lib.rt:47:21
 word-requires-3 : tie.Need-word-requires-3
 word-requires-3 c κs = search needs
 
--- src/lib.rt:27:1
 returns : tie.Need-returns
 unfolding nameAt
 returns c = λ v. rw (← c .before .before .word .ensures, sym (c .before .word2 .ensures) ∙ c .match .keys1)
 
--- src/lib.rt:27:1
 returns-2 : tie.Need-returns-2
 unfolding nameAt
 returns-2 c = λ v. rw (← c .before .before .word .ensures, sym (c .before .word2 .ensures) ∙ c .match .keys2)
 
--- src/lib.rt:27:1
 returns-3 : tie.Need-returns-3
 unfolding nameAt
 returns-3 c = λ v. rw (← c .before .before .before .word .ensures, ← c .word3 .ensures, ne-eqb _ 1 (λ z. c .before .match .rest .0 .1 (c .before .before .word2 .ensures ∙ z)), ne-eqb _ 2 (λ z. c .before .match .rest .1 (c .before .before .word2 .ensures ∙ z)))

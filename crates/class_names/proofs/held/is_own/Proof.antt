@@ -1,4 +1,4 @@
-use Rattle.tree.proofs.FindLaws.{row-number}
+use Rattle.sheet.proofs.FindLaws.{row-number}
 use Rattle.class_names.proofs.NameLaws.{own-row, own-record}
 use Rattle.store.specs.Stored.{storeOf}
 use Rattle.outside.specs.Words.{over}
@@ -10,29 +10,23 @@ use Rattle.class_names.proofs.held.is_own.Reads as reads
 use Rattle.class_names.proofs.held.is_own.Lts as lts
 use Rattle.class_names.proofs.held.is_recorded.Reads as is-recorded-reads
 use Rattle.class_names.proofs.held.is_row_name.Reads as is-row-name-reads
-use Rattle.tree.proofs.lists.is_class_row.Reads as is-class-row-reads
+use Rattle.sheet.proofs.is_class_row.Reads as is-class-row-reads
 
--- src/held.rt:52:8
 is-class-row-requires : tie.Need-is-class-row-requires
 is-class-row-requires c κs = search needs
 
--- src/held.rt:53:43
 sub-is-row-name : tie.Need-sub-is-row-name
 sub-is-row-name c = row-number (c .before .before .before .before .before .before .before .args .sheet .now) (c .before .before .before .before .before .before .before .args .c .0) (sym (c .before .before .is-class-row .ensures) ∙ c .before .if1 .taken)
 
--- src/held.rt:53:9
 is-row-name-requires : tie.Need-is-row-name-requires
 is-row-name-requires c κs = search needs
 
--- src/held.rt:53:9
 returns : tie.Need-returns
 returns c = λ o. let a = c .before .before .before .before .before .before .before .before .args in own-row (over (a .outside .now)) (a .sheet .now) (storeOf o (a .results .now) (a .nodes .now)) (a .kind) (a .c .0) (a .m) (sym (c .before .before .if1 .taken) ∙ c .before .before .before .is-class-row .ensures) (c .is-row-name .ensures o)
 
--- src/held.rt:55:5
 is-recorded-requires : tie.Need-is-recorded-requires
 is-recorded-requires c κs = search needs
 
--- src/held.rt:41:1
 returns-2 : tie.Need-returns-2
 returns-2 c = λ o. let a = c .before .before .before .before .before .before .before .args in own-record (over (a .outside .now)) (a .sheet .now) (storeOf o (a .results .now) (a .nodes .now)) (a .kind) (a .c .0) (a .m) (sym (c .before .if1 .left) ∙ c .before .before .is-class-row .ensures) (c .is-recorded .ensures)
 

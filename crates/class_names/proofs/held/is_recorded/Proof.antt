@@ -10,15 +10,12 @@ use Rattle.class_names.proofs.held.is_recorded.Lts as lts
 use Rattle.outside.proofs.records.is_listed.Reads as is-listed-reads
 use Rattle.outside.proofs.records.recorded_names.Reads as recorded-names-reads
 
--- src/held.rt:23:9
 recorded-names-requires : tie.Need-recorded-names-requires
 recorded-names-requires c κs = search needs
 
--- src/held.rt:24:5
 is-listed-requires : tie.Need-is-listed-requires
 is-listed-requires c κs = search needs
 
--- src/held.rt:20:1
 returns : tie.Need-returns
 returns c = c .is-listed .ensures ∙ ap (λ (l : List ℕ). c .before .before .before .args .m ∈? l) (c .before .recorded-names .ensures)
 

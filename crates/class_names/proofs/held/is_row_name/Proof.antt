@@ -7,30 +7,24 @@ use Rattle.class_names.proofs.held.is_row_name.Tie as tie
 use Rattle.class_names.proofs.held.is_row_name.Reads as reads
 use Rattle.class_names.proofs.held.is_row_name.Lts as lts
 use Rattle.store.proofs.nodes.has_key.Reads as has-key-reads
-use Rattle.tree.proofs.lists.has_named.Reads as has-named-reads
-use Rattle.tree.proofs.words.word.Reads as word-reads
+use Rattle.sheet.proofs.has_named.Reads as has-named-reads
+use Rattle.words.proofs.word.Reads as word-reads
 
--- src/held.rt:31:8
 has-named-requires : tie.Need-has-named-requires
 has-named-requires c κs = search needs
 
--- src/held.rt:32:9
 returns : tie.Need-returns
 returns c = λ o. let a = c .before .before .before .before .before .args in row-listed (a .sheet .now) (storeOf o (a .results .now) (a .nodes .now)) (a .kind) (a .row) (a .m) (sym (c .if1 .taken) ∙ c .before .has-named .ensures)
 
--- src/held.rt:35:27
 word-requires : tie.Need-word-requires
 word-requires c κs = search needs
 
--- src/held.rt:35:9
 has-key-requires : tie.Need-has-key-requires
 has-key-requires c κs = search needs
 
--- src/held.rt:35:9
 returns-2 : tie.Need-returns-2
 returns-2 c = λ o. let a = c .before .before .before .before .before .before .before .before .args in row-stored (a .sheet .now) (storeOf o (a .results .now) (a .nodes .now)) (a .kind) (a .row) (a .m) (sym (c .before .before .before .if1 .left) ∙ c .before .before .before .before .has-named .ensures) (c .before .before .if2 .taken) (c .before .word .ensures) (c .has-key .ensures)
 
--- src/held.rt:28:1
 returns-3 : tie.Need-returns-3
 returns-3 c = λ o. let a = c .before .before .before .before .before .before .args in row-none (a .sheet .now) (storeOf o (a .results .now) (a .nodes .now)) (a .kind) (a .row) (a .m) (sym (c .before .if1 .left) ∙ c .before .before .has-named .ensures) (c .if2 .left)
 

@@ -4,21 +4,17 @@ use Rattle.class_rows.proofs.places.line_ends.Statement.{statement}
 use Rattle.class_rows.proofs.places.line_ends.Tie as tie
 use Rattle.class_rows.proofs.places.line_ends.Reads as reads
 use Rattle.class_rows.proofs.places.line_ends.Lts as lts
-use Rattle.tree.proofs.lists.is_class_row.Reads as is-class-row-reads
+use Rattle.sheet.proofs.is_class_row.Reads as is-class-row-reads
 
--- src/places.rt:59:9
 returns : tie.Need-returns
 returns c = rw (ne-eqb (c .before .before .args .at) 0 (c .if1 .taken))
 
--- src/places.rt:61:9
 is-class-row-requires : tie.Need-is-class-row-requires
 is-class-row-requires c κs = search needs
 
--- src/places.rt:62:9
 returns-2 : tie.Need-returns-2
 returns-2 c = rw (eq-eqb (c .before .before .before .before .args .at) 0 (c .before .before .if1 .left), ← c .before .is-class-row .ensures, not-true (c .before .is-class-row .result) (c .if2 .taken))
 
--- src/places.rt:55:1
 returns-3 : tie.Need-returns-3
 returns-3 c = rw (eq-eqb (c .before .before .before .before .args .at) 0 (c .before .before .if1 .left), ← c .before .is-class-row .ensures, not-false (c .before .is-class-row .result) (c .if2 .left))
 

@@ -1,4 +1,4 @@
-use Rattle.tree.proofs.FindLaws.{row-number}
+use Rattle.sheet.proofs.FindLaws.{row-number}
 use Rattle.class_rows.proofs.PutLaws.{own-stored, own-listed, own-recorded}
 use Rattle.class_rows.specs.Put.{filled, nameRow}
 use Rattle.class_names.specs.Names.{inherited}
@@ -14,34 +14,27 @@ use Rattle.class_rows.proofs.put.put_listed.Reads as put-listed-reads
 use Rattle.class_rows.proofs.put.put_recorded.Reads as put-recorded-reads
 use Rattle.class_rows.proofs.put.put_stored.Reads as put-stored-reads
 use Rattle.outside.proofs.records.recorded_names.Reads as recorded-names-reads
-use Rattle.tree.proofs.lists.is_class_row.Reads as is-class-row-reads
-use Rattle.tree.proofs.words.word.Reads as word-reads
+use Rattle.sheet.proofs.is_class_row.Reads as is-class-row-reads
+use Rattle.words.proofs.word.Reads as word-reads
 
--- src/put.rt:210:8
 is-class-row-requires : tie.Need-is-class-row-requires
 is-class-row-requires c κs = search needs
 
--- src/put.rt:211:17
 sub-r : tie.Need-sub-r
 sub-r c = row-number (c .before .before .before .before .before .before .before .before .args .sheet .now) (c .before .before .before .before .before .before .before .before .args .c .0) (sym (c .before .before .is-class-row .ensures) ∙ c .before .if1 .taken)
 
--- src/put.rt:212:13
 put-listed-requires : tie.Need-put-listed-requires
 put-listed-requires c κs = search needs
 
--- src/put.rt:214:55
 word-requires : tie.Need-word-requires
 word-requires c κs = search needs
 
--- src/put.rt:214:13
 put-stored-requires : tie.Need-put-stored-requires
 put-stored-requires c κs = search needs
 
--- src/put.rt:214:13
 same-length : tie.Need-same-length
 same-length c = search needs
 
--- src/put.rt:214:13
 returns : tie.Need-returns
 returns c = λ o. let a = c .before .before .before .before .before .before .before .before .before .before .before .before .before .before .before .before .before .before .before .args in
     let O = over (a .outside .now) in
@@ -49,11 +42,9 @@ returns c = λ o. let a = c .before .before .before .before .before .before .bef
     own-stored O (nameRow O (a .sheet .now) st (a .wanted)) (inherited O (a .sheet .now) st (a .wanted .kind) (a .p .left) (a .p .class .0)) (a .sheet .now) st (a .wanted .kind) (a .c .0) (filled (a .k) (a .out .now))
     (sym (c .before .before .before .before .before .before .before .before .before .before .before .before .if1 .taken) ∙ c .before .before .before .before .before .before .before .before .before .before .before .before .before .is-class-row .ensures) (c .before .before .before .before .before .before .before .before .before .put-listed .ensures o) (c .before .before .before .before .before .if2 .taken) (c .before .before .before .before .word .ensures) (c .before .before .put-stored .ensures o)
 
--- src/put.rt:216:9
 same-length-2 : tie.Need-same-length-2
 same-length-2 c = search needs
 
--- src/put.rt:216:9
 returns-2 : tie.Need-returns-2
 returns-2 c = λ o. let a = c .before .before .before .before .before .before .before .before .before .before .before .before .before .before .args in
     let O = over (a .outside .now) in
@@ -61,19 +52,15 @@ returns-2 c = λ o. let a = c .before .before .before .before .before .before .b
     own-listed O (nameRow O (a .sheet .now) st (a .wanted)) (inherited O (a .sheet .now) st (a .wanted .kind) (a .p .left) (a .p .class .0)) (a .sheet .now) st (a .wanted .kind) (a .c .0) (filled (a .k) (a .out .now))
     (sym (c .before .before .before .before .before .before .before .if1 .taken) ∙ c .before .before .before .before .before .before .before .before .is-class-row .ensures) (c .before .before .before .before .put-listed .ensures o) (c .if2 .left)
 
--- src/put.rt:218:9
 recorded-names-requires : tie.Need-recorded-names-requires
 recorded-names-requires c κs = search needs
 
--- src/put.rt:219:5
 put-recorded-requires : tie.Need-put-recorded-requires
 put-recorded-requires c κs = search needs
 
--- src/put.rt:197:1
 same-length-3 : tie.Need-same-length-3
 same-length-3 c = search needs
 
--- src/put.rt:197:1
 returns-3 : tie.Need-returns-3
 returns-3 c = λ o. let a = c .before .before .before .before .before .before .before .before .before .before .before .before .args in
     let O = over (a .outside .now) in

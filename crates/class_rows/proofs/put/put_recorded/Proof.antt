@@ -17,7 +17,7 @@ use Rattle.class_rows.proofs.put.put_recorded.Reads as reads
 use Rattle.class_rows.proofs.put.put_recorded.Lts as lts
 use Rattle.class_rows.proofs.put.put_new.Reads as put-new-reads
 use Rattle.outside.proofs.records.step_of.Reads as step-of-reads
-use Rattle.outside.proofs.records.word_at.Reads as word-at-reads
+use Rattle.words.proofs.word_at.Reads as word-at-reads
 
 abbrev Inv-loop : tie.InvT-loop
 Inv-loop s outside t q w p out₀ step done₀ at₀ left₀ out done at left = ((o : Store) → putNew (over outside) s (storeOf o t q) w p (spacedAt outside step at left) (filled done out) ≡ putNew (over outside) s (storeOf o t q) w p (spacedAt outside step at₀ left₀) (filled done₀ out₀)) × (at + 3 * left ≤ 17179869180) × (step ≤ 3) × (length out ≡ length out₀)
@@ -25,39 +25,30 @@ Inv-loop s outside t q w p out₀ step done₀ at₀ left₀ out done at left = 
 abbrev μ-loop : tie.MeasureT-loop
 μ-loop s outside t q w p out₀ step done₀ at₀ left₀ out done at left = left
 
--- src/put.rt:130:9
 step-of-requires : tie.Need-step-of-requires Inv-loop μ-loop
 step-of-requires c κs = tt
 
--- src/put.rt:132:18
 cast-at : tie.Need-cast-at Inv-loop μ-loop
 cast-at c = search needs
 
--- src/put.rt:134:5
 loop-holds : tie.Need-loop-holds Inv-loop μ-loop
 loop-holds c = (λ o. refl, omega (arith, c .struct-known .given), omega (arith, c .before .step-of .ensures, step-few (c .before .before .before .before .before .before .before .args .names .kind)), refl)
 
--- src/put.rt:135:48
 word-at-requires : tie.Need-word-at-requires Inv-loop μ-loop
 word-at-requires c κs = tt
 
--- src/put.rt:135:9
 put-new-requires : tie.Need-put-new-requires Inv-loop μ-loop
 put-new-requires c κs = tt
 
--- src/put.rt:136:9
 add-at : tie.Need-add-at Inv-loop μ-loop
 add-at c = omega (arith, c .before .before .before .before .before .before .loop .inv .1, c .before .before .before .before .before .before .loop .inv .2)
 
--- src/put.rt:137:9
 sub-left : tie.Need-sub-left Inv-loop μ-loop
 sub-left c = omega (arith, c .before .before .before .before .before .loop-test .taken)
 
--- src/put.rt:134:5
 loop-less : tie.Need-loop-less Inv-loop μ-loop
 loop-less c = omega (arith, c .before .before .before .before .before .loop-test .taken)
 
--- src/put.rt:134:5
 loop-again : tie.Need-loop-again Inv-loop μ-loop
 loop-again c = (
   λ o. let a = c .before .before .before .before .before .before .before .before .before .before .before .before .before .before .args in spaced-next (nameRow (over (a .outside .now)) (a .sheet .now) (storeOf o (a .results .now) (a .nodes .now)) (a .wanted)) (inherited (over (a .outside .now)) (a .sheet .now) (storeOf o (a .results .now) (a .nodes .now)) (a .wanted .kind) (a .p .left) (a .p .class .0))
@@ -67,11 +58,9 @@ loop-again c = (
   omega (arith, c .before .before .put-new .kept, c .before .before .before .before .before .before .loop .inv .3),
 )
 
--- src/put.rt:117:1
 same-length : tie.Need-same-length Inv-loop μ-loop
 same-length c = c .before .loop .inv .3
 
--- src/put.rt:117:1
 returns : tie.Need-returns Inv-loop μ-loop
 returns c = λ o. let a = c .before .before .before .before .before .before .before .before .before .args in spaced-end (nameRow (over (a .outside .now)) (a .sheet .now) (storeOf o (a .results .now) (a .nodes .now)) (a .wanted)) (inherited (over (a .outside .now)) (a .sheet .now) (storeOf o (a .results .now) (a .nodes .now)) (a .wanted .kind) (a .p .left) (a .p .class .0)) (a .outside .now) (c .before .before .before .step-of .result) (c .before .loop .at) (c .before .loop .left) (filled (c .before .loop .done) (c .before .loop .out)) (c .loop-test .left) ∙ c .before .loop .inv .0 o ∙ ap (λ (i : ℕ). putNew (over (a .outside .now)) (a .sheet .now) (storeOf o (a .results .now) (a .nodes .now)) (a .wanted) (a .p) (spacedAt (a .outside .now) i (a .names .at) (a .names .count)) (filled (a .k) (a .out .now))) (c .before .before .before .step-of .ensures)
 

@@ -5,30 +5,24 @@ use Rattle.outside.proofs.records.class_name.Tie as tie
 use Rattle.outside.proofs.records.class_name.Reads as reads
 use Rattle.outside.proofs.records.class_name.Lts as lts
 use Rattle.outside.proofs.records.find_record.Reads as find-record-reads
-use Rattle.tree.proofs.lists.is_class_row.Reads as is-class-row-reads
-use Rattle.tree.proofs.words.word.Reads as word-reads
+use Rattle.sheet.proofs.is_class_row.Reads as is-class-row-reads
+use Rattle.words.proofs.word.Reads as word-reads
 
--- src/records.rt:99:8
 is-class-row-requires : tie.Need-is-class-row-requires
 is-class-row-requires c κs = search needs
 
--- src/records.rt:100:24
 sub-word : tie.Need-sub-word
 sub-word c = own-number (c .before .before .before .before .before .args .sheet .now) (c .before .before .before .before .before .args .outside .now) (c .before .before .before .before .before .args .c .0) (c .before .before .is-class-row .ensures) (c .before .if1 .taken)
 
--- src/records.rt:100:9
 word-requires : tie.Need-word-requires
 word-requires c κs = search needs
 
--- src/records.rt:100:9
 returns : tie.Need-returns
 returns c = name-own (c .before .before .before .before .before .before .args .sheet .now) (c .before .before .before .before .before .before .args .outside .now) (c .before .before .before .before .before .before .args .c .0) (c .before .before .before .is-class-row .ensures) (c .before .before .if1 .taken) (c .word .ensures)
 
--- src/records.rt:102:5
 find-record-requires : tie.Need-find-record-requires
 find-record-requires c κs = search needs
 
--- src/records.rt:96:1
 returns-2 : tie.Need-returns-2
 returns-2 c = name-record (c .before .before .before .before .before .args .sheet .now) (c .before .before .before .before .before .args .outside .now) (c .before .before .before .before .before .args .c .0) (c .before .before .is-class-row .ensures) (c .before .if1 .left) (c .find-record .ensures)
 

@@ -8,7 +8,7 @@ use Rattle.outside.proofs.records.find_record.Tie as tie
 use Rattle.outside.proofs.records.find_record.Reads as reads
 use Rattle.outside.proofs.records.find_record.Lts as lts
 use Rattle.outside.proofs.records.record_at.Reads as record-at-reads
-use Rattle.tree.proofs.words.word.Reads as word-reads
+use Rattle.words.proofs.word.Reads as word-reads
 
 abbrev Inv-loop : tie.InvT-loop
 Inv-loop outside c end i₀ i = sought outside (c .0) i (end - i) ≡ sought outside (c .0) i₀ (end - i₀)
@@ -16,43 +16,33 @@ Inv-loop outside c end i₀ i = sought outside (c .0) i (end - i) ≡ sought out
 abbrev μ-loop : tie.MeasureT-loop
 μ-loop outside c end i₀ i = end - i
 
--- src/records.rt:74:9
 word-requires : tie.Need-word-requires Inv-loop μ-loop
 word-requires c κs = tt
 
--- src/records.rt:75:9
 word-requires-2 : tie.Need-word-requires-2 Inv-loop μ-loop
 word-requires-2 c κs = tt
 
--- src/records.rt:76:5
 loop-holds : tie.Need-loop-holds Inv-loop μ-loop
 loop-holds c = refl
 
--- src/records.rt:77:12
 word-requires-3 : tie.Need-word-requires-3 Inv-loop μ-loop
 word-requires-3 c κs = tt
 
--- src/records.rt:78:13
 record-at-requires : tie.Need-record-at-requires Inv-loop μ-loop
 record-at-requires c κs = tt
 
--- src/records.rt:78:13
 returns : tie.Need-returns Inv-loop μ-loop
 returns c = all-sought (c .before .before .before .before .before .before .before .before .before .args .outside .now) (c .before .before .before .before .before .before .before .before .before .args .c .0) _ (c .before .before .before .before .before .before .word2 .ensures) (c .before .before .before .before .before .before .before .word .ensures) (ap (told (c .before .before .before .before .before .before .before .before .before .args .outside .now)) (c .record-at .ensures) ∙ sought-here (c .before .before .before .before .before .before .before .before .before .args .outside .now) (c .before .before .before .before .before .before .before .before .before .args .c .0) (c .before .before .before .before .before .loop .i) (c .before .before .before .before .before .before .before .word .result - c .before .before .before .before .before .loop .i) (omega (arith, c .before .before .before .before .loop-test .taken)) (c .before .before .before .word3 .ensures) (c .before .if1 .taken) ∙ c .before .before .before .before .before .loop .inv)
 
--- src/records.rt:80:9
 add-i : tie.Need-add-i Inv-loop μ-loop
 add-i c = search needs
 
--- src/records.rt:76:5
 loop-less : tie.Need-loop-less Inv-loop μ-loop
 loop-less c = omega (arith, c .before .before .before .loop-test .taken)
 
--- src/records.rt:76:5
 loop-again : tie.Need-loop-again Inv-loop μ-loop
 loop-again c = let z : c .before .before .before .before .before .before .word .result - (c .before .before .before .before .loop .i + 1) ≡ c .before .before .before .before .before .before .word .result - c .before .before .before .before .loop .i - 1 = omega arith in ap (sought (c .before .before .before .before .before .before .before .before .args .outside .now) (c .before .before .before .before .before .before .before .before .args .c .0) (c .before .before .before .before .loop .i + 1)) z ∙ sought-next (c .before .before .before .before .before .before .before .before .args .outside .now) (c .before .before .before .before .before .before .before .before .args .c .0) (c .before .before .before .before .loop .i) (c .before .before .before .before .before .before .word .result - c .before .before .before .before .loop .i) (omega (arith, c .before .before .before .loop-test .taken)) (c .before .before .word3 .ensures) (c .if1 .left) ∙ c .before .before .before .before .loop .inv
 
--- src/records.rt:71:1
 returns-2 : tie.Need-returns-2 Inv-loop μ-loop
 returns-2 c = all-sought (c .before .before .before .before .before .args .outside .now) (c .before .before .before .before .before .args .c .0) _ (c .before .before .word2 .ensures) (c .before .before .before .word .ensures) (sought-none (c .before .before .before .before .before .args .outside .now) (c .before .before .before .before .before .args .c .0) (c .before .loop .i) (c .before .before .before .word .result - c .before .loop .i) (omega (arith, c .loop-test .left)) ∙ c .before .loop .inv)
 

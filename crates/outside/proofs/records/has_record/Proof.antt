@@ -5,21 +5,17 @@ use Rattle.outside.proofs.records.has_record.Tie as tie
 use Rattle.outside.proofs.records.has_record.Reads as reads
 use Rattle.outside.proofs.records.has_record.Lts as lts
 use Rattle.outside.proofs.records.find_record.Reads as find-record-reads
-use Rattle.tree.proofs.lists.is_class_row.Reads as is-class-row-reads
+use Rattle.sheet.proofs.is_class_row.Reads as is-class-row-reads
 
--- src/records.rt:89:8
 is-class-row-requires : tie.Need-is-class-row-requires
 is-class-row-requires c κs = search needs
 
--- src/records.rt:90:9
 returns : tie.Need-returns
 returns c = has-own (c .before .before .before .before .args .sheet .now) (c .before .before .before .before .args .outside .now) (c .before .before .before .before .args .c .0) (c .before .is-class-row .ensures) (c .if1 .taken)
 
--- src/records.rt:92:5
 find-record-requires : tie.Need-find-record-requires
 find-record-requires c κs = search needs
 
--- src/records.rt:86:1
 returns-2 : tie.Need-returns-2
 returns-2 c = has-record (c .before .before .before .before .before .args .sheet .now) (c .before .before .before .before .before .args .outside .now) (c .before .before .before .before .before .args .c .0) (c .before .before .is-class-row .ensures) (c .before .if1 .left) (c .find-record .ensures)
 

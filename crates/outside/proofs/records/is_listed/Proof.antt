@@ -11,7 +11,7 @@ use Rattle.outside.proofs.records.is_listed.Tie as tie
 use Rattle.outside.proofs.records.is_listed.Reads as reads
 use Rattle.outside.proofs.records.is_listed.Lts as lts
 use Rattle.outside.proofs.records.step_of.Reads as step-of-reads
-use Rattle.outside.proofs.records.word_at.Reads as word-at-reads
+use Rattle.words.proofs.word_at.Reads as word-at-reads
 
 abbrev Inv-loop : tie.InvT-loop
 Inv-loop outside m step p₀ left₀ p left = ((m ∈? spacedAt outside step p left) ≡ (m ∈? spacedAt outside step p₀ left₀)) × (p + 3 * left ≤ 17179869180) × (step ≤ 3)
@@ -19,43 +19,33 @@ Inv-loop outside m step p₀ left₀ p left = ((m ∈? spacedAt outside step p l
 abbrev μ-loop : tie.MeasureT-loop
 μ-loop outside m step p₀ left₀ p left = left
 
--- src/records.rt:184:9
 step-of-requires : tie.Need-step-of-requires Inv-loop μ-loop
 step-of-requires c κs = tt
 
--- src/records.rt:185:17
 cast-p : tie.Need-cast-p Inv-loop μ-loop
 cast-p c = omega (arith, c .before .before .before .fits)
 
--- src/records.rt:187:5
 loop-holds : tie.Need-loop-holds Inv-loop μ-loop
 loop-holds c = (refl, omega (arith, c .before .before .before .fits), omega (arith, c .before .step-of .ensures, step-few (c .before .before .before .args .names .kind)))
 
--- src/records.rt:188:12
 word-at-requires : tie.Need-word-at-requires Inv-loop μ-loop
 word-at-requires c κs = tt
 
--- src/records.rt:189:13
 returns : tie.Need-returns Inv-loop μ-loop
 returns c = spaced-here (c .before .before .before .before .before .before .before .args .outside .now) (c .before .before .before .before .before .step-of .result) (c .before .before .before .before .before .before .before .args .m) (c .before .before .before .loop .p) (c .before .before .before .loop .left) (c .before .before .loop-test .taken) (c .before .word-at .ensures) (c .if1 .taken) ∙ c .before .before .before .loop .inv .0 ∙ ap (λ (k : ℕ). c .before .before .before .before .before .before .before .args .m ∈? spacedAt (c .before .before .before .before .before .before .before .args .outside .now) k (c .before .before .before .before .before .before .before .args .names .at) (c .before .before .before .before .before .before .before .args .names .count)) (c .before .before .before .before .before .step-of .ensures)
 
--- src/records.rt:191:9
 add-p : tie.Need-add-p Inv-loop μ-loop
 add-p c = omega (arith, c .before .before .before .loop .inv .1, c .before .before .before .loop .inv .2)
 
--- src/records.rt:192:9
 sub-left : tie.Need-sub-left Inv-loop μ-loop
 sub-left c = omega (arith, c .before .before .loop-test .taken)
 
--- src/records.rt:187:5
 loop-less : tie.Need-loop-less Inv-loop μ-loop
 loop-less c = omega (arith, c .before .before .loop-test .taken)
 
--- src/records.rt:187:5
 loop-again : tie.Need-loop-again Inv-loop μ-loop
 loop-again c = (spaced-next (c .before .before .before .before .before .before .before .args .outside .now) (c .before .before .before .before .before .step-of .result) (c .before .before .before .before .before .before .before .args .m) (c .before .before .before .loop .p) (c .before .before .before .loop .left) (c .before .before .loop-test .taken) (c .before .word-at .ensures) (c .if1 .left) ∙ c .before .before .before .loop .inv .0, omega (arith, c .before .before .before .loop .inv .1, c .before .before .before .loop .inv .2, c .before .before .loop-test .taken), c .before .before .before .loop .inv .2)
 
--- src/records.rt:181:1
 returns-2 : tie.Need-returns-2 Inv-loop μ-loop
 returns-2 c = spaced-none (c .before .before .before .before .before .args .outside .now) (c .before .before .before .step-of .result) (c .before .before .before .before .before .args .m) (c .before .loop .p) (c .before .loop .left) (c .loop-test .left) ∙ c .before .loop .inv .0 ∙ ap (λ (k : ℕ). c .before .before .before .before .before .args .m ∈? spacedAt (c .before .before .before .before .before .args .outside .now) k (c .before .before .before .before .before .args .names .at) (c .before .before .before .before .before .args .names .count)) (c .before .before .before .step-of .ensures)
 

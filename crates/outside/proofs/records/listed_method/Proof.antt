@@ -5,17 +5,14 @@ use Rattle.outside.proofs.records.listed_method.Statement.{statement}
 use Rattle.outside.proofs.records.listed_method.Tie as tie
 use Rattle.outside.proofs.records.listed_method.Reads as reads
 use Rattle.outside.proofs.records.listed_method.Lts as lts
-use Rattle.tree.proofs.lists.arity.Reads as arity-reads
+use Rattle.sheet.proofs.arity.Reads as arity-reads
 
--- src/records.rt:132:9
 returns : tie.Need-returns
 returns c = (sym (c .if1 .taken), rw (eq-eqb _ 0 (c .if1 .taken)))
 
--- src/records.rt:139:17
 arity-requires : tie.Need-arity-requires
 arity-requires c κs = search needs
 
--- src/records.rt:128:1
 returns-2 : tie.Need-returns-2
 returns-2 c = (refl, rw (ne-eqb _ 0 (c .before .if1 .left)) (c .arity .ensures))
 

@@ -8,38 +8,30 @@ use Rattle.outside.proofs.records.own_method.Lts as lts
 use Rattle.outside.proofs.records.find_record.Reads as find-record-reads
 use Rattle.outside.proofs.records.listed_method.Reads as listed-method-reads
 use Rattle.outside.proofs.records.recorded_method.Reads as recorded-method-reads
-use Rattle.tree.proofs.lists.first_named.Reads as first-named-reads
-use Rattle.tree.proofs.lists.is_class_row.Reads as is-class-row-reads
+use Rattle.sheet.proofs.first_named.Reads as first-named-reads
+use Rattle.sheet.proofs.is_class_row.Reads as is-class-row-reads
 
--- src/records.rt:147:8
 is-class-row-requires : tie.Need-is-class-row-requires
 is-class-row-requires c κs = search needs
 
--- src/records.rt:148:54
 sub-first-named : tie.Need-sub-first-named
 sub-first-named c = own-number (c .before .before .before .before .before .args .sheet .now) (c .before .before .before .before .before .args .outside .now) (c .before .before .before .before .before .args .c .0) (c .before .before .is-class-row .ensures) (c .before .if1 .taken)
 
--- src/records.rt:148:39
 first-named-requires : tie.Need-first-named-requires
 first-named-requires c κs = search needs
 
--- src/records.rt:148:9
 listed-method-requires : tie.Need-listed-method-requires
 listed-method-requires c κs = search needs
 
--- src/records.rt:148:9
 returns : tie.Need-returns
 returns c = own-listed (c .before .before .before .before .before .before .before .args .sheet .now) (c .before .before .before .before .before .before .before .args .outside .now) (c .before .before .before .before .before .before .before .args .c .0) (c .before .before .before .before .is-class-row .ensures) (c .before .before .before .if1 .taken) (c .before .first-named .ensures) (c .listed-method .ensures .0) (c .listed-method .ensures .1)
 
--- src/records.rt:150:9
 find-record-requires : tie.Need-find-record-requires
 find-record-requires c κs = search needs
 
--- src/records.rt:151:5
 recorded-method-requires : tie.Need-recorded-method-requires
 recorded-method-requires c κs = search needs
 
--- src/records.rt:144:1
 returns-2 : tie.Need-returns-2
 returns-2 c = own-recorded (c .before .before .before .before .before .before .args .sheet .now) (c .before .before .before .before .before .before .args .outside .now) (c .before .before .before .before .before .before .args .c .0) (c .before .before .before .is-class-row .ensures) (c .before .before .if1 .left) (c .before .find-record .ensures) (c .recorded-method .ensures)
 

@@ -10,7 +10,7 @@ use Rattle.outside.proofs.records.recorded_method.Statement.{statement}
 use Rattle.outside.proofs.records.recorded_method.Tie as tie
 use Rattle.outside.proofs.records.recorded_method.Reads as reads
 use Rattle.outside.proofs.records.recorded_method.Lts as lts
-use Rattle.outside.proofs.records.word_at.Reads as word-at-reads
+use Rattle.words.proofs.word_at.Reads as word-at-reads
 
 abbrev Inv-loop : tie.InvT-loop
 Inv-loop outside at count n p₀ left₀ p left = (methodOf n (methodsAt outside p left) ≡ methodOf n (methodsAt outside at count)) × (p + 3 * left ≤ 17179869180)
@@ -18,55 +18,42 @@ Inv-loop outside at count n p₀ left₀ p left = (methodOf n (methodsAt outside
 abbrev μ-loop : tie.MeasureT-loop
 μ-loop outside at count n p₀ left₀ p left = left
 
--- src/records.rt:111:5
 loop-holds : tie.Need-loop-holds Inv-loop μ-loop
 loop-holds c = (refl, omega (arith, c .before .fits))
 
--- src/records.rt:112:12
 word-at-requires : tie.Need-word-at-requires Inv-loop μ-loop
 word-at-requires c κs = tt
 
--- src/records.rt:114:45
 add-word-at : tie.Need-add-word-at Inv-loop μ-loop
 add-word-at c = omega (arith, c .before .before .before .loop .inv .1)
 
--- src/records.rt:114:28
 word-at-requires-2 : tie.Need-word-at-requires-2 Inv-loop μ-loop
 word-at-requires-2 c κs = tt
 
--- src/records.rt:115:42
 add-word-at-2 : tie.Need-add-word-at-2 Inv-loop μ-loop
 add-word-at-2 c = omega (arith, c .before .before .before .before .loop .inv .1)
 
--- src/records.rt:115:25
 word-at-requires-3 : tie.Need-word-at-requires-3 Inv-loop μ-loop
 word-at-requires-3 c κs = tt
 
--- src/records.rt:115:25
 cast-t14 : tie.Need-cast-t14 Inv-loop μ-loop
 cast-t14 c = search needs
 
--- src/records.rt:113:13
 returns : tie.Need-returns Inv-loop μ-loop
 returns c = let found = methods-here (c .before .before .before .before .before .before .before .args .outside .now) (c .before .before .before .before .before .before .before .args .n) (c .before .before .before .before .before .loop .p) (c .before .before .before .before .before .loop .left) (c .before .before .before .before .loop-test .taken) (c .before .before .before .word-at .ensures) (c .before .before .if1 .taken) ∙ c .before .before .before .before .before .loop .inv .0 in record { funIs = c .before .word-at2 .ensures ∙ ap (λ (y : Method). y .fun) found; paramsAre = c .word-at3 .ensures ∙ ap (λ (y : Method). y .params) found }
 
--- src/records.rt:118:9
 add-p : tie.Need-add-p Inv-loop μ-loop
 add-p c = omega (arith, c .before .before .before .loop .inv .1)
 
--- src/records.rt:119:9
 sub-left : tie.Need-sub-left Inv-loop μ-loop
 sub-left c = omega (arith, c .before .before .loop-test .taken)
 
--- src/records.rt:111:5
 loop-less : tie.Need-loop-less Inv-loop μ-loop
 loop-less c = omega (arith, c .before .before .loop-test .taken)
 
--- src/records.rt:111:5
 loop-again : tie.Need-loop-again Inv-loop μ-loop
 loop-again c = (methods-next (c .before .before .before .before .before .args .outside .now) (c .before .before .before .before .before .args .n) (c .before .before .before .loop .p) (c .before .before .before .loop .left) (c .before .before .loop-test .taken) (c .before .word-at .ensures) (c .if1 .left) ∙ c .before .before .before .loop .inv .0, omega (arith, c .before .before .before .loop .inv .1, c .before .before .loop-test .taken))
 
--- src/records.rt:106:1
 returns-2 : tie.Need-returns-2 Inv-loop μ-loop
 returns-2 c = let found = methods-none (c .before .before .before .args .outside .now) (c .before .before .before .args .n) (c .before .loop .p) (c .before .loop .left) (c .loop-test .left) ∙ c .before .loop .inv .0 in record { funIs = ap (λ (y : Method). y .fun) found; paramsAre = ap (λ (y : Method). y .params) found }
 

@@ -11,15 +11,12 @@ use Rattle.outside.proofs.records.recorded_names.Reads as reads
 use Rattle.outside.proofs.records.recorded_names.Lts as lts
 use Rattle.outside.proofs.records.find_record.Reads as find-record-reads
 
--- src/records.rt:158:9
 find-record-requires : tie.Need-find-record-requires
 find-record-requires c κs = search needs
 
--- src/records.rt:160:9
 returns : tie.Need-returns
 returns c = rw (eq-eqb _ 10 (c .if1 .taken)) (c .before .find-record .ensures .fieldsAre)
 
--- src/records.rt:155:1
 returns-2 : tie.Need-returns-2
 returns-2 c = rw (ne-eqb _ 10 (c .if1 .left)) (method-names (c .before .before .before .args .outside .now) (c .before .find-record .result .method) (c .before .find-record .result .methods) ∙ ap (map (λ (m : Method). m .name)) (c .before .find-record .ensures .methodsAre))
 

@@ -4,11 +4,9 @@ use Rattle.outside.proofs.records.step_of.Tie as tie
 use Rattle.outside.proofs.records.step_of.Reads as reads
 use Rattle.outside.proofs.records.step_of.Lts as lts
 
--- src/records.rt:174:1
 returns : tie.Need-returns
 returns c = rw (eq-eqb _ 10 (c .if1 .taken))
 
--- src/records.rt:174:1
 returns-2 : tie.Need-returns-2
 returns-2 c = rw (ne-eqb _ 10 (c .if1 .left))
 

@@ -1,7 +1,7 @@
 use Rattle.definition.specs.Walk.{isPart}
 use Rattle.resolve_syms.proofs.WalkLaws.{place-bound}
 use Rattle.resolve_syms.proofs.WalkLaws.{walk-none, walk-by, part-skipped, part-by, list-starts, list-none, list-end, list-refused, list-more}
-use Rattle.resolve_syms.proofs.RowLaws.{runs-none, runs-one, before-expr, after-unit, after-fun, part-high}
+use Rattle.row_events.proofs.RowLaws.{runs-none, runs-one, before-expr, after-unit, after-fun, part-high}
 use Rattle.resolve_syms.specs.Walked.{listed}
 use Rattle.definition.specs.Walk.{leave}
 use Rattle.outside.specs.Words.{over}
@@ -37,15 +37,15 @@ use Rattle.resolve_syms.proofs.cycle.resolve_unit.Reads as resolve-unit
 use Rattle.resolve_syms.proofs.cycle.resolve_unit.Kinds as resolve-unit-kinds
 use Rattle.resolve_syms.proofs.cycle.+resolve_any+resolve_expr+resolve_fun+resolve_part+resolve_parts+resolve_stmt+resolve_unit.Lts-resolve_unit as resolve-unit-lts
 use Rattle.resolve_syms.proofs.cycle.place_after.Reads as place-after-reads
-use Rattle.resolve_syms.proofs.rows.after_expr.Reads as after-expr-reads
-use Rattle.resolve_syms.proofs.rows.after_part.Reads as after-part-reads
-use Rattle.resolve_syms.proofs.rows.after_stmt.Reads as after-stmt-reads
-use Rattle.resolve_syms.proofs.rows.before_fun.Reads as before-fun-reads
-use Rattle.resolve_syms.proofs.rows.before_stmt.Reads as before-stmt-reads
-use Rattle.resolve_syms.proofs.rows.before_unit.Reads as before-unit-reads
-use Rattle.resolve_syms.proofs.rows.is_part.Reads as is-part-reads
-use Rattle.resolve_syms.proofs.rows.part_list.Reads as part-list-reads
-use Rattle.tree.proofs.words.word.Reads as word-reads
+use Rattle.row_events.proofs.after_expr.Reads as after-expr-reads
+use Rattle.row_events.proofs.after_part.Reads as after-part-reads
+use Rattle.row_events.proofs.after_stmt.Reads as after-stmt-reads
+use Rattle.row_events.proofs.before_fun.Reads as before-fun-reads
+use Rattle.row_events.proofs.before_stmt.Reads as before-stmt-reads
+use Rattle.row_events.proofs.before_unit.Reads as before-unit-reads
+use Rattle.row_events.proofs.is_part.Reads as is-part-reads
+use Rattle.row_events.proofs.part_list.Reads as part-list-reads
+use Rattle.words.proofs.word.Reads as word-reads
 use Rattle.walk.proofs.scopes.close_scope.Reads as close-scope-reads
 use Rattle.resolve_syms.proofs.cycle.+resolve_any+resolve_expr+resolve_fun+resolve_part+resolve_parts+resolve_stmt+resolve_unit.{
   statement,

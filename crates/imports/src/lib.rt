@@ -1,0 +1,216 @@
+// Imports: what a unit brings into its scope from other units.
+ghost use mathlib.Core.Path.{_≡_};
+ghost use mathlib.Core.List.{List, [], _∷_, map};
+ghost use Prim.Native.Nat.{ℕ, _≤_};
+ghost use lib.Dec.{eqb};
+ghost use lib.ListN.{length};
+ghost use Rattle.definition.specs.Basics.{if_then_else_, first as firstWith, concatMap};
+ghost use Rattle.definition.specs.Sheet.{a, b, is, kids, kidsOf};
+ghost use Rattle.definition.specs.Meaning.{named, nothing};
+ghost use Rattle.definition.specs.Walk.{bring as brings, exports, seen, imports};
+ghost use Rattle.definition.specs.Outside.{Outside};
+ghost use Rattle.machine.specs.Machine.{stepState, runState};
+ghost use Rattle.sheet.specs.Exports.{exportOf};
+ghost use Rattle.symbols.specs.OpenScopes.{scopesOf};
+ghost use Rattle.symbols.specs.OpenDecls.{entryFor};
+ghost use Rattle.walk.specs.WalkState.{stateOf};
+use ast::FIRST_CLASS;
+use sheet::find_export;
+use symbols::decl::OpenDecl;
+use symbols::decl::define;
+use symbols::decl::is_declared;
+use symbols::env::Env;
+use symbols::env::has_local;
+use walk::state::Walk;
+use walk::state::refuse;
+use words::word;
+
+// A declaration whose second value is 0.
+fn decl_of(tag: u32, first: u32, slot: u32) -> OpenDecl
+    ensures { λ d. ⌜ d ≡ record { tag = tag; first = first; second = 0; slot = slot } ⌝ }
+{
+    OpenDecl {
+        tag: tag,
+        first: first,
+        second: 0,
+        slot: slot,
+    }
+}
+
+// Export row `x` (0: none) as an open declaration.
+fn exported(sheet: &[u32], x: u32, env: Env) -> OpenDecl
+    requires { ⌜ length (now sheet) ≤ 16384 ⌝ }
+    ensures { λ d. ⌜ ((entries : List ℕ) → d ≡ entryFor (exportOf (now (sheet .entry)) x) (scopesOf env entries)) ⌝ }
+{
+    if x == 0 {
+        return decl_of(2, 0, env.slot);
+    }
+    let kind = word(sheet, x, 0);
+    if kind == 7 {
+        return decl_of(3, word(sheet, x, 7), env.slot);
+    }
+    if kind == 4 {
+        return decl_of(4, FIRST_CLASS + x, env.slot);
+    }
+    if kind == 8 {
+        return decl_of(5, word(sheet, x, 7), env.slot);
+    }
+    decl_of(2, 0, env.slot)
+}
+
+// Import row `i` declares name `m` as export row `x`. Question 15: is there such an export? Question 16: is the name new in its scope?
+fn bring(sheet: &[u32], i: u32, m: u32, x: u32, walk: Walk, entries: &mut [u32]) -> Walk
+    requires { ⌜ length (now sheet) ≤ 16384 ⌝ }
+    ensures { λ r. ⌜ ((O : Outside) (results nodes : List ℕ) → stateOf r (now (entries .exit)) results nodes ≡ stepState O (now (sheet .entry)) (brings i m (exportOf (now (sheet .entry)) x)) (stateOf walk (now (entries .entry)) results nodes)) ⌝ }
+{
+    if walk.number != 0 {
+        return walk;
+    }
+    let e = walk.env;
+    let d = exported(sheet, x, e);
+    if !is_declared(d) {
+        return refuse(walk, 15, i, m);
+    }
+    if has_local(entries, m, e.count) {
+        return refuse(walk, 16, i, m);
+    }
+    let store = walk.store;
+    let env = define(sheet, m, d, e, entries);
+    Walk {
+        env: env,
+        store: store,
+        number: walk.number,
+        at: walk.at,
+        name: walk.name,
+    }
+}
+
+// Row `k` brought under its own name, if it is of a kind.
+fn bring_if(sheet: &[u32], k: u32, kind: u32, i: u32, walk: Walk, entries: &mut [u32]) -> Walk
+    requires { ⌜ length (now sheet) ≤ 16384 ⌝ }
+    ensures { λ r. ⌜ ((O : Outside) (results nodes : List ℕ) → stateOf r (now (entries .exit)) results nodes
+        ≡ runState O (now (sheet .entry)) (if is (now (sheet .entry)) kind k then brings i (a (now (sheet .entry)) k) (exportOf (now (sheet .entry)) k) ∷ [] else []) (stateOf walk (now (entries .entry)) results nodes)) ⌝ }
+{
+    if word(sheet, k, 0) != kind {
+        return walk;
+    }
+    bring(sheet, i, word(sheet, k, 6), k, walk, entries)
+}
+
+// All exports of a kind of unit row `u`, in the order of its children.
+fn import_kind(sheet: &[u32], u: u32, kind: u32, i: u32, walk: Walk, entries: &mut [u32]) -> Walk
+    requires { ⌜ length (now sheet) ≤ 16384 ⌝ }
+    ensures { λ r. ⌜ ((O : Outside) (results nodes : List ℕ) → stateOf r (now (entries .exit)) results nodes
+        ≡ runState O (now (sheet .entry)) (map (λ k. brings i (a (now (sheet .entry)) k) (exportOf (now (sheet .entry)) k)) (kidsOf (now (sheet .entry)) kind u)) (stateOf walk (now (entries .entry)) results nodes)) ⌝ }
+{
+    let mut n = sheet.len() / 8;
+    let mut k = word(sheet, u, 2);
+    let mut x = walk;
+    while 0 < n {
+        if k == 0 {
+            return x;
+        }
+        x = bring_if(sheet, k, kind, i, x, entries);
+        k = word(sheet, k, 1);
+        n -= 1;
+    }
+    x
+}
+
+// All exports of unit row `u`: functions, classes, constants.
+fn import_all(sheet: &[u32], u: u32, i: u32, walk: Walk, entries: &mut [u32]) -> Walk
+    requires { ⌜ length (now sheet) ≤ 16384 ⌝ }
+    ensures { λ r. ⌜ ((O : Outside) (results nodes : List ℕ) → stateOf r (now (entries .exit)) results nodes
+        ≡ runState O (now (sheet .entry)) (map (λ y. brings i (y .name) (y .means)) (exports (now (sheet .entry)) u)) (stateOf walk (now (entries .entry)) results nodes)) ⌝ }
+{
+    let x = import_kind(sheet, u, 7, i, walk, entries);
+    let y = import_kind(sheet, u, 4, i, x, entries);
+    import_kind(sheet, u, 8, i, y, entries)
+}
+
+// The name that row `k` lists, brought as the export that import `i` of unit row `u` finds for it.
+fn bring_listed(sheet: &[u32], u: u32, i: u32, k: u32, walk: Walk, entries: &mut [u32]) -> Walk
+    requires { ⌜ length (now sheet) ≤ 16384 ⌝ }
+    ensures { λ r. ⌜ ((O : Outside) (results nodes : List ℕ) → stateOf r (now (entries .exit)) results nodes
+        ≡ runState O (now (sheet .entry)) (brings i (a (now (sheet .entry)) k) (firstWith (λ y. eqb (y .name) (a (now (sheet .entry)) k)) (named 0 nothing) (seen (now (sheet .entry)) u i) .means) ∷ []) (stateOf walk (now (entries .entry)) results nodes)) ⌝ }
+{
+    let m = word(sheet, k, 6);
+    let x = find_export(sheet, u, i, m);
+    bring(sheet, i, m, x, walk, entries)
+}
+
+// All names that import row `i` of unit row `u` lists.
+fn import_listed(sheet: &[u32], u: u32, i: u32, walk: Walk, entries: &mut [u32]) -> Walk
+    requires { ⌜ length (now sheet) ≤ 16384 ⌝ }
+    ensures { λ r. ⌜ ((O : Outside) (results nodes : List ℕ) → stateOf r (now (entries .exit)) results nodes
+        ≡ runState O (now (sheet .entry)) (map (λ k. brings i (a (now (sheet .entry)) k) (firstWith (λ y. eqb (y .name) (a (now (sheet .entry)) k)) (named 0 nothing) (seen (now (sheet .entry)) u i) .means)) (kids (now (sheet .entry)) i)) (stateOf walk (now (entries .entry)) results nodes)) ⌝ }
+{
+    let mut n = sheet.len() / 8;
+    let mut k = word(sheet, i, 2);
+    let mut x = walk;
+    while 0 < n {
+        if k == 0 {
+            return x;
+        }
+        x = bring_listed(sheet, u, i, k, x, entries);
+        k = word(sheet, k, 1);
+        n -= 1;
+    }
+    x
+}
+
+// All that unit row `u` sees of the unit that import row `i` names, if the import says so. A unit sees nothing of itself.
+fn import_seen(sheet: &[u32], u: u32, i: u32, walk: Walk, entries: &mut [u32]) -> Walk
+    requires { ⌜ length (now sheet) ≤ 16384 ⌝ }
+    ensures { λ r. ⌜ ((O : Outside) (results nodes : List ℕ) → stateOf r (now (entries .exit)) results nodes
+        ≡ runState O (now (sheet .entry)) (if eqb (b (now (sheet .entry)) i) 1 then map (λ y. brings i (y .name) (y .means)) (seen (now (sheet .entry)) u i) else []) (stateOf walk (now (entries .entry)) results nodes)) ⌝ }
+{
+    if word(sheet, i, 7) != 1 {
+        return walk;
+    }
+    let unit = word(sheet, i, 6);
+    if unit == u {
+        return walk;
+    }
+    import_all(sheet, unit, i, walk, entries)
+}
+
+// Import row `i` of unit row `u`: all that it sees, if it says so; then each listed name.
+fn import_one(sheet: &[u32], u: u32, i: u32, walk: Walk, entries: &mut [u32]) -> Walk
+    requires { ⌜ length (now sheet) ≤ 16384 ⌝ }
+    ensures { λ r. ⌜ ((O : Outside) (results nodes : List ℕ) → stateOf r (now (entries .exit)) results nodes ≡ runState O (now (sheet .entry)) (imports (now (sheet .entry)) u i) (stateOf walk (now (entries .entry)) results nodes)) ⌝ }
+{
+    let x = import_seen(sheet, u, i, walk, entries);
+    import_listed(sheet, u, i, x, entries)
+}
+
+// Row `k` of unit row `u`, if it is an import.
+fn import_if(sheet: &[u32], u: u32, k: u32, walk: Walk, entries: &mut [u32]) -> Walk
+    requires { ⌜ length (now sheet) ≤ 16384 ⌝ }
+    ensures { λ r. ⌜ ((O : Outside) (results nodes : List ℕ) → stateOf r (now (entries .exit)) results nodes
+        ≡ runState O (now (sheet .entry)) (if is (now (sheet .entry)) 3 k then imports (now (sheet .entry)) u k else []) (stateOf walk (now (entries .entry)) results nodes)) ⌝ }
+{
+    if word(sheet, k, 0) != 3 {
+        return walk;
+    }
+    import_one(sheet, u, k, walk, entries)
+}
+
+// All imports of unit row `u`, in the order of its children.
+pub fn define_imports(sheet: &[u32], u: u32, walk: Walk, entries: &mut [u32]) -> Walk
+    requires { ⌜ length (now sheet) ≤ 16384 ⌝ }
+    ensures { λ r. ⌜ ((O : Outside) (results nodes : List ℕ) → stateOf r (now (entries .exit)) results nodes ≡ runState O (now (sheet .entry)) (concatMap (imports (now (sheet .entry)) u) (kidsOf (now (sheet .entry)) 3 u)) (stateOf walk (now (entries .entry)) results nodes)) ⌝ }
+{
+    let mut n = sheet.len() / 8;
+    let mut k = word(sheet, u, 2);
+    let mut x = walk;
+    while 0 < n {
+        if k == 0 {
+            return x;
+        }
+        x = import_if(sheet, u, k, x, entries);
+        k = word(sheet, k, 1);
+        n -= 1;
+    }
+    x
+}

@@ -1,0 +1,62 @@
+use mathlib.Core.Path.{sym, _∙_}
+use Rattle.definition.specs.Walk.{visit}
+use Rattle.outside.specs.Words.{over}
+use Rattle.walk.specs.WalkState.{stateOf}
+use Rattle.visits.proofs.CallLaws.{method-no, method-yes}
+use Rattle.walk.proofs.StepLaws.{idle}
+use borrow.Author.Needs.{needs}
+use Rattle.visits.proofs.calls.call_method.Statement.{statement}
+use Rattle.visits.proofs.calls.call_method.Tie as tie
+
+returns : tie.Need-returns
+returns c = λ v q e. idle (over (c .before .before .before .before .before .args .outside .now)) (c .before .before .before .before .before .args .sheet .now) (visit (c .before .before .before .before .before .args .row)) (stateOf (c .before .before .before .before .before .args .walk) v (c .before .before .before .before .before .args .results .now) q) (c .if1 .taken)
+
+word-requires : tie.Need-word-requires
+word-requires c κs = search needs
+
+word-requires-2 : tie.Need-word-requires-2
+word-requires-2 c κs = search needs
+
+own-method-requires : tie.Need-own-method-requires
+own-method-requires c κs = search needs
+
+method-question-requires : tie.Need-method-question-requires
+method-question-requires c κs = search needs
+
+refuse-requires : tie.Need-refuse-requires
+refuse-requires c κs = search needs
+
+returns-2 : tie.Need-returns-2
+returns-2 c = λ v q e. method-no (over (c .before .before .before .before .before .before .before .before .before .before .before .args .outside .now)) (c .before .before .before .before .before .before .before .before .before .before .before .args .sheet .now) (c .before .before .before .before .before .before .before .before .before .before .before .args .row) (stateOf (c .before .before .before .before .before .before .before .before .before .before .before .args .walk) v (c .before .before .before .before .before .before .before .before .before .before .before .args .results .now) q) (c .before .before .before .before .before .before .before .before .before .before .before .pre .0) (c .before .before .before .before .before .before .if1 .left) (c .before .before .before .before .before .before .before .before .before .before .before .args .class .0) (c .before .before .before .before .before .before .before .before .before .before .before .pre .1) e _ _ _ (c .before .before .before .before .before .word .ensures) (c .before .before .before .before .word2 .ensures) (c .before .before .before .own-method .ensures .funIs) _ (c .before .before .before .own-method .ensures .paramsAre) _ (c .before .before .method-question .ensures) (c .before .if2 .taken) (c .refuse .ensures v (c .before .before .before .before .before .before .before .before .before .before .before .args .results .now) q)
+
+word-requires-3 : tie.Need-word-requires-3
+word-requires-3 c κs = search needs
+
+mark-hidden-requires : tie.Need-mark-hidden-requires
+mark-hidden-requires c κs = search needs
+
+write-decl-requires : tie.Need-write-decl-requires
+write-decl-requires c κs = search needs
+
+same-length : tie.Need-same-length
+same-length c = search needs
+
+returns-3 : tie.Need-returns-3
+returns-3 c = λ v q e. method-yes (over (c .before .before .before .before .before .before .before .before .before .before .before .before .before .before .before .before .before .before .before .before .args .outside .now)) (c .before .before .before .before .before .before .before .before .before .before .before .before .before .before .before .before .before .before .before .before .args .sheet .now) (c .before .before .before .before .before .before .before .before .before .before .before .before .before .before .before .before .before .before .before .before .args .row) (stateOf (c .before .before .before .before .before .before .before .before .before .before .before .before .before .before .before .before .before .before .before .before .args .walk) v (c .before .before .before .before .before .before .before .before .before .before .before .before .before .before .before .before .before .before .before .before .args .results .now) q) (c .before .before .before .before .before .before .before .before .before .before .before .before .before .before .before .before .before .before .before .before .pre .0) (c .before .before .before .before .before .before .before .before .before .before .before .before .before .before .before .if1 .left) (c .before .before .before .before .before .before .before .before .before .before .before .before .before .before .before .before .before .before .before .before .args .class .0) (c .before .before .before .before .before .before .before .before .before .before .before .before .before .before .before .before .before .before .before .before .pre .1) e _ _ _ (c .before .before .before .before .before .before .before .before .before .before .before .before .before .before .word .ensures) (c .before .before .before .before .before .before .before .before .before .before .before .before .before .word2 .ensures) (c .before .before .before .before .before .before .before .before .before .before .before .before .own-method .ensures .funIs) _ (c .before .before .before .before .before .before .before .before .before .before .before .before .own-method .ensures .paramsAre) _ _ _ (c .before .before .before .before .before .before .before .before .word3 .ensures) (sym (c .before .before .before .before .before .before .before .before .before .before .before .method-question .ensures) ∙ c .before .before .before .before .before .before .before .before .before .before .if2 .left) (c .before .before .before .before .before .before .before .mark-hidden .ensures _ q) (c .before .before .write-decl .ensures _ q)
+
+pub call-method-spec : {M : Type 1} → statement M
+call-method-spec =
+    tie.close
+    (tie.spec
+    returns
+    word-requires
+    word-requires-2
+    own-method-requires
+    method-question-requires
+    refuse-requires
+    returns-2
+    word-requires-3
+    mark-hidden-requires
+    write-decl-requires
+    same-length
+    returns-3)

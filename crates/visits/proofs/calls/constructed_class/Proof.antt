@@ -1,0 +1,40 @@
+use mathlib.Core.Path.{sym, ap, _∙_}
+use Rattle.definition.specs.Meaning.{classNumber}
+use Rattle.symbols.specs.OpenScopes.{scopesOf}
+use Rattle.visits.proofs.CallLaws.{constructed-none, constructed-some}
+use borrow.Author.Needs.{needs}
+use Rattle.visits.proofs.calls.constructed_class.Statement.{statement}
+use Rattle.visits.proofs.calls.constructed_class.Tie as tie
+
+word-requires : tie.Need-word-requires
+word-requires c κs = search needs
+
+word-requires-2 : tie.Need-word-requires-2
+word-requires-2 c κs = search needs
+
+returns : tie.Need-returns
+returns c = constructed-none (c .before .before .before .before .before .args .sheet .now) (c .before .before .before .before .before .args .row) (scopesOf (c .before .before .before .before .before .args .env) (c .before .before .before .before .before .args .entries .now)) _ (c .before .before .word .ensures) (λ e. c .if1 .taken (c .before .word2 .ensures ∙ e))
+
+word-requires-3 : tie.Need-word-requires-3
+word-requires-3 c κs = search needs
+
+lookup-requires : tie.Need-lookup-requires
+lookup-requires c κs = search needs
+
+class-number-requires : tie.Need-class-number-requires
+class-number-requires c κs = search needs
+
+returns-2 : tie.Need-returns-2
+returns-2 c = constructed-some (c .before .before .before .before .before .before .before .before .args .sheet .now) (c .before .before .before .before .before .before .before .before .args .row) (scopesOf (c .before .before .before .before .before .before .before .before .args .env) (c .before .before .before .before .before .before .before .before .args .entries .now)) _ (c .before .before .before .before .before .word .ensures) _ (sym (c .before .before .before .before .word2 .ensures) ∙ c .before .before .before .if1 .left) (rw (← c .before .before .word3 .ensures) (c .class-number .ensures ∙ ap classNumber (c .before .lookup .ensures .0)))
+
+pub constructed-class-spec : {M : Type 1} → statement M
+constructed-class-spec =
+    tie.close
+    (tie.spec
+    word-requires
+    word-requires-2
+    returns
+    word-requires-3
+    lookup-requires
+    class-number-requires
+    returns-2)

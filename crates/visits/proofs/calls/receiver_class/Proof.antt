@@ -1,0 +1,52 @@
+use mathlib.Core.Path.{sym, ap, _∙_}
+use Rattle.definition.specs.Meaning.{classNumber}
+use Rattle.symbols.specs.OpenScopes.{scopesOf}
+use Rattle.visits.proofs.CallLaws.{receiver-none, receiver-base, receiver-some}
+use borrow.Author.Needs.{needs}
+use Rattle.visits.proofs.calls.receiver_class.Statement.{statement}
+use Rattle.visits.proofs.calls.receiver_class.Tie as tie
+
+word-requires : tie.Need-word-requires
+word-requires c κs = search needs
+
+word-requires-2 : tie.Need-word-requires-2
+word-requires-2 c κs = search needs
+
+returns : tie.Need-returns
+returns c = receiver-none (c .before .before .before .before .before .args .sheet .now) (c .before .before .before .before .before .args .row) (scopesOf (c .before .before .before .before .before .args .env) (c .before .before .before .before .before .args .entries .now)) _ (c .before .before .word .ensures) (λ e. c .if1 .taken (c .before .word2 .ensures ∙ e))
+
+word-requires-3 : tie.Need-word-requires-3
+word-requires-3 c κs = search needs
+
+word-requires-4 : tie.Need-word-requires-4
+word-requires-4 c κs = search needs
+
+returns-2 : tie.Need-returns-2
+returns-2 c = receiver-base (c .before .before .before .before .before .before .before .before .args .sheet .now) (c .before .before .before .before .before .before .before .before .args .row) (scopesOf (c .before .before .before .before .before .before .before .before .args .env) (c .before .before .before .before .before .before .before .before .args .entries .now)) _ (c .before .before .before .before .before .word .ensures) _ (c .before .before .word3 .ensures) (λ e. c .if2 .taken (c .before .word4 .ensures ∙ e))
+
+word-requires-5 : tie.Need-word-requires-5
+word-requires-5 c κs = search needs
+
+lookup-requires : tie.Need-lookup-requires
+lookup-requires c κs = search needs
+
+class-number-requires : tie.Need-class-number-requires
+class-number-requires c κs = search needs
+
+returns-3 : tie.Need-returns-3
+returns-3 c = receiver-some (c .before .before .before .before .before .before .before .before .before .before .before .args .sheet .now) (c .before .before .before .before .before .before .before .before .before .before .before .args .row) (scopesOf (c .before .before .before .before .before .before .before .before .before .before .before .args .env) (c .before .before .before .before .before .before .before .before .before .before .before .args .entries .now)) _ (c .before .before .before .before .before .before .before .before .word .ensures) _ _ (c .before .before .before .before .before .word3 .ensures) (sym (c .before .before .before .before .before .before .before .word2 .ensures) ∙ c .before .before .before .before .before .before .if1 .left) (sym (c .before .before .before .before .word4 .ensures) ∙ c .before .before .before .if2 .left) (rw (← c .before .before .word5 .ensures) (c .class-number .ensures ∙ ap classNumber (c .before .lookup .ensures .0)))
+
+pub receiver-class-spec : {M : Type 1} → statement M
+receiver-class-spec =
+    tie.close
+    (tie.spec
+    word-requires
+    word-requires-2
+    returns
+    word-requires-3
+    word-requires-4
+    returns-2
+    word-requires-5
+    lookup-requires
+    class-number-requires
+    returns-3)

@@ -1,0 +1,29 @@
+use borrow.Author.Tests.{eq-eqb, ne-eqb}
+use Rattle.machine.specs.Machine.{openFunctions}
+use Rattle.store.proofs.CodeLaws.{other-tag}
+use borrow.Author.Needs.{needs}
+use Rattle.visits.proofs.capture.Statement.{statement}
+use Rattle.visits.proofs.capture.Tie as tie
+
+returns : tie.Need-returns
+returns c = rw (other-tag (c .before .before .before .before .before .before .args .d .tag) (c .before .before .before .before .before .before .args .d .first) (c .before .before .before .before .before .before .args .d .second) (c .if1 .taken))
+
+returns-2 : tie.Need-returns-2
+returns-2 c = rw (c .before .before .before .before .if1 .left, eq-eqb (c .before .before .before .before .before .before .before .before .before .before .args .d .second) (c .before .before .before .before .before .before .before .before .before .before .args .env .fun .0) (c .if2 .taken))
+
+reg-captured-requires : tie.Need-reg-captured-requires
+reg-captured-requires c κs = search needs
+
+same-length : tie.Need-same-length
+same-length c = search needs
+
+same-length-2 : tie.Need-same-length-2
+same-length-2 c = search needs
+
+returns-3 : tie.Need-returns-3
+unfolding openFunctions
+returns-3 c = rw (c .before .before .before .before .before .before .before .before .before .before .before .if1 .left, ne-eqb (c .before .before .before .before .before .before .before .before .before .before .before .before .before .before .before .before .before .args .d .second) (c .before .before .before .before .before .before .before .before .before .before .before .before .before .before .before .before .before .args .env .fun .0) (c .before .before .before .before .before .before .before .if2 .left)) (c .before .before .before .before .reg-captured .ensures)
+
+pub capture-spec : {M : Type 1} → statement M
+capture-spec =
+    tie.close (tie.spec returns returns-2 reg-captured-requires same-length same-length-2 returns-3)

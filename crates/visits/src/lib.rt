@@ -1,0 +1,233 @@
+// Visits: what a row asks and stores when the walk has resolved its parts, kind by kind.
+ghost use mathlib.Core.Path.{_≡_};
+ghost use mathlib.Core.Bool.{_||_, true, not};
+ghost use mathlib.Core.List.{List, [], _∷_};
+ghost use Prim.Native.Nat.{ℕ, _≤_};
+ghost use lib.Dec.{eqb};
+ghost use lib.ListN.{length};
+ghost use Rattle.definition.specs.Basics.{if_then_else_};
+ghost use Rattle.definition.specs.Sheet.{kind, is, b};
+ghost use Rattle.definition.specs.Meaning.{rowOf, ownerOf};
+ghost use Rattle.definition.specs.Walk.{visit};
+ghost use Rattle.definition.specs.Outside.{Outside};
+ghost use Rattle.machine.specs.Machine.{openFunctions, isOuterVariable, addCapture, writeRowAt, stepState};
+ghost use Rattle.symbols.specs.OpenScopes.{scopesOf};
+ghost use Rattle.symbols.specs.OpenDecls.{means};
+ghost use Rattle.store.specs.Stored.{storeOf};
+ghost use Rattle.walk.specs.WalkState.{stateOf};
+
+pub mod assign;
+pub mod calls;
+
+use ast::ClassId;
+use ast::Decl;
+use ast::FunId;
+use store::code::seen_in;
+use store::nodes::Node;
+use store::nodes::Store;
+use store::nodes::reg_captured;
+use store::table::write_decl;
+use store::table::write_row;
+use symbols::decl::OpenDecl;
+use symbols::decl::class_number;
+use symbols::decl::is_declared;
+use symbols::decl::lookup;
+use symbols::env::Env;
+use symbols::env::in_loop;
+use walk::state::Walk;
+use walk::state::refuse;
+use words::word;
+
+// Question 5: does a break or continue stand in a loop?
+pub fn check_jump(sheet: &[u32], row: u32, walk: Walk, entries: &[u32]) -> Walk
+    requires { ⌜ (is (now sheet) 23 row || is (now sheet) 24 row) ≡ true ⌝ }
+    ensures { λ x. ⌜ ((O : Outside) (results nodes : List ℕ) → stateOf x (now (entries .entry)) results nodes ≡ stepState O (now (sheet .entry)) (visit row) (stateOf walk (now (entries .entry)) results nodes)) ⌝ }
+{
+    if walk.number != 0 {
+        return walk;
+    }
+    let e = walk.env;
+    if in_loop(sheet, entries, e.count) {
+        return walk;
+    }
+    refuse(walk, 5, row, 0)
+}
+
+// The question on an undeclared name: 9 for null, 8 for any other.
+fn undeclared(m: u32) -> u32
+    ensures { λ x. ⌜ x ≡ (if eqb m 22 then 9 else 8) ⌝ }
+{
+    if m == 22 { 9 } else { 8 }
+}
+
+// A local or argument that is used is captured by every function around, out to its own. Most belong to the innermost function,
+// where none captures them: then the open entries are not searched.
+fn capture(
+    sheet: &[u32],
+    entries: &[u32],
+    env: Env,
+    d: OpenDecl,
+    store: Store,
+    results: &mut [u32],
+    nodes: &mut [u32],
+) -> Store
+    ensures { λ x. ⌜ storeOf x (now (results .exit)) (now (nodes .exit))
+        ≡ (if isOuterVariable (means d) (env .fun .0)
+        then addCapture (openFunctions (now (sheet .entry)) (scopesOf env (now (entries .entry)))) (record { key = rowOf (means d); one = ownerOf (means d); two = d .slot }) (storeOf store (now (results .entry)) (now (nodes .entry)))
+        else storeOf store (now (results .entry)) (now (nodes .entry))) ⌝ }
+{
+    if d.tag != 6 {
+        return store;
+    }
+    let fun = env.fun;
+    if d.second == fun.0 {
+        return store;
+    }
+    let x = Node {
+        key: d.first,
+        one: d.second,
+        two: d.slot,
+    };
+    reg_captured(sheet, entries, env.count, x, store, results, nodes)
+}
+
+// An identifier: questions 8 and 9, the captures, and what it means.
+pub fn resolve_ident(
+    sheet: &[u32],
+    row: u32,
+    walk: Walk,
+    entries: &[u32],
+    results: &mut [u32],
+    nodes: &mut [u32],
+) -> Walk
+    requires { ⌜ (length (now sheet) ≤ 16384) × (kind (now sheet) row ≡ 50) ⌝ }
+    ensures { λ x. ⌜ ((O : Outside) → stateOf x (now (entries .entry)) (now (results .exit)) (now (nodes .exit)) ≡ stepState O (now (sheet .entry)) (visit row) (stateOf walk (now (entries .entry)) (now (results .entry)) (now (nodes .entry)))) ⌝ }
+{
+    if walk.number != 0 {
+        return walk;
+    }
+    let e = walk.env;
+    let o = walk.store;
+    let m = word(sheet, row, 6);
+    let d = lookup(e, entries, m);
+    if !is_declared(d) {
+        return refuse(walk, undeclared(m), row, m);
+    }
+    let fun = e.fun;
+    let store = capture(sheet, entries, e, d, o, results, nodes);
+    let x = seen_in(sheet, d, fun, results, nodes);
+    write_decl(results, row, x);
+    Walk {
+        env: e,
+        store: store,
+        number: walk.number,
+        at: walk.at,
+        name: walk.name,
+    }
+}
+
+// Question 10: does instanceof name a class?
+pub fn check_instanceof(
+    sheet: &[u32],
+    row: u32,
+    walk: Walk,
+    entries: &[u32],
+    results: &mut [u32],
+) -> Walk
+    requires { ⌜ kind (now sheet) row ≡ 55 ⌝ }
+    ensures { λ x. ⌜ ((O : Outside) (nodes : List ℕ) → stateOf x (now (entries .entry)) (now (results .exit)) nodes ≡ stepState O (now (sheet .entry)) (visit row) (stateOf walk (now (entries .entry)) (now (results .entry)) nodes)) ⌝ }
+{
+    if walk.number != 0 {
+        return walk;
+    }
+    let m = word(sheet, row, 6);
+    let class = class_number(lookup(walk.env, entries, m));
+    if class.0 == 0 {
+        return refuse(walk, 10, row, m);
+    }
+    write_decl(results, row, Decl::Class { id: class });
+    walk
+}
+
+// Code 7 in the main unit's function itself, else 8.
+fn main_unit_code(sheet: &[u32], fun: FunId) -> u32
+    ensures { λ x. ⌜ x ≡ (if eqb (fun .0) (b (now (sheet .entry)) 0) then 7 else 8) ⌝ }
+{
+    if fun.0 == word(sheet, 0, 7) { 7 } else { 8 }
+}
+
+// Question 17: is a host constant MAIN_UNIT?
+pub fn resolve_host_const(sheet: &[u32], row: u32, walk: Walk, results: &mut [u32]) -> Walk
+    requires { ⌜ kind (now sheet) row ≡ 51 ⌝ }
+    ensures { λ x. ⌜ ((O : Outside) (entries nodes : List ℕ) → stateOf x entries (now (results .exit)) nodes ≡ stepState O (now (sheet .entry)) (visit row) (stateOf walk entries (now (results .entry)) nodes)) ⌝ }
+{
+    if walk.number != 0 {
+        return walk;
+    }
+    let m = word(sheet, row, 6);
+    if m != 24 {
+        return refuse(walk, 17, row, m);
+    }
+    let e = walk.env;
+    let code = main_unit_code(sheet, e.fun);
+    write_row(results, row, [code, 0, 0, 0]);
+    walk
+}
+
+// A literal notes the function in which it stands.
+pub fn note_literal(sheet: &[u32], row: u32, walk: Walk, results: &mut [u32]) -> Walk
+    requires { ⌜ kind (now sheet) row ≡ 52 ⌝ }
+    ensures { λ x. ⌜ ((O : Outside) (entries nodes : List ℕ) → stateOf x entries (now (results .exit)) nodes ≡ stepState O (now (sheet .entry)) (visit row) (stateOf walk entries (now (results .entry)) nodes)) ⌝ }
+{
+    if walk.number != 0 {
+        return walk;
+    }
+    let e = walk.env;
+    let fun = e.fun;
+    write_decl(results, row, Decl::Fun { id: fun });
+    walk
+}
+
+// Is there no parent's name, or does it name a class?
+fn names_class(m: u32, class: ClassId) -> bool
+    ensures { λ x. ⌜ x ≡ (eqb m 0 || not (eqb (class .0) 0)) ⌝ }
+{
+    if m == 0 {
+        return true;
+    }
+    class.0 != 0
+}
+
+// The parent of class row `c`, stored with it.
+fn write_parent(sheet: &[u32], c: u32, class: ClassId, results: &mut [u32])
+    ensures { λ _. ⌜ ((o : Store) (nodes : List ℕ) → storeOf o (now (results .exit)) nodes
+        ≡ (if is (now (sheet .entry)) 4 c then writeRowAt c (2 ∷ class .0 ∷ []) (storeOf o (now (results .entry)) nodes) else storeOf o (now (results .entry)) nodes)) ⌝ }
+{
+    if word(sheet, c, 0) == 4 {
+        write_decl(results, c, Decl::Class { id: class });
+    }
+}
+
+// Question 11: does a parent name a class?
+pub fn resolve_parent(
+    sheet: &[u32],
+    row: u32,
+    walk: Walk,
+    entries: &[u32],
+    results: &mut [u32],
+) -> Walk
+    requires { ⌜ kind (now sheet) row ≡ 30 ⌝ }
+    ensures { λ x. ⌜ ((O : Outside) (nodes : List ℕ) → stateOf x (now (entries .entry)) (now (results .exit)) nodes ≡ stepState O (now (sheet .entry)) (visit row) (stateOf walk (now (entries .entry)) (now (results .entry)) nodes)) ⌝ }
+{
+    if walk.number != 0 {
+        return walk;
+    }
+    let c = word(sheet, row, 6);
+    let m = word(sheet, c, 7);
+    let class = class_number(lookup(walk.env, entries, m));
+    if !names_class(m, class) {
+        return refuse(walk, 11, row, m);
+    }
+    write_parent(sheet, c, class, results);
+    walk
+}
