@@ -1,6 +1,11 @@
-// What a name stands for, and the numbers of functions and classes.
+// What a name stands for, the numbers of functions and classes, and names for the numbers of the format.
 ghost use mathlib.Core.Path.{_≡_};
 ghost use Rattle.ast.specs.Decl.{codeAndValues, declOf, mutable};
+
+pub mod code;
+pub mod column;
+pub mod kind;
+pub mod question;
 
 // The number of a function and the number of a class are two types: neither can be given for the other.
 pub struct FunId(pub u32);
@@ -84,16 +89,16 @@ impl Decl {
         ensures { λ r. ⌜ r ≡ codeAndValues self ⌝ }
     {
         match self {
-            Decl::Fun { id } => [1, id.0, 0, 0],
-            Decl::Class { id } => [2, id.0, 0, 0],
-            Decl::Global { idx, mutable } => [3, idx, 0, mutable as u32],
-            Decl::Arg { idx, src_fun } => [4, idx, src_fun.0, 0],
+            Decl::Fun { id } => [code::FUN, id.0, 0, 0],
+            Decl::Class { id } => [code::CLASS, id.0, 0, 0],
+            Decl::Global { idx, mutable } => [code::GLOBAL, idx, 0, mutable as u32],
+            Decl::Arg { idx, src_fun } => [code::ARG, idx, src_fun.0, 0],
             Decl::Local {
                 idx,
                 src_fun,
                 mutable,
-            } => [5, idx, src_fun.0, mutable as u32],
-            Decl::Captured { idx, mutable } => [6, idx, 0, mutable as u32],
+            } => [code::LOCAL, idx, src_fun.0, mutable as u32],
+            Decl::Captured { idx, mutable } => [code::CAPTURED, idx, 0, mutable as u32],
         }
     }
 
@@ -102,17 +107,17 @@ impl Decl {
         ensures { λ r. ⌜ r ≡ declOf code x y z ⌝ }
     {
         match code {
-            1 => Decl::Fun { id: FunId(x) },
-            2 => Decl::Class { id: ClassId(x) },
-            3 => Decl::Global {
+            code::FUN => Decl::Fun { id: FunId(x) },
+            code::CLASS => Decl::Class { id: ClassId(x) },
+            code::GLOBAL => Decl::Global {
                 idx: x,
                 mutable: z == 1,
             },
-            4 => Decl::Arg {
+            code::ARG => Decl::Arg {
                 idx: x,
                 src_fun: FunId(y),
             },
-            5 => Decl::Local {
+            code::LOCAL => Decl::Local {
                 idx: x,
                 src_fun: FunId(y),
                 mutable: z == 1,

@@ -73,63 +73,63 @@ fn put_entry(table: &mut [u32], row: u32, e: Entry)
     put(table, row, 5, e.state);
 }
 
-// Is `mark` a row of kind `k`?
-fn is_row(sheet: &[u32], k: u32, mark: u32) -> bool
-    ensures { λ x. ⌜ x ≡ (ltb mark (rows (now (sheet .entry))) && is (now (sheet .entry)) k mark) ⌝ }
+// Is `value` a row of kind `k`?
+fn is_row(sheet: &[u32], k: u32, value: u32) -> bool
+    ensures { λ x. ⌜ x ≡ (ltb value (rows (now (sheet .entry))) && is (now (sheet .entry)) k value) ⌝ }
 {
-    if (mark as usize) < sheet.len() / 8 {
-        return word(sheet, mark, 0) == k;
+    if (value as usize) < sheet.len() / 8 {
+        return word(sheet, value, 0) == k;
     }
     false
 }
 
-// Is `mark` a name's number, where `last` is the last?
-fn is_name(last: u32, mark: u32) -> bool
-    ensures { λ x. ⌜ x ≡ (leb 1 mark && leb mark last) ⌝ }
+// Is `value` a name's number, where `last` is the last?
+fn is_name(last: u32, value: u32) -> bool
+    ensures { λ x. ⌜ x ≡ (leb 1 value && leb value last) ⌝ }
 {
-    if 1 <= mark {
-        return mark <= last;
+    if 1 <= value {
+        return value <= last;
     }
     false
 }
 
-fn zero_or(mark: u32, x: bool) -> bool
-    ensures { λ y. ⌜ y ≡ (eqb mark 0 || x) ⌝ }
+fn zero_or(value: u32, x: bool) -> bool
+    ensures { λ y. ⌜ y ≡ (eqb value 0 || x) ⌝ }
 {
-    if mark == 0 {
+    if value == 0 {
         return true;
     }
     x
 }
 
-// Is `mark` a let's mode: 0, 1, or 2 + g for a global g below `start`?
-fn is_mode(start: u32, mark: u32) -> bool
-    ensures { λ x. ⌜ x ≡ (leb mark 1 || ltb (mark - 2) start) ⌝ }
+// Is `value` a let's mode: 0, 1, or 2 + g for a global g below `start`?
+fn is_mode(start: u32, value: u32) -> bool
+    ensures { λ x. ⌜ x ≡ (leb value 1 || ltb (value - 2) start) ⌝ }
 {
-    if mark <= 1 {
+    if value <= 1 {
         return true;
     }
-    mark - 2 < start
+    value - 2 < start
 }
 
-// Does value `mark` fit a rule of columns, where `last` is the last name?
-fn holds(sheet: &[u32], last: u32, rule: u32, mark: u32) -> bool
-    ensures { λ x. ⌜ x ≡ holdsRule (now (sheet .entry)) last (ruleAt rule) mark ⌝ }
+// Does `value` fit a rule of columns, where `last` is the last name?
+fn holds(sheet: &[u32], last: u32, rule: u32, value: u32) -> bool
+    ensures { λ x. ⌜ x ≡ holdsRule (now (sheet .entry)) last (ruleAt rule) value ⌝ }
 {
     match rule {
         1 => true,
-        2 => mark <= 1,
-        3 => is_name(last, mark),
-        4 => zero_or(mark, is_name(last, mark)),
-        5 => mark <= 1000000,
-        6 => is_row(sheet, 2, mark),
-        7 => is_row(sheet, 6, mark),
-        8 => is_row(sheet, 4, mark),
-        9 => zero_or(mark, is_row(sheet, 4, mark)),
-        10 => zero_or(mark, is_row(sheet, 6, mark)),
-        11 => mark < word(sheet, 0, 6),
-        12 => is_mode(word(sheet, 0, 6), mark),
-        _ => mark <= 0,
+        2 => value <= 1,
+        3 => is_name(last, value),
+        4 => zero_or(value, is_name(last, value)),
+        5 => value <= 1000000,
+        6 => is_row(sheet, 2, value),
+        7 => is_row(sheet, 6, value),
+        8 => is_row(sheet, 4, value),
+        9 => zero_or(value, is_row(sheet, 4, value)),
+        10 => zero_or(value, is_row(sheet, 6, value)),
+        11 => value < word(sheet, 0, 6),
+        12 => is_mode(word(sheet, 0, 6), value),
+        _ => value <= 0,
     }
 }
 
