@@ -1,4 +1,4 @@
-// The answer rows of functions, of their literals, and of single rows.
+// The answer rows of functions and of their literals.
 mod escapes;
 pub mod literals;
 
@@ -10,7 +10,7 @@ ghost use Rattle.ast.specs.Decl.{codeAndValues};
 ghost use Rattle.definition.specs.Sheet.{rows};
 ghost use Rattle.definition.specs.Answer.{eight};
 ghost use Rattle.machine.specs.Machine.{chainTo, codeOf, seenIn, nodeWord};
-ghost use Rattle.machine.specs.Reads.{rowWords, answerRow, meaningOfNode};
+ghost use Rattle.machine.specs.Reads.{answerRow, meaningOfNode};
 ghost use Rattle.after.specs.Rows.{literalRowsIn, functionRowsIn};
 ghost use Rattle.store.specs.Stored.{storeOf};
 ghost use Rattle.sink.specs.Sink.{sink, emit as emitted, emitAll};
@@ -50,14 +50,6 @@ fn emit_decl(r: u32, d: Decl, k: usize, out: &mut [u32]) -> usize
     ensures { λ n. ⌜ sink n (now (out .exit)) ≡ emitted (answerRow r (codeAndValues d)) (sink k (now (out .entry))) ⌝ }
 {
     emit_words(r, d.words(), k, out)
-}
-
-// The row of a let, identifier, host constant, instanceof or member, as the table has it.
-pub fn emit_row(t: &[u32], r: u32, k: usize, out: &mut [u32]) -> usize
-    ensures { λ n. ⌜ sink n (now (out .exit)) ≡ emitted (answerRow r (rowWords (now (t .entry)) r)) (sink k (now (out .entry))) ⌝ }
-{
-    let x = [word(t, r, 0), word(t, r, 1), word(t, r, 2), word(t, r, 3)];
-    emit_words(r, x, k, out)
 }
 
 // The local or argument that node `i` of a capture list stands for.

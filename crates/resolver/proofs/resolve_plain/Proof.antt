@@ -2,28 +2,19 @@ use Rattle.resolver.proofs.OutcomeLaws.{plain-past, plain-settled}
 use borrow.Author.Needs.{needs}
 use Rattle.resolver.proofs.resolve_plain.Statement.{statement}
 use Rattle.resolver.proofs.resolve_plain.Tie as tie
-use Rattle.resolver.proofs.resolve_plain.Reads as reads
-use Rattle.resolver.proofs.resolve_plain.Lts as lts
-use Rattle.outside.proofs.plain.core_words.Reads as core-words-reads
-use Rattle.resolver.proofs.resolve_sized.Reads as resolve-sized-reads
 
--- src/lib.rt:222:19
 core-words-requires : tie.Need-core-words-requires
 core-words-requires c κs = search needs
 
--- src/lib.rt:223:22
 slice-aggregate-resolve-sized : tie.Need-slice-aggregate-resolve-sized
 slice-aggregate-resolve-sized c = search needs
 
--- src/lib.rt:223:5
 resolve-sized-requires : tie.Need-resolve-sized-requires
 resolve-sized-requires c κs = plain-past (c .before .before .core-words .ensures) (c .before .before .before .before .before .pre)
 
--- src/lib.rt:218:1
 same-length : tie.Need-same-length
 same-length c = search needs
 
--- src/lib.rt:218:1
 returns : tie.Need-returns
 returns c = plain-settled (c .before .before .before .before .before .core-words .ensures) (c .before .before .resolve-sized .ensures)
 
