@@ -1,1 +1,2 @@
 mod TellLaws
+mod ClearLaws

@@ -1,10 +1,11 @@
-// The answer of a sheet, and the two ways to refuse it.
+// The answer of a sheet: refused, or with its rows.
 ghost use mathlib.Core.Path.{_≡_};
 ghost use Prim.Native.Nat.{_<_};
 ghost use lib.ListN.{length, replicate};
 ghost use Rattle.definition.specs.Sheet.{file as fileAt};
 ghost use Rattle.definition.specs.Outcome.{refused, refusedAt};
 ghost use Rattle.answer.specs.Tells.{Tells};
+ghost use Rattle.answer.specs.Fitted.{Fitted};
 use lexer::SrcPos;
 use text::clear;
 use tree::words::word;
@@ -46,4 +47,21 @@ pub fn refuse_at(sheet: &[u32], number: u32, row: u32, name: u32, out: &mut [u32
     no.pos = pos;
     no.name = name;
     no
+}
+
+// Answers with `n` rows written, and clears the words after them. Question 22: do they fit?
+pub fn accept(n: usize, globals: u32, out: &mut [u32]) -> Answer
+    ensures { λ x. ⌜ Fitted n globals (now (out .entry)) x (now (out .exit)) ⌝ }
+{
+    if out.len() / 8 < n {
+        return refuse(22, out);
+    }
+    clear(&mut out[8 * n..]);
+    Answer {
+        number: 0,
+        pos: SrcPos(0),
+        name: 0,
+        rows: n,
+        globals: globals,
+    }
 }

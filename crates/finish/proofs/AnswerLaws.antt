@@ -1,19 +1,18 @@
 -- The answer rows in the lent words, with zeros after them, and what follows a walk.
 use mathlib.Core.Path.{_≡_, refl, sym, ap, subst, _∙_}
 use mathlib.Core.Bool.{Bool, true, false}
-use mathlib.Core.List.{List, [], _∷_, _++_, append-nil}
+use mathlib.Core.List.{List, [], _∷_, _++_}
 use Prim.Native.Nat.{ℕ, _+_, _-_, _*_, _/_, _<_, _≤_}
 use native.Mathlib.Omega.{arith}
 use lib.Dec.{ltb}
-use lib.ListN.{length, take, drop, replicate, length-drop, drop-of-length-le}
-use lib.Seq.{take-all}
+use lib.ListN.{length, take, replicate}
 use borrow.Author.Tests.{ltb-true, ltb-false}
-use borrow.Rule.Slice.PartMut.{putMid}
 use Rattle.definition.specs.Sheet.{Sheet, rows}
 use Rattle.definition.specs.Scope.{history}
+use Rattle.definition.specs.Slots.{finalGlobals}
 use Rattle.definition.specs.Question.{Refusal, refusal, firstNo}
 use Rattle.definition.specs.Answer.{answers}
-use Rattle.definition.specs.Outcome.{refused, refusedAt}
+use Rattle.definition.specs.Outcome.{refusedAt}
 use Rattle.definition.proofs.Format.Accepted.{Eights, eights-answers}
 use Rattle.definition.specs.Outside.{Outside}
 use Rattle.machine.specs.Machine.{Store as Stored, State}
@@ -27,6 +26,7 @@ use Rattle.inherit.specs.Answered.{Marked}
 use Rattle.answer_rows.proofs.ScratchLaws.{clear-zeros, zeros-long, small-sheet}
 use Rattle.answer.specs.declared.Answer.{Answer}
 use Rattle.answer.specs.Tells.{Tells}
+use Rattle.answer.specs.Fitted.{Fitted}
 use Rattle.finish.specs.Settled.{Settled, Accepted}
 use Rattle.finish.proofs.BufferLaws.{flat, Fitting, rows-fit, Over, rows-over}
 use Rattle.finish.proofs.SettledLaws.{settled-no, settled-full, settled-yes}
@@ -59,45 +59,58 @@ module _ (rs : List (List ℕ)) (e : Eights rs) (w : List ℕ) (n : ℕ) (y : Li
     pub counted : n ≡ length rs
     counted = omega (arith, fitting few .counted)
 
-    -- the words after the rows cleared
-    pub cleared : (z : List ℕ) → z ≡ replicate (length (take (length y - 8 * n) (drop (8 * n) y))) 0
-        → putMid (8 * n) (length y - 8 * n) y z ≡ flat rs ++ replicate (length w - 8 * length rs) 0
-    cleared z i =
-        ap (λ (v : List ℕ). v ++ (z ++ drop (length y - 8 * n) (drop (8 * n) y))) front
-        ∙ ap (λ (v : List ℕ). flat rs ++ (z ++ v)) rest ∙ ap (λ (v : List ℕ). flat rs ++ v) (append-nil z ∙ i ∙ ap (λ (k : ℕ). replicate k 0) size)
-      where
-        front : take (8 * n) y ≡ flat rs
-        front =
-            let k : n ≡ 0 + length rs = omega (arith, counted) in
-            ap (λ (j : ℕ). take (8 * j) y) k ∙ fitting few .written
-
-        rest : drop (length y - 8 * n) (drop (8 * n) y) ≡ []
-        rest = drop-of-length-le (drop (8 * n) y) {i = length y - 8 * n} (omega (arith, length-drop (8 * n) y))
-
-        size : length (take (length y - 8 * n) (drop (8 * n) y)) ≡ length w - 8 * length rs
-        size = ap length (take-all (length y - 8 * n) (drop (8 * n) y) (omega (arith, length-drop (8 * n) y))) ∙ omega (arith, length-drop (8 * n) y, counted, same-words)
+    pub written : take (8 * n) y ≡ flat rs
+    written =
+        let k : n ≡ 0 + length rs = omega (arith, counted) in
+        ap (λ (j : ℕ). take (8 * j) y) k ∙ fitting few .written
 
 -- the answer rows of an accepted sheet
 pub accepted-eights : {O : Outside} {s : Sheet} {o : Stored} {g : ℕ} → Accepted O s o g → Eights (answersIn O s o)
 accepted-eights {O} {s} ok = subst Eights (ok .rows-are) (eights-answers O s (history O s))
 
+-- Question 22 of the answer rows.
 module _ {O : Outside} (base : O .base ≡ 0) {s : Sheet} {o : Stored} {g : ℕ} (ok : Accepted O s o g) (w : List ℕ) (n : ℕ) (y : List ℕ)
-    (h : sink n y ≡ emitAll (answersIn O s o) (sink 0 w)) (x : Answer) where
-  pub answer-full : length w / 8 < n → Tells (refused 22) x → (z : List ℕ) → z ≡ replicate (length y) 0 → Settled O s (length w) x z
-  answer-full l t z i =
-      settled-full O base s (length w) x z (ok .agreed) (omega (arith, too-many (answersIn O s o) (accepted-eights ok) w n y h l, ap length (ok .rows-are))) t
-      (i ∙ ap (λ (k : ℕ). replicate k 0) (same-words (answersIn O s o) (accepted-eights ok) w n y h))
+    (h : sink n y ≡ emitAll (answersIn O s o) (sink 0 w)) (x : Answer) (z : List ℕ) (fit : Fitted n g y x z) where
+  eights : Eights (answersIn O s o)
+  eights = accepted-eights ok
 
-  pub answer-whole : n ≤ length w / 8 → x ≡ record { number = 0; pos = record { 0 = 0 }; name = 0; rows = n; globals = g }
-      → (z : List ℕ) → z ≡ replicate (length (take (length y - 8 * n) (drop (8 * n) y))) 0 → Settled O s (length w) x (putMid (8 * n) (length y - 8 * n) y z)
-  answer-whole l t z i =
-      settled-yes O base s (length w) x _ (ok .agreed) (omega (arith, same, l))
-      (t ∙ ap (λ (k : ℕ). record { number = 0; pos = record { 0 = 0 }; name = 0; rows = k; globals = g }) same
-      ∙ ap (λ (k : ℕ). record { number = 0; pos = record { 0 = 0 }; name = 0; rows = length (answers O s (history O s)); globals = k }) (ok .globals-are))
-      (cleared (answersIn O s o) (accepted-eights ok) w n y h l z i ∙ ap (λ (rs : List (List ℕ)). flat rs ++ replicate (length w - 8 * length rs) 0) (sym (ok .rows-are)))
+  size : length y ≡ length w
+  size = same-words (answersIn O s o) eights w n y h
+
+  full : length y / 8 < n → Settled O s (length w) x z
+  full l = settled-full O base s (length w) x z (ok .agreed) (omega (arith, long, ap length (ok .rows-are))) (fit .full l .0) (fit .full l .1 ∙ ap (λ (k : ℕ). replicate k 0) size)
     where
+      long : length w < 8 * length (answersIn O s o)
+      long = too-many (answersIn O s o) eights w n y h (omega (arith, size, l))
+
+  whole : n ≤ length y / 8 → Settled O s (length w) x z
+  whole m = settled-yes O base s (length w) x z (ok .agreed) (omega (arith, same, l)) told words
+    where
+      l : n ≤ length w / 8
+      l = omega (arith, size, m)
+
       same : n ≡ length (answers O s (history O s))
-      same = counted (answersIn O s o) (accepted-eights ok) w n y h l ∙ ap length (sym (ok .rows-are))
+      same = counted (answersIn O s o) eights w n y h l ∙ ap length (sym (ok .rows-are))
+
+      told : x ≡ record { number = 0; pos = record { 0 = 0 }; name = 0; rows = length (answers O s (history O s)); globals = finalGlobals s (history O s) }
+      told =
+          fit .told m ∙ ap (λ (k : ℕ). record { number = 0; pos = record { 0 = 0 }; name = 0; rows = k; globals = g }) same
+          ∙ ap (λ (k : ℕ). record { number = 0; pos = record { 0 = 0 }; name = 0; rows = length (answers O s (history O s)); globals = k }) (ok .globals-are)
+
+      left : length y - 8 * n ≡ length w - 8 * length (answers O s (history O s))
+      left = omega (arith, size, same)
+
+      words : z ≡ flat (answers O s (history O s)) ++ replicate (length w - 8 * length (answers O s (history O s))) 0
+      words =
+          fit .words m ∙ ap (λ (v : List ℕ). v ++ replicate (length y - 8 * n) 0) (written (answersIn O s o) eights w n y h l ∙ ap flat (sym (ok .rows-are)))
+          ∙ ap (λ (k : ℕ). flat (answers O s (history O s)) ++ replicate k 0) left
+
+  pub answer-settled : Settled O s (length w) x z
+  answer-settled = go (ltb (length y / 8) n) refl
+    where
+      go : (t : Bool) → ltb (length y / 8) n ≡ t → Settled O s (length w) x z
+      go true i = full (ltb-true (length y / 8) n i)
+      go false i = whole (ltb-false (length y / 8) n i)
 
 -- Questions 18 to 21 with n marks, all of them 0.
 pub unmarked : {O : Outside} {s : Sheet} → PastFour O s → (n : ℕ) → rows s ≤ n

@@ -12,14 +12,12 @@ ghost use Rattle.walk.specs.WalkState.{stateOf};
 ghost use Rattle.finish.specs.Settled.{Settled, Accepted};
 ghost use Rattle.outside.specs.Words.{over};
 use answer::Answer;
-use answer::refuse;
+use answer::accept;
 use answer::refuse_at;
 use answer_rows::emit_rows;
 use inherit::Refusal;
 use inherit::later_refusal;
-use lexer::SrcPos;
 use store::nodes::Store;
-use text::clear;
 use walk::state::Walk;
 
 // The first no of questions 18 to 21, with marks of the classes climbed through for 2,048 rows.
@@ -31,7 +29,7 @@ fn ask_later(sheet: &[u32], outside: &[u32], results: &[u32], nodes: &[u32], cal
     later_refusal(sheet, outside, results, nodes, &mut climbed, calls)
 }
 
-// The answer rows of a sheet that no question refuses. Question 22: do they fit?
+// The answer rows of a sheet that no question up to 21 refuses, and question 22.
 fn write_answer(
     sheet: &[u32],
     outside: &[u32],
@@ -45,17 +43,7 @@ fn write_answer(
     ensures { λ x. ⌜ Settled (over (now (outside .entry))) (now (sheet .entry)) (length (now (out .entry))) x (now (out .exit)) ⌝ }
 {
     let n = emit_rows(sheet, outside, results, nodes, store, out);
-    if out.len() / 8 < n {
-        return refuse(22, out);
-    }
-    clear(&mut out[8 * n..]);
-    Answer {
-        number: 0,
-        pos: SrcPos(0),
-        name: 0,
-        rows: n,
-        globals: globals,
-    }
+    accept(n, globals, out)
 }
 
 // Settles a sheet whose walk got no no: by the first no of questions 18 to 22, or with its answer rows.

@@ -9,7 +9,7 @@ use Rattle.finish.proofs.finish.Statement.{statement}
 use Rattle.finish.proofs.finish.Tie as tie
 
 ask-later-requires : tie.Need-ask-later-requires
-ask-later-requires c κs = search needs
+ask-later-requires c κs = c .before .before .before .before .before .before .before .pre .0
 
 refuse-at-requires : tie.Need-refuse-at-requires
 refuse-at-requires c κs =
@@ -44,7 +44,7 @@ same-length-2 : tie.Need-same-length-2
 same-length-2 c = search needs
 
 returns-2 : tie.Need-returns-2
-returns-2 c = search needs
+returns-2 c = c .before .before .write-answer .ensures
 
 pub finish-spec : {M : Type 1} → statement M
 finish-spec =
