@@ -27,11 +27,11 @@ zeros-long n = length-replicate {A = ℕ} n 0
 
 pub scratch-zeros : (s : Sheet) (n : ℕ) → rows s ≤ n → Scratch s (replicate n 0) (replicate n 0) (replicate n 0)
 scratch-zeros s n few = record {
-  for-heads = omega (arith, zeros-long n);
-  for-nexts = omega (arith, zeros-long n);
-  for-parents = omega (arith, zeros-long n);
-  clear-heads = clear-zeros n;
-  clear-parents = clear-zeros n;
+  for-first = omega (arith, zeros-long n);
+  for-next = omega (arith, zeros-long n);
+  for-children = omega (arith, zeros-long n);
+  clear-first = clear-zeros n;
+  clear-children = clear-zeros n;
 }
 
 -- a sheet past question 1 is not long

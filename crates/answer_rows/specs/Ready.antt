@@ -17,11 +17,11 @@ use Rattle.class_rows.specs.Names.{ParentMarks}
 
 -- Scratch space with a word for each row: chains of literals, marks of parents. The chains' second part need not be clear.
 pub record Scratch (s : Sheet) (hs ns ps : List ℕ) : Type 0 where
-  pub for-heads : rows s ≤ length hs
-  pub for-nexts : rows s ≤ length ns
-  pub for-parents : rows s ≤ length ps
-  pub clear-heads : Clear hs
-  pub clear-parents : Clear ps
+  pub for-first : rows s ≤ length hs
+  pub for-next : rows s ≤ length ns
+  pub for-children : rows s ≤ length ps
+  pub clear-first : Clear hs
+  pub clear-children : Clear ps
 
 -- The store o of a sheet, with the chains of its literals and the marks of its parents: classes told by method names are told as the
 -- definition tells them, and have few enough fields and methods.

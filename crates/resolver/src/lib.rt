@@ -1,7 +1,5 @@
 // The public routine: a sheet and its names, resolved into the lent answer words, or refused.
-ghost use mathlib.Core.Path.{_≡_};
-ghost use mathlib.Core.List.{List};
-ghost use Prim.Native.Nat.{ℕ, _≤_};
+ghost use Prim.Native.Nat.{_≤_};
 ghost use lib.ListN.{length};
 ghost use Rattle.machine.specs.Reads.{PastFour};
 ghost use Rattle.resolve_syms.specs.Prepared.{Lent};

@@ -14,7 +14,7 @@ use Rattle.answer_rows.proofs.emit_each.Statement.{statement}
 use Rattle.answer_rows.proofs.emit_each.Tie as tie
 
 abbrev Inv-loop : tie.InvT-loop
-Inv-loop s outside t q heads nexts parents o places₀ out₀ k₀ r₀ places out k r =
+Inv-loop s outside t q firsts nexts children o places₀ out₀ k₀ r₀ places out k r =
     let rows = rowsIn (over outside) s (storeOf o t q) in
     (emitAll (concatMap rows (from r (length s / 8 - r))) (sink k out) ≡ emitAll (concatMap rows (from 0 (length s / 8))) (sink 0 out₀))
     × (r ≤ length s / 8)
@@ -23,7 +23,7 @@ Inv-loop s outside t q heads nexts parents o places₀ out₀ k₀ r₀ places o
     × (Placed (over outside) s t q places out r k)
 
 abbrev μ-loop : tie.MeasureT-loop
-μ-loop s outside t q heads nexts parents o places₀ out₀ k₀ r₀ places out k r = length s / 8 - r
+μ-loop s outside t q firsts nexts children o places₀ out₀ k₀ r₀ places out k r = length s / 8 - r
 
 loop-holds : tie.Need-loop-holds Inv-loop μ-loop
 loop-holds c =

@@ -10,13 +10,13 @@ link-literals-requires c κs =
     let start = c .before .before .before .before .before .before .before .before .before .before .before in
     let ok = start .pre .0 in
     let room = start .pre .2 in
-    (small-sheet ok, past-fits ok .header, room .clear-heads, room .for-heads, room .for-nexts)
+    (small-sheet ok, past-fits ok .header, room .clear-first, room .for-first, room .for-next)
 
 mark-parents-requires : tie.Need-mark-parents-requires
 mark-parents-requires c κs =
     let start = c .before .before .before .before .before .before .before .before .before .before .before .before .before .before .before .before .before in
     let room = start .pre .2 in
-    (small-sheet (start .pre .0), room .for-parents, room .clear-parents .zeros)
+    (small-sheet (start .pre .0), room .for-children, room .clear-children .zeros)
 
 emit-each-requires : tie.Need-emit-each-requires
 emit-each-requires c κs =
