@@ -1,4 +1,4 @@
-// The answer rows of functions, of their literals, and of single rows.
+// The answer rows of functions and of their literals.
 mod escapes;
 pub mod literals;
 
@@ -10,7 +10,7 @@ ghost use Rattle.ast.specs.Decl.{codeAndValues};
 ghost use Rattle.definition.specs.Sheet.{rows};
 ghost use Rattle.definition.specs.Answer.{eight};
 ghost use Rattle.machine.specs.Machine.{chainTo, codeOf, seenIn, nodeWord};
-ghost use Rattle.machine.specs.Reads.{rowWords, answerRow, meaningOfNode};
+ghost use Rattle.machine.specs.Reads.{answerRow, meaningOfNode};
 ghost use Rattle.after.specs.Rows.{literalRowsIn, functionRowsIn};
 ghost use Rattle.store.specs.Stored.{storeOf};
 ghost use Rattle.sink.specs.Sink.{sink, emit as emitted, emitAll};
@@ -50,19 +50,6 @@ fn emit_decl(row: u32, d: Decl, k: usize, out: &mut [u32]) -> usize
     ensures { λ n. ⌜ sink n (now (out .exit)) ≡ emitted (answerRow row (codeAndValues d)) (sink k (now (out .entry))) ⌝ }
 {
     emit_words(row, d.words(), k, out)
-}
-
-// The row of a let, identifier, host constant, instanceof or member, as the table has it.
-pub fn emit_row(results: &[u32], row: u32, k: usize, out: &mut [u32]) -> usize
-    ensures { λ n. ⌜ sink n (now (out .exit)) ≡ emitted (answerRow row (rowWords (now (results .entry)) row)) (sink k (now (out .entry))) ⌝ }
-{
-    let x = [
-        word(results, row, 0),
-        word(results, row, 1),
-        word(results, row, 2),
-        word(results, row, 3),
-    ];
-    emit_words(row, x, k, out)
 }
 
 // The local or argument that node `i` of a capture list stands for.

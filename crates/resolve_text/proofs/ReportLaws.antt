@@ -21,8 +21,9 @@ use Rattle.text.specs.Reading.{SheetRead, isReadable, linesRead, wordsRead}
 use Rattle.text.specs.Writing.{RowsWritten, rowsIn, bytesWritten, textWritten}
 use Rattle.text.proofs.Lists.{pieces-length}
 use Rattle.text.proofs.Laws.{line-length, sheet-words, rows-read, rows-fit, rows-of-joined}
-use Rattle.resolver.specs.declared.Answer.{Answer}
-use Rattle.resolver.specs.Answered.{Answered, Tells}
+use Rattle.answer.specs.declared.Answer.{Answer}
+use Rattle.answer.specs.Tells.{Tells}
+use Rattle.resolver.specs.Answered.{Answered}
 use Rattle.resolve_text.specs.Report.{firstRow, Reported, Printed}
 
 -- the words of rows

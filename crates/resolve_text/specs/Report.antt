@@ -7,7 +7,7 @@ use Rattle.definition.specs.Basics.{concatMap}
 use Rattle.definition.specs.Sheet.{Sheet}
 use Rattle.definition.specs.Outcome.{outcome, report, printed}
 use Rattle.lexer.specs.SrcPos.{fileOf, lineOf, columnOf}
-use Rattle.resolver.specs.declared.Answer.{Answer}
+use Rattle.answer.specs.declared.Answer.{Answer}
 
 -- the report's first row
 unfoldable pub firstRow : Answer → List ℕ

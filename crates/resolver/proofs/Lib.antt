@@ -1,6 +1,2 @@
-mod BufferLaws
 mod OutcomeLaws
-mod ReadyLaws
-mod RowLaws
-mod AnswerLaws
-mod ScratchLaws
+mod LentLaws

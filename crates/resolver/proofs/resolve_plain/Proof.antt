@@ -2,10 +2,6 @@ use Rattle.resolver.proofs.OutcomeLaws.{plain-past, plain-settled}
 use borrow.Author.Needs.{needs}
 use Rattle.resolver.proofs.resolve_plain.Statement.{statement}
 use Rattle.resolver.proofs.resolve_plain.Tie as tie
-use Rattle.resolver.proofs.resolve_plain.Reads as reads
-use Rattle.resolver.proofs.resolve_plain.Lts as lts
-use Rattle.outside.proofs.plain.core_words.Reads as core-words-reads
-use Rattle.resolver.proofs.resolve_sized.Reads as resolve-sized-reads
 
 core-words-requires : tie.Need-core-words-requires
 core-words-requires c κs = search needs

@@ -1,23 +1,25 @@
 use native.Mathlib.Omega.{arith}
-use Rattle.resolver.proofs.ScratchLaws.{lent-zeros, rows-small}
+use Rattle.resolver.proofs.LentLaws.{lent-zeros, rows-small}
 use borrow.Author.Needs.{needs}
 use Rattle.resolver.proofs.resolve_small.Statement.{statement}
 use Rattle.resolver.proofs.resolve_small.Tie as tie
 
-slice-aggregate-resolve-with : tie.Need-slice-aggregate-resolve-with
-slice-aggregate-resolve-with c = search needs
+slice-aggregate-resolve-in : tie.Need-slice-aggregate-resolve-in
+slice-aggregate-resolve-in c = search needs
 
-slice-aggregate-resolve-with-2 : tie.Need-slice-aggregate-resolve-with-2
-slice-aggregate-resolve-with-2 c = search needs
+slice-aggregate-resolve-in-2 : tie.Need-slice-aggregate-resolve-in-2
+slice-aggregate-resolve-in-2 c = search needs
 
-slice-aggregate-resolve-with-3 : tie.Need-slice-aggregate-resolve-with-3
-slice-aggregate-resolve-with-3 c = search needs
+slice-aggregate-resolve-in-3 : tie.Need-slice-aggregate-resolve-in-3
+slice-aggregate-resolve-in-3 c = search needs
 
-slice-aggregate-resolve-with-4 : tie.Need-slice-aggregate-resolve-with-4
-slice-aggregate-resolve-with-4 c = search needs
+slice-aggregate-resolve-in-4 : tie.Need-slice-aggregate-resolve-in-4
+slice-aggregate-resolve-in-4 c = search needs
 
-resolve-with-requires : tie.Need-resolve-with-requires
-resolve-with-requires c κs = (c .before .before .before .before .before .before .before .before .pre .0, lent-zeros _ _ 320 320 10100 2560 26880 (c .before .before .before .before .before .before .before .before .pre .1) (rows-small (c .before .before .before .before .before .before .before .before .args .s .now) (c .before .before .before .before .before .before .before .before .pre .2)) (omega arith) (omega arith) (omega arith) (omega arith))
+resolve-in-requires : tie.Need-resolve-in-requires
+resolve-in-requires c κs =
+    let start = c .before .before .before .before .before .before .before .before in
+    (start .pre .0, lent-zeros _ _ 320 320 10100 2560 26880 (start .pre .1) (rows-small (start .args .sheet .now) (start .pre .2)) (omega arith) (omega arith) (omega arith) (omega arith))
 
 same-length : tie.Need-same-length
 same-length c = search needs
@@ -29,10 +31,10 @@ pub resolve-small-spec : {M : Type 1} → statement M
 resolve-small-spec =
     tie.close
     (tie.spec
-    slice-aggregate-resolve-with
-    slice-aggregate-resolve-with-2
-    slice-aggregate-resolve-with-3
-    slice-aggregate-resolve-with-4
-    resolve-with-requires
+    slice-aggregate-resolve-in
+    slice-aggregate-resolve-in-2
+    slice-aggregate-resolve-in-3
+    slice-aggregate-resolve-in-4
+    resolve-in-requires
     same-length
     returns)

@@ -1,0 +1,2 @@
+mod TellLaws
+mod ClearLaws

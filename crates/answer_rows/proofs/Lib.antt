@@ -1,0 +1,3 @@
+pub mod ScratchLaws
+mod ReadyLaws
+mod RowLaws

@@ -1,0 +1,26 @@
+use Rattle.outside.proofs.RecordLaws.{over-base}
+use Rattle.finish.proofs.AnswerLaws.{answer-settled}
+use borrow.Author.Needs.{needs}
+use Rattle.finish.proofs.write_answer.Statement.{statement}
+use Rattle.finish.proofs.write_answer.Tie as tie
+
+emit-rows-requires : tie.Need-emit-rows-requires
+emit-rows-requires c κs =
+    let start = c .before .before .before .before .before .before in
+    (start .pre .0, start .pre .1)
+
+accept-requires : tie.Need-accept-requires
+accept-requires c κs = search needs
+
+same-length : tie.Need-same-length
+same-length c = search needs
+
+returns : tie.Need-returns
+returns c =
+    let start = c .before .before .before .before .before .before .before .before .before .before .before .before .before in
+    let a = start .args in
+    let rows = c .before .before .before .before .before .before .emit-rows .ensures in
+    answer-settled (over-base (a .outside .now)) (start .pre .2) (a .out .now) _ _ rows _ _ (c .before .before .accept .ensures)
+
+pub write-answer-spec : {M : Type 1} → statement M
+write-answer-spec = tie.close (tie.spec emit-rows-requires accept-requires same-length returns)
