@@ -6,6 +6,8 @@ ghost use Rattle.definition.specs.Sheet.{file as fileAt};
 ghost use Rattle.definition.specs.Outcome.{refused, refusedAt};
 ghost use Rattle.answer.specs.Tells.{Tells};
 ghost use Rattle.answer.specs.Fitted.{Fitted};
+use ast::column;
+use ast::question;
 use lexer::SrcPos;
 use words::clear;
 use words::word;
@@ -39,9 +41,9 @@ pub fn refuse_at(sheet: &[u32], number: u32, row: u32, name: u32, out: &mut [u32
     ensures { λ x. ⌜ (Tells (refusedAt number (now (sheet .entry)) row name) x) × (now (out .exit) ≡ replicate (length (now (out .entry))) 0) ⌝ }
 {
     let pos = SrcPos::new(
-        word(sheet, row, 3),
-        word(sheet, row, 4),
-        word(sheet, row, 5),
+        word(sheet, row, column::FILE),
+        word(sheet, row, column::LINE),
+        word(sheet, row, column::COLUMN),
     );
     let mut no = refuse(number, out);
     no.pos = pos;
@@ -54,7 +56,7 @@ pub fn accept(n: usize, globals: u32, out: &mut [u32]) -> Answer
     ensures { λ x. ⌜ Fitted n globals (now (out .entry)) x (now (out .exit)) ⌝ }
 {
     if out.len() / 8 < n {
-        return refuse(22, out);
+        return refuse(question::ROOM, out);
     }
     clear(&mut out[8 * n..]);
     Answer {

@@ -15,14 +15,17 @@ ghost use Rattle.class_rows.specs.Places.{Placed};
 ghost use Rattle.answer_rows.specs.Ready.{RowsReady, Scratch};
 ghost use Rattle.outside.specs.Words.{over};
 use ast::FunId;
-use class_rows::emit_class;
+use ast::column;
+use ast::kind;
 use class_names::marks::mark_parents;
+use class_rows::emit_class;
 use fun_rows::emit_function;
 use fun_rows::emit_literal;
 use fun_rows::literals::link_literals;
 use sink::AnswerRow;
 use sink::emit;
 use store::nodes::Store;
+use store::result;
 use words::word;
 
 // The row of a let, identifier, host constant, instanceof or member, as the table has it.
@@ -31,10 +34,10 @@ fn emit_row(results: &[u32], row: u32, k: usize, out: &mut [u32]) -> usize
 {
     let told = AnswerRow {
         row: row,
-        code: word(results, row, 0),
-        one: word(results, row, 1),
-        two: word(results, row, 2),
-        three: word(results, row, 3),
+        code: word(results, row, result::CODE),
+        one: word(results, row, result::ONE),
+        two: word(results, row, result::TWO),
+        three: word(results, row, result::THREE),
         four: 0,
     };
     emit(out, k, told)
@@ -44,7 +47,7 @@ fn emit_row(results: &[u32], row: u32, k: usize, out: &mut [u32]) -> usize
 fn emit_shown(results: &[u32], row: u32, k: usize, out: &mut [u32]) -> usize
     ensures { λ n. ⌜ sink n (now (out .exit)) ≡ emitAll (if eqb (cell (now (results .entry)) row 4) 0 then answerRow row (rowWords (now (results .entry)) row) ∷ [] else []) (sink k (now (out .entry))) ⌝ }
 {
-    if word(results, row, 4) != 0 {
+    if word(results, row, result::HIDDEN) != 0 {
         return k;
     }
     emit_row(results, row, k, out)
@@ -54,7 +57,7 @@ fn emit_shown(results: &[u32], row: u32, k: usize, out: &mut [u32]) -> usize
 fn emit_member(results: &[u32], row: u32, k: usize, out: &mut [u32]) -> usize
     ensures { λ n. ⌜ sink n (now (out .exit)) ≡ emitAll (if eqb (cell (now (results .entry)) row 0) 0 then [] else answerRow row (rowWords (now (results .entry)) row) ∷ []) (sink k (now (out .entry))) ⌝ }
 {
-    if word(results, row, 0) == 0 {
+    if word(results, row, result::CODE) == 0 {
         return k;
     }
     emit_row(results, row, k, out)
@@ -78,15 +81,15 @@ fn emit_of(
     requires { ⌜ (RowsReady (over (now outside)) (now sheet) (storeOf store (now results) (now nodes)) (now literals) (now siblings) (now subclassed)) × (row < rows (now sheet)) × (Placed (over (now outside)) (now sheet) (now results) (now nodes) (now starts) (now out) row k) ⌝ }
     ensures { λ n. ⌜ (sink n (now (out .exit)) ≡ emitAll (rowsIn (over (now (outside .entry))) (now (sheet .entry)) (storeOf store (now (results .entry)) (now (nodes .entry))) row) (sink k (now (out .entry)))) × (Placed (over (now (outside .entry))) (now (sheet .entry)) (now (results .entry)) (now (nodes .entry)) (now (starts .exit)) (now (out .exit)) (row + 1) n) ⌝ }
 {
-    let kind = word(sheet, row, 0);
+    let kind = word(sheet, row, column::KIND);
     match kind {
-        29 => emit_row(results, row, k, out),
-        51 => emit_row(results, row, k, out),
-        55 => emit_row(results, row, k, out),
-        50 => emit_shown(results, row, k, out),
-        54 => emit_member(results, row, k, out),
-        52 => emit_literal(sheet, results, nodes, row, k, out),
-        6 => emit_function(
+        kind::LET => emit_row(results, row, k, out),
+        kind::HOST_CONSTANT => emit_row(results, row, k, out),
+        kind::INSTANCEOF => emit_row(results, row, k, out),
+        kind::IDENTIFIER => emit_shown(results, row, k, out),
+        kind::MEMBER => emit_member(results, row, k, out),
+        kind::LITERAL => emit_literal(sheet, results, nodes, row, k, out),
+        kind::FUNCTION => emit_function(
             sheet,
             results,
             nodes,
@@ -96,7 +99,7 @@ fn emit_of(
             k,
             out,
         ),
-        4 => emit_class(
+        kind::CLASS => emit_class(
             sheet,
             outside,
             results,

@@ -4,7 +4,10 @@ ghost use Rattle.ast.specs.Decl.{codeAndValues, declOf, mutable};
 
 pub mod code;
 pub mod column;
+pub mod flag;
 pub mod kind;
+pub mod limit;
+pub mod name;
 pub mod question;
 
 // The number of a function and the number of a class are two types: neither can be given for the other.

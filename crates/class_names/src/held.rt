@@ -8,12 +8,14 @@ ghost use Rattle.store.specs.declared.nodes.Store.{Store};
 ghost use Rattle.class_names.specs.Names.{rowNames, ownIn, namesIn, inherited};
 use ast::ClassId;
 use ast::FIRST_CLASS;
+use ast::kind;
 use inherit::parent_of;
 use outside::records::is_listed;
 use outside::records::recorded_names;
 use sheet::has_named;
 use sheet::is_class_row;
 use store::nodes::has_key;
+use store::result;
 use words::word;
 
 // Is `m` a name of a class from outside?
@@ -31,8 +33,8 @@ fn is_row_name(sheet: &[u32], results: &[u32], nodes: &[u32], kind: u32, row: u3
     if has_named(sheet, row, kind, m) {
         return true;
     }
-    if kind == 10 {
-        return has_key(nodes, word(results, row, 7), m);
+    if kind == kind::FIELD {
+        return has_key(nodes, word(results, row, result::FIELDS), m);
     }
     false
 }

@@ -5,14 +5,17 @@ ghost use lib.ListN.{length, getD};
 ghost use Rattle.definition.specs.Sheet.{rows};
 ghost use Rattle.class_names.specs.Names.{ParentMarks, markParent};
 use ast::FIRST_CLASS;
+use ast::column;
+use ast::kind;
+use store::result;
 use words::word;
 
 // Marks the row of the parent of `row`, if `row` is a class whose parent is of the sheet.
 fn mark_parent(sheet: &[u32], results: &[u32], row: u32, subclassed: &mut [u32])
     ensures { λ _. ⌜ now (subclassed .exit) ≡ markParent (now (sheet .entry)) (now (results .entry)) row (now (subclassed .entry)) ⌝ }
 {
-    if word(sheet, row, 0) == 4 {
-        let parent = word(results, row, 1);
+    if word(sheet, row, column::KIND) == kind::CLASS {
+        let parent = word(results, row, result::ONE);
         if parent >= FIRST_CLASS {
             let i = (parent - FIRST_CLASS) as usize;
             if i < subclassed.len() {

@@ -11,6 +11,8 @@ use crate::put::Wanted;
 use crate::put::Written;
 use ast::ClassId;
 use ast::FunId;
+use ast::code;
+use ast::kind;
 use outside::records::own_method;
 use sink::AnswerRow;
 use sink::emit;
@@ -37,10 +39,10 @@ fn copied_row(
     ensures { λ x. ⌜ wordsOf x ≡ copiedRow (over (now (outside .entry))) (now (sheet .entry)) wanted (now (out .entry)) at i ⌝ }
 {
     let last = out[8 * at + 3];
-    if wanted.kind == 10 {
+    if wanted.kind == kind::FIELD {
         return AnswerRow {
             row: wanted.row,
-            code: 23,
+            code: code::FIELD,
             one: i,
             two: last,
             three: 0,
@@ -51,7 +53,7 @@ fn copied_row(
     let fun = own_or(sheet, outside, wanted.class, m, FunId(last));
     AnswerRow {
         row: wanted.row,
-        code: 24,
+        code: code::METHOD,
         one: m,
         two: fun.0,
         three: 0,

@@ -31,6 +31,8 @@ use crate::put::Wanted;
 use crate::put::Written;
 use ast::ClassId;
 use ast::FIRST_CLASS;
+use ast::code;
+use ast::kind;
 use inherit::parent_of;
 use sink::AnswerRow;
 use sink::emit;
@@ -75,11 +77,25 @@ fn class_head(
 {
     let parent = parent_of(sheet, results, ClassId(FIRST_CLASS + row)).0;
     let children = mark_bit(subclassed, row);
-    let field_count = count_line(sheet, outside, results, nodes, wanted(row, 10), fields);
-    let method_count = count_line(sheet, outside, results, nodes, wanted(row, 6), methods);
+    let field_count = count_line(
+        sheet,
+        outside,
+        results,
+        nodes,
+        wanted(row, kind::FIELD),
+        fields,
+    );
+    let method_count = count_line(
+        sheet,
+        outside,
+        results,
+        nodes,
+        wanted(row, kind::FUNCTION),
+        methods,
+    );
     AnswerRow {
         row: row,
-        code: 22,
+        code: code::CLASS_COUNTS,
         one: parent,
         two: children,
         three: field_count,
@@ -122,7 +138,7 @@ fn write_class(
         outside,
         results,
         nodes,
-        wanted(row, 10),
+        wanted(row, kind::FIELD),
         fields,
         first,
         out,
@@ -136,7 +152,7 @@ fn write_class(
         outside,
         results,
         nodes,
-        wanted(row, 6),
+        wanted(row, kind::FUNCTION),
         methods,
         second,
         out,
@@ -165,8 +181,8 @@ pub fn emit_class(
     }
     let parent = parent_of(sheet, results, ClassId(FIRST_CLASS + row));
     let at = place_of(starts, parent);
-    let fields = above_of(out, at, 10);
-    let methods = above_of(out, at, 6);
+    let fields = above_of(out, at, kind::FIELD);
+    let methods = above_of(out, at, kind::FUNCTION);
     let count = write_class(
         sheet,
         outside,

@@ -8,6 +8,7 @@ ghost use Rattle.definition.specs.Classes.{ofSheet};
 ghost use Rattle.class_rows.specs.Places.{placeOf, aboveOf};
 use ast::ClassId;
 use ast::FIRST_CLASS;
+use ast::kind;
 use sheet::is_class_row;
 
 // Where the names of a class stand: their first row and their number. Row 0: nowhere.
@@ -39,7 +40,7 @@ pub fn above_of(out: &[u32], at: usize, kind: u32) -> Above
     }
     let first = 8 * (at - 1);
     let fields = out[first + 4];
-    if kind == 10 {
+    if kind == kind::FIELD {
         return Above {
             row: at,
             count: fields,

@@ -13,6 +13,9 @@ ghost use Rattle.class_names.specs.Names.{ownIn, namesIn};
 ghost use Rattle.class_rows.specs.Put.{filled, wordsOf, nameRow, put, putAll, putNew};
 use ast::ClassId;
 use ast::FIRST_CLASS;
+use ast::code;
+use ast::column;
+use ast::kind;
 use class_names::held::is_inherited;
 use inherit::find_method;
 use inherit::parent_of;
@@ -22,8 +25,10 @@ use outside::records::step_of;
 use sheet::is_class_row;
 use sink::AnswerRow;
 use sink::emit;
+use store::node;
 use store::nodes::node_before;
 use store::nodes::node_word;
+use store::result;
 use words::one_more;
 use words::word;
 use words::word_at;
@@ -58,10 +63,10 @@ fn name_row(
 ) -> AnswerRow
     ensures { λ x. ⌜ ((o : Store) (nodes : List ℕ) → wordsOf x ≡ nameRow (over (now (outside .entry))) (now (sheet .entry)) (storeOf o (now (results .entry)) nodes) wanted m i) ⌝ }
 {
-    if wanted.kind == 10 {
+    if wanted.kind == kind::FIELD {
         return AnswerRow {
             row: wanted.row,
-            code: 23,
+            code: code::FIELD,
             one: i,
             two: m,
             three: 0,
@@ -71,7 +76,7 @@ fn name_row(
     let fun = find_method(sheet, outside, results, wanted.class, m).fun;
     AnswerRow {
         row: wanted.row,
-        code: 24,
+        code: code::METHOD,
         one: m,
         two: fun.0,
         three: 0,
@@ -181,15 +186,15 @@ fn put_listed(
 {
     let mut done = k;
     let mut left = sheet.len() / 8;
-    let mut at = word(sheet, r, 2);
+    let mut at = word(sheet, r, column::CHILD);
     while 0 < left {
         if at == 0 {
             return done;
         }
         let row = at;
-        at = word(sheet, row, 1);
+        at = word(sheet, row, column::NEXT);
         left -= 1;
-        if word(sheet, row, 0) == wanted.kind {
+        if word(sheet, row, column::KIND) == wanted.kind {
             done = put_new(
                 sheet,
                 outside,
@@ -197,7 +202,7 @@ fn put_listed(
                 nodes,
                 wanted,
                 p,
-                word(sheet, row, 6),
+                word(sheet, row, column::A),
                 done,
                 out,
             );
@@ -233,7 +238,7 @@ fn put_stored(
         nodes,
         wanted,
         p,
-        node_word(nodes, i, 1),
+        node_word(nodes, i, node::KEY),
         done,
         out,
     )
@@ -256,7 +261,7 @@ pub fn put_own(
     if is_class_row(sheet, c) {
         let r = c.0 - FIRST_CLASS;
         let done = put_listed(sheet, outside, results, nodes, wanted, p, r, k, out);
-        if wanted.kind == 10 {
+        if wanted.kind == kind::FIELD {
             return put_stored(
                 sheet,
                 outside,
@@ -264,7 +269,7 @@ pub fn put_own(
                 nodes,
                 wanted,
                 p,
-                word(results, r, 7),
+                word(results, r, result::FIELDS),
                 done,
                 out,
             );

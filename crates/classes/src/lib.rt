@@ -6,6 +6,8 @@ ghost use Rattle.definition.specs.Sheet.{rows};
 ghost use Rattle.definition.specs.Outside.{Outside};
 ghost use Rattle.machine.specs.Reads.{PastFour};
 ghost use Rattle.classes.specs.Table.{kidsClass, linked, rowDone, Clear, ClassTable};
+use ast::column;
+use ast::kind;
 use words::entry_at;
 use words::put_entry;
 use words::word;
@@ -23,12 +25,12 @@ fn put_linked(classes: &mut [u32], i: u32, x: u32)
 fn kids_class(sheet: &[u32], row: u32) -> u32
     ensures { λ x. ⌜ x ≡ kidsClass (now (sheet .entry)) row ⌝ }
 {
-    let kind = word(sheet, row, 0);
-    if kind == 4 {
+    let kind = word(sheet, row, column::KIND);
+    if kind == kind::CLASS {
         return row;
     }
-    if kind == 52 {
-        return word(sheet, row, 6);
+    if kind == kind::LITERAL {
+        return word(sheet, row, column::A);
     }
     0
 }
@@ -37,8 +39,8 @@ fn kids_class(sheet: &[u32], row: u32) -> u32
 fn fill_row(sheet: &[u32], row: u32, classes: &mut [u32])
     ensures { λ _. ⌜ now (classes .exit) ≡ rowDone (now (sheet .entry)) row (now (classes .entry)) ⌝ }
 {
-    let child = word(sheet, row, 2);
-    let next = word(sheet, row, 1);
+    let child = word(sheet, row, column::CHILD);
+    let next = word(sheet, row, column::NEXT);
     put_linked(classes, child, kids_class(sheet, row));
     put_linked(classes, next, entry_at(classes, row));
 }

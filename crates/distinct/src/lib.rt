@@ -8,6 +8,8 @@ ghost use Rattle.definition.specs.Sheet.{rows, kids};
 ghost use Rattle.definition.specs.Format.{linksRise};
 ghost use Rattle.distinct.specs.Apart.{childUnmarked, childMarked, unmarked, marked, stamp, unitUnmarked, unitMarked, classUnmarked, classMarked, rowUnmarked, rowMarked, allUnmarked};
 ghost use Rattle.links.specs.Rising.{Rising};
+use ast::column;
+use ast::kind;
 use words::entry_at;
 use words::put_entry;
 use words::word;
@@ -17,10 +19,10 @@ fn child_apart(sheet: &[u32], c: u32, kind: u32, mark: u32, marks: &mut [u32]) -
     ensures { λ x. ⌜ x ≡ childUnmarked (now (sheet .entry)) kind mark (now (marks .entry)) c ⌝ }
     ensures { λ x. ⌜ (x ≡ true → now (marks .exit) ≡ childMarked (now (sheet .entry)) kind mark (now (marks .entry)) c) ⌝ }
 {
-    if word(sheet, c, 0) != kind {
+    if word(sheet, c, column::KIND) != kind {
         return true;
     }
-    let name = word(sheet, c, 6);
+    let name = word(sheet, c, column::A);
     if entry_at(marks, name) == mark {
         return false;
     }
@@ -34,12 +36,12 @@ fn names_apart(sheet: &[u32], row: u32, kind: u32, mark: u32, marks: &mut [u32])
     ensures { λ x. ⌜ x ≡ unmarked (now (sheet .entry)) kind mark (now (marks .entry)) (kids (now (sheet .entry)) row) ⌝ }
     ensures { λ x. ⌜ (x ≡ true → now (marks .exit) ≡ marked (now (sheet .entry)) kind mark (now (marks .entry)) (kids (now (sheet .entry)) row)) ⌝ }
 {
-    let mut c = word(sheet, row, 2);
+    let mut c = word(sheet, row, column::CHILD);
     while c != 0 {
         if !child_apart(sheet, c, kind, mark, marks) {
             return false;
         }
-        c = word(sheet, c, 1);
+        c = word(sheet, c, column::NEXT);
     }
     true
 }
@@ -49,13 +51,13 @@ fn unit_apart(sheet: &[u32], row: u32, marks: &mut [u32]) -> bool
     ensures { λ x. ⌜ x ≡ unitUnmarked (now (sheet .entry)) row (now (marks .entry)) ⌝ }
     ensures { λ x. ⌜ (x ≡ true → now (marks .exit) ≡ unitMarked (now (sheet .entry)) row (now (marks .entry))) ⌝ }
 {
-    if !names_apart(sheet, row, 4, 4 * row + 1, marks) {
+    if !names_apart(sheet, row, kind::CLASS, 4 * row + 1, marks) {
         return false;
     }
-    if !names_apart(sheet, row, 7, 4 * row + 2, marks) {
+    if !names_apart(sheet, row, kind::FUNCTION_EXPORT, 4 * row + 2, marks) {
         return false;
     }
-    names_apart(sheet, row, 8, 4 * row + 3, marks)
+    names_apart(sheet, row, kind::CONSTANT_EXPORT, 4 * row + 3, marks)
 }
 
 fn class_apart(sheet: &[u32], row: u32, marks: &mut [u32]) -> bool
@@ -63,10 +65,10 @@ fn class_apart(sheet: &[u32], row: u32, marks: &mut [u32]) -> bool
     ensures { λ x. ⌜ x ≡ classUnmarked (now (sheet .entry)) row (now (marks .entry)) ⌝ }
     ensures { λ x. ⌜ (x ≡ true → now (marks .exit) ≡ classMarked (now (sheet .entry)) row (now (marks .entry))) ⌝ }
 {
-    if !names_apart(sheet, row, 10, 4 * row + 1, marks) {
+    if !names_apart(sheet, row, kind::FIELD, 4 * row + 1, marks) {
         return false;
     }
-    names_apart(sheet, row, 6, 4 * row + 2, marks)
+    names_apart(sheet, row, kind::FUNCTION, 4 * row + 2, marks)
 }
 
 fn row_apart(sheet: &[u32], row: u32, marks: &mut [u32]) -> bool
@@ -74,11 +76,11 @@ fn row_apart(sheet: &[u32], row: u32, marks: &mut [u32]) -> bool
     ensures { λ x. ⌜ x ≡ rowUnmarked (now (sheet .entry)) row (now (marks .entry)) ⌝ }
     ensures { λ x. ⌜ (x ≡ true → now (marks .exit) ≡ rowMarked (now (sheet .entry)) row (now (marks .entry))) ⌝ }
 {
-    let kind = word(sheet, row, 0);
-    if kind == 2 {
+    let kind = word(sheet, row, column::KIND);
+    if kind == kind::UNIT {
         return unit_apart(sheet, row, marks);
     }
-    if kind == 4 {
+    if kind == kind::CLASS {
         return class_apart(sheet, row, marks);
     }
     true

@@ -9,6 +9,10 @@ ghost use Rattle.row_fits.specs.Pass.{rowsNoted};
 ghost use Rattle.links.specs.Rising.{Rising};
 ghost use Rattle.first_four.specs.Questions.{formatQuestion};
 ghost use Rattle.first_four.specs.Whole.{linksOk, rowsAll};
+use ast::column;
+use ast::flag;
+use ast::kind;
+use ast::question;
 use distinct::all_apart;
 use links::linked_once;
 use links::links_rise;
@@ -21,15 +25,15 @@ use words::word;
 fn header_first(sheet: &[u32]) -> bool
     ensures { λ x. ⌜ x ≡ headerFirst (now (sheet .entry)) ⌝ }
 {
-    word(sheet, 0, 0) == 0 && word(sheet, 0, 1) == 0
+    word(sheet, 0, column::KIND) == kind::HEADER && word(sheet, 0, column::NEXT) == 0
 }
 
 // The main function, if the header names one, is a unit's.
 fn main_marked(sheet: &[u32]) -> bool
     ensures { λ x. ⌜ x ≡ mainMarked (now (sheet .entry)) ⌝ }
 {
-    let main = word(sheet, 0, 7);
-    main == 0 || word(sheet, main, 7) == 1
+    let main = word(sheet, 0, column::B);
+    main == 0 || word(sheet, main, column::B) == flag::UNIT_FUNCTION
 }
 
 // `seen` has a zero for each row.
@@ -73,13 +77,13 @@ fn ask(sheet: &[u32], last: u32, seen: &mut [u32], table: &mut [u32], marks: &mu
 {
     let n = sheet.len() / 8;
     if !links_fit(sheet, n, seen) {
-        return 3;
+        return question::FORMAT_FITS;
     }
     if !rows_fit(sheet, last, table, marks) {
-        return 3;
+        return question::FORMAT_FITS;
     }
     if !all_depths(n as u32, table) {
-        return 4;
+        return question::DEPTH_FITS;
     }
     0
 }

@@ -6,6 +6,9 @@ ghost use Rattle.first_four.specs.Questions.{firstFour};
 mod format;
 
 use crate::format::format_question;
+use ast::limit;
+use ast::name;
+use ast::question;
 
 // Question 1: is the sheet 1 to 2,048 rows of eight words?
 fn sheet_sized(words: &[u32]) -> bool
@@ -18,7 +21,7 @@ fn sheet_sized(words: &[u32]) -> bool
     if n < 1 {
         return false;
     }
-    n <= 2048
+    n <= limit::ROWS
 }
 
 // The first of questions 1 to 4 that gets a no, or 0 if none does.
@@ -26,11 +29,11 @@ pub fn first_four(words: &[u32], names: &[u8]) -> u32
     ensures { λ x. ⌜ x ≡ firstFour (now (words .entry)) (now (names .entry)) ⌝ }
 {
     if !sheet_sized(words) {
-        return 1;
+        return question::ROWS_FIT;
     }
     if !names::names_fit(names) {
-        return 2;
+        return question::NAMES_FIT;
     }
-    let last = 24 + names::count_names(names);
+    let last = name::LAST_FIXED + names::count_names(names);
     format_question(words, last as u32)
 }

@@ -17,8 +17,10 @@ use crate::captured_at;
 use crate::emit_decl;
 use ast::Decl;
 use ast::FunId;
+use ast::column;
 use store::nodes::Store;
 use store::nodes::node_before;
+use store::result;
 use symbols::decl::is_mutable;
 use words::entry_at;
 use words::word;
@@ -72,8 +74,8 @@ fn hands_on(
             return false;
         }
         n -= 1;
-        let fun = word(sheet, l, 2);
-        if captures_slot(sheet, nodes, word(results, fun, 6), f, j) {
+        let fun = word(sheet, l, column::CHILD);
+        if captures_slot(sheet, nodes, word(results, fun, result::CAPTURES), f, j) {
             return true;
         }
         l = entry_at(siblings, l);
@@ -88,7 +90,7 @@ fn slots_asked(results: &[u32], literals: &[u32], f: FunId) -> u32
     if entry_at(literals, f.0) == 0 {
         return 0;
     }
-    word(results, f.0, 5)
+    word(results, f.0, result::LOCALS)
 }
 
 // The number of escaping slots.

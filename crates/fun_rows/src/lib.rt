@@ -19,15 +19,20 @@ use crate::escapes::count_escapes;
 use crate::escapes::emit_escapes;
 use ast::Decl;
 use ast::FunId;
+use ast::code;
+use ast::column;
 use sink::AnswerRow;
 use sink::emit;
 use store::code::code_of;
 use store::code::seen_in;
+use store::node;
 use store::nodes::Store;
 use store::nodes::count_nodes;
 use store::nodes::node_before;
 use store::nodes::node_word;
+use store::result;
 use symbols::decl::OpenDecl;
+use symbols::tag;
 use words::word;
 
 // The row of sheet row `r` with a code and three values.
@@ -57,10 +62,10 @@ fn captured_at(nodes: &[u32], i: u32) -> OpenDecl
     ensures { λ x. ⌜ x ≡ record { tag = 6; first = nodeWord (now (nodes .entry)) i 1; second = nodeWord (now (nodes .entry)) i 2; slot = nodeWord (now (nodes .entry)) i 3 } ⌝ }
 {
     OpenDecl {
-        tag: 6,
-        first: node_word(nodes, i, 1),
-        second: node_word(nodes, i, 2),
-        slot: node_word(nodes, i, 3),
+        tag: tag::VARIABLE,
+        first: node_word(nodes, i, node::KEY),
+        second: node_word(nodes, i, node::ONE),
+        slot: node_word(nodes, i, node::TWO),
     }
 }
 
@@ -125,8 +130,8 @@ pub fn emit_literal(
     ensures { λ n. ⌜ ((o : Store) → sink n (now (out .exit))
         ≡ emitAll (map (λ vs. eight (row ∷ vs)) (literalRowsIn (now (sheet .entry)) (storeOf o (now (results .entry)) (now (nodes .entry))) row)) (sink k (now (out .entry)))) ⌝ }
 {
-    let fun = FunId(word(results, row, 1));
-    let last = word(results, word(sheet, row, 2), 6);
+    let fun = FunId(word(results, row, result::ONE));
+    let last = word(results, word(sheet, row, column::CHILD), result::CAPTURES);
     emit_sources(sheet, results, nodes, row, fun, last, k, out)
 }
 
@@ -145,10 +150,10 @@ pub fn emit_function(
     ensures { λ n. ⌜ ((o : Store) → sink n (now (out .exit))
         ≡ emitAll (map (λ vs. eight (f .0 ∷ vs)) (functionRowsIn (now (sheet .entry)) (storeOf o (now (results .entry)) (now (nodes .entry))) (f .0))) (sink k (now (out .entry)))) ⌝ }
 {
-    let last = word(results, f.0, 6);
+    let last = word(results, f.0, result::CAPTURES);
     let x = [
-        20,
-        word(results, f.0, 5),
+        code::FUNCTION_COUNTS,
+        word(results, f.0, result::LOCALS),
         count_nodes(nodes, last),
         count_escapes(sheet, results, nodes, literals, siblings, f),
     ];

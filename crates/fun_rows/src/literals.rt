@@ -6,6 +6,10 @@ ghost use lib.ListN.{length};
 ghost use Rattle.definition.specs.Sheet.{rows, kind};
 ghost use Rattle.classes.specs.Table.{Clear};
 ghost use Rattle.fun_rows.specs.Literals.{isReached, LiteralChains};
+use ast::code;
+use ast::column;
+use ast::kind;
+use store::result;
 use words::entry_at;
 use words::put_entry;
 use words::word;
@@ -14,8 +18,8 @@ use words::word;
 fn is_reached(sheet: &[u32], results: &[u32], l: u32) -> bool
     ensures { λ x. ⌜ x ≡ isReached (now (sheet .entry)) (now (results .entry)) l ⌝ }
 {
-    if word(sheet, l, 0) == 52 {
-        return word(results, l, 0) == 1;
+    if word(sheet, l, column::KIND) == kind::LITERAL {
+        return word(results, l, result::CODE) == code::FUN;
     }
     false
 }
@@ -29,7 +33,7 @@ pub fn link_literals(sheet: &[u32], results: &[u32], literals: &mut [u32], sibli
     while 1 < l {
         l -= 1;
         if is_reached(sheet, results, l) {
-            let fun = word(results, l, 1);
+            let fun = word(results, l, result::ONE);
             put_entry(siblings, l, entry_at(literals, fun));
             put_entry(literals, fun, l);
         }

@@ -15,12 +15,17 @@ ghost use Rattle.symbols.specs.OpenScopes.{scopesOf};
 ghost use Rattle.symbols.specs.OpenDecls.{entryFor};
 ghost use Rattle.walk.specs.WalkState.{stateOf};
 use ast::FIRST_CLASS;
+use ast::column;
+use ast::flag;
+use ast::kind;
+use ast::question;
 use sheet::find_export;
 use symbols::decl::OpenDecl;
 use symbols::decl::define;
 use symbols::decl::is_declared;
 use symbols::env::Env;
 use symbols::env::has_local;
+use symbols::tag;
 use walk::state::Walk;
 use walk::state::refuse;
 use words::word;
@@ -43,19 +48,19 @@ fn exported(sheet: &[u32], x: u32, env: Env) -> OpenDecl
     ensures { λ d. ⌜ ((entries : List ℕ) → d ≡ entryFor (exportOf (now (sheet .entry)) x) (scopesOf env entries)) ⌝ }
 {
     if x == 0 {
-        return decl_of(2, 0, env.slot);
+        return decl_of(tag::NOTHING, 0, env.slot);
     }
-    let kind = word(sheet, x, 0);
-    if kind == 7 {
-        return decl_of(3, word(sheet, x, 7), env.slot);
+    let kind = word(sheet, x, column::KIND);
+    if kind == kind::FUNCTION_EXPORT {
+        return decl_of(tag::FUN, word(sheet, x, column::B), env.slot);
     }
-    if kind == 4 {
-        return decl_of(4, FIRST_CLASS + x, env.slot);
+    if kind == kind::CLASS {
+        return decl_of(tag::CLASS, FIRST_CLASS + x, env.slot);
     }
-    if kind == 8 {
-        return decl_of(5, word(sheet, x, 7), env.slot);
+    if kind == kind::CONSTANT_EXPORT {
+        return decl_of(tag::GLOBAL, word(sheet, x, column::B), env.slot);
     }
-    decl_of(2, 0, env.slot)
+    decl_of(tag::NOTHING, 0, env.slot)
 }
 
 // Import row `i` declares name `m` as export row `x`. Question 15: is there such an export? Question 16: is the name new in its scope?
@@ -69,10 +74,10 @@ fn bring(sheet: &[u32], i: u32, m: u32, x: u32, walk: Walk, entries: &mut [u32])
     let e = walk.env;
     let d = exported(sheet, x, e);
     if !is_declared(d) {
-        return refuse(walk, 15, i, m);
+        return refuse(walk, question::EXPORTED, i, m);
     }
     if has_local(entries, m, e.count) {
-        return refuse(walk, 16, i, m);
+        return refuse(walk, question::NAME_FREE, i, m);
     }
     let store = walk.store;
     let env = define(sheet, m, d, e, entries);
@@ -91,10 +96,10 @@ fn bring_if(sheet: &[u32], k: u32, kind: u32, i: u32, walk: Walk, entries: &mut 
     ensures { λ r. ⌜ ((O : Outside) (results nodes : List ℕ) → stateOf r (now (entries .exit)) results nodes
         ≡ runState O (now (sheet .entry)) (if is (now (sheet .entry)) kind k then brings i (a (now (sheet .entry)) k) (exportOf (now (sheet .entry)) k) ∷ [] else []) (stateOf walk (now (entries .entry)) results nodes)) ⌝ }
 {
-    if word(sheet, k, 0) != kind {
+    if word(sheet, k, column::KIND) != kind {
         return walk;
     }
-    bring(sheet, i, word(sheet, k, 6), k, walk, entries)
+    bring(sheet, i, word(sheet, k, column::A), k, walk, entries)
 }
 
 // All exports of a kind of unit row `u`, in the order of its children.
@@ -104,14 +109,14 @@ fn import_kind(sheet: &[u32], u: u32, kind: u32, i: u32, walk: Walk, entries: &m
         ≡ runState O (now (sheet .entry)) (map (λ k. brings i (a (now (sheet .entry)) k) (exportOf (now (sheet .entry)) k)) (kidsOf (now (sheet .entry)) kind u)) (stateOf walk (now (entries .entry)) results nodes)) ⌝ }
 {
     let mut n = sheet.len() / 8;
-    let mut k = word(sheet, u, 2);
+    let mut k = word(sheet, u, column::CHILD);
     let mut x = walk;
     while 0 < n {
         if k == 0 {
             return x;
         }
         x = bring_if(sheet, k, kind, i, x, entries);
-        k = word(sheet, k, 1);
+        k = word(sheet, k, column::NEXT);
         n -= 1;
     }
     x
@@ -123,9 +128,9 @@ fn import_all(sheet: &[u32], u: u32, i: u32, walk: Walk, entries: &mut [u32]) ->
     ensures { λ r. ⌜ ((O : Outside) (results nodes : List ℕ) → stateOf r (now (entries .exit)) results nodes
         ≡ runState O (now (sheet .entry)) (map (λ y. brings i (y .name) (y .means)) (exports (now (sheet .entry)) u)) (stateOf walk (now (entries .entry)) results nodes)) ⌝ }
 {
-    let x = import_kind(sheet, u, 7, i, walk, entries);
-    let y = import_kind(sheet, u, 4, i, x, entries);
-    import_kind(sheet, u, 8, i, y, entries)
+    let x = import_kind(sheet, u, kind::FUNCTION_EXPORT, i, walk, entries);
+    let y = import_kind(sheet, u, kind::CLASS, i, x, entries);
+    import_kind(sheet, u, kind::CONSTANT_EXPORT, i, y, entries)
 }
 
 // The name that row `k` lists, brought as the export that import `i` of unit row `u` finds for it.
@@ -134,7 +139,7 @@ fn bring_listed(sheet: &[u32], u: u32, i: u32, k: u32, walk: Walk, entries: &mut
     ensures { λ r. ⌜ ((O : Outside) (results nodes : List ℕ) → stateOf r (now (entries .exit)) results nodes
         ≡ runState O (now (sheet .entry)) (brings i (a (now (sheet .entry)) k) (firstWith (λ y. eqb (y .name) (a (now (sheet .entry)) k)) (named 0 nothing) (seen (now (sheet .entry)) u i) .means) ∷ []) (stateOf walk (now (entries .entry)) results nodes)) ⌝ }
 {
-    let m = word(sheet, k, 6);
+    let m = word(sheet, k, column::A);
     let x = find_export(sheet, u, i, m);
     bring(sheet, i, m, x, walk, entries)
 }
@@ -146,14 +151,14 @@ fn import_listed(sheet: &[u32], u: u32, i: u32, walk: Walk, entries: &mut [u32])
         ≡ runState O (now (sheet .entry)) (map (λ k. brings i (a (now (sheet .entry)) k) (firstWith (λ y. eqb (y .name) (a (now (sheet .entry)) k)) (named 0 nothing) (seen (now (sheet .entry)) u i) .means)) (kids (now (sheet .entry)) i)) (stateOf walk (now (entries .entry)) results nodes)) ⌝ }
 {
     let mut n = sheet.len() / 8;
-    let mut k = word(sheet, i, 2);
+    let mut k = word(sheet, i, column::CHILD);
     let mut x = walk;
     while 0 < n {
         if k == 0 {
             return x;
         }
         x = bring_listed(sheet, u, i, k, x, entries);
-        k = word(sheet, k, 1);
+        k = word(sheet, k, column::NEXT);
         n -= 1;
     }
     x
@@ -165,10 +170,10 @@ fn import_seen(sheet: &[u32], u: u32, i: u32, walk: Walk, entries: &mut [u32]) -
     ensures { λ r. ⌜ ((O : Outside) (results nodes : List ℕ) → stateOf r (now (entries .exit)) results nodes
         ≡ runState O (now (sheet .entry)) (if eqb (b (now (sheet .entry)) i) 1 then map (λ y. brings i (y .name) (y .means)) (seen (now (sheet .entry)) u i) else []) (stateOf walk (now (entries .entry)) results nodes)) ⌝ }
 {
-    if word(sheet, i, 7) != 1 {
+    if word(sheet, i, column::B) != flag::IMPORT_ALL {
         return walk;
     }
-    let unit = word(sheet, i, 6);
+    let unit = word(sheet, i, column::A);
     if unit == u {
         return walk;
     }
@@ -190,7 +195,7 @@ fn import_if(sheet: &[u32], u: u32, k: u32, walk: Walk, entries: &mut [u32]) -> 
     ensures { λ r. ⌜ ((O : Outside) (results nodes : List ℕ) → stateOf r (now (entries .exit)) results nodes
         ≡ runState O (now (sheet .entry)) (if is (now (sheet .entry)) 3 k then imports (now (sheet .entry)) u k else []) (stateOf walk (now (entries .entry)) results nodes)) ⌝ }
 {
-    if word(sheet, k, 0) != 3 {
+    if word(sheet, k, column::KIND) != kind::IMPORT {
         return walk;
     }
     import_one(sheet, u, k, walk, entries)
@@ -202,14 +207,14 @@ pub fn define_imports(sheet: &[u32], u: u32, walk: Walk, entries: &mut [u32]) ->
     ensures { λ r. ⌜ ((O : Outside) (results nodes : List ℕ) → stateOf r (now (entries .exit)) results nodes ≡ runState O (now (sheet .entry)) (concatMap (imports (now (sheet .entry)) u) (kidsOf (now (sheet .entry)) 3 u)) (stateOf walk (now (entries .entry)) results nodes)) ⌝ }
 {
     let mut n = sheet.len() / 8;
-    let mut k = word(sheet, u, 2);
+    let mut k = word(sheet, u, column::CHILD);
     let mut x = walk;
     while 0 < n {
         if k == 0 {
             return x;
         }
         x = import_if(sheet, u, k, x, entries);
-        k = word(sheet, k, 1);
+        k = word(sheet, k, column::NEXT);
         n -= 1;
     }
     x

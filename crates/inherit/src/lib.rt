@@ -13,6 +13,10 @@ ghost use Rattle.after.specs.Inherited.{parentIn, climbIn, classesRefusal, meth
 ghost use Rattle.inherit.specs.Answered.{refusalOf, lacksRecord, Marked, Climbed};
 use ast::ClassId;
 use ast::FIRST_CLASS;
+use ast::column;
+use ast::kind;
+use ast::name;
+use ast::question;
 use outside::records::Method;
 use outside::records::NO_METHOD;
 use outside::records::class_name;
@@ -20,13 +24,12 @@ use outside::records::has_record;
 use outside::records::own_method;
 use sheet::arguments;
 use sheet::is_class_row;
+use store::node;
 use store::nodes::Store;
 use store::nodes::node_before;
 use store::nodes::node_word;
+use store::result;
 use words::word;
-
-// The name of a constructor.
-const INIT: u32 = 23;
 
 // A question answered no: its number, the row of its position, the name asked about. Number 0: none.
 pub struct Refusal {
@@ -46,7 +49,7 @@ pub fn parent_of(sheet: &[u32], results: &[u32], c: ClassId) -> ClassId
     ensures { λ x. ⌜ ((o : Store) (nodes : List ℕ) → x .0 ≡ parentIn (now (sheet .entry)) (storeOf o (now (results .entry)) nodes) (c .0)) ⌝ }
 {
     if is_class_row(sheet, c) {
-        return ClassId(word(results, c.0 - FIRST_CLASS, 1));
+        return ClassId(word(results, c.0 - FIRST_CLASS, result::ONE));
     }
     ClassId(0)
 }
@@ -68,7 +71,7 @@ fn refuse_class(sheet: &[u32], number: u32, row: u32) -> Refusal
     Refusal {
         number: number,
         at: row,
-        name: word(sheet, row, 6),
+        name: word(sheet, row, column::A),
     }
 }
 
@@ -83,14 +86,14 @@ fn climb(sheet: &[u32], outside: &[u32], results: &[u32], climbed: &mut [u32], r
         let row = c - FIRST_CLASS;
         let mark = climbed[row as usize];
         if mark == r + 1 {
-            return refuse_class(sheet, 18, row);
+            return refuse_class(sheet, question::NO_CYCLE, row);
         }
         if mark != 0 {
             return NO_REFUSAL;
         }
         let up = parent_of(sheet, results, ClassId(c));
         if lacks_record(sheet, outside, up) {
-            return refuse_class(sheet, 19, row);
+            return refuse_class(sheet, question::PARENT_RECORD, row);
         }
         climbed[row as usize] = r + 1;
         c = up.0;
@@ -105,7 +108,7 @@ fn check_classes(sheet: &[u32], outside: &[u32], results: &[u32], climbed: &mut 
 {
     let mut r: u32 = 0;
     while (r as usize) < sheet.len() / 8 {
-        if word(sheet, r, 0) == 4 {
+        if word(sheet, r, column::KIND) == kind::CLASS {
             let x = climb(sheet, outside, results, climbed, r);
             if x.number != 0 {
                 return x;
@@ -142,13 +145,13 @@ pub fn find_method(sheet: &[u32], outside: &[u32], results: &[u32], c: ClassId, 
 fn check_call(sheet: &[u32], outside: &[u32], results: &[u32], row: u32, c: ClassId) -> Refusal
     ensures { λ x. ⌜ ((o : Store) (nodes : List ℕ) (two : ℕ) → refusalOf x ≡ checkCallIn (over (now (outside .entry))) (now (sheet .entry)) (storeOf o (now (results .entry)) nodes) (record { key = row; one = c .0; two = two })) ⌝ }
 {
-    let init = find_method(sheet, outside, results, c, INIT);
-    let at = word(sheet, row, 2);
+    let init = find_method(sheet, outside, results, c, name::INIT);
+    let at = word(sheet, row, column::CHILD);
     let name = class_name(sheet, outside, c);
     let fun = init.fun;
     if fun.0 == 0 {
         return Refusal {
-            number: 20,
+            number: question::INIT_THERE,
             at: at,
             name: name,
         };
@@ -157,7 +160,7 @@ fn check_call(sheet: &[u32], outside: &[u32], results: &[u32], row: u32, c: Clas
         return NO_REFUSAL;
     }
     Refusal {
-        number: 21,
+        number: question::INIT_ARITY,
         at: at,
         name: name,
     }
@@ -181,8 +184,8 @@ fn check_ctor_calls(
             sheet,
             outside,
             results,
-            node_word(nodes, i, 1),
-            ClassId(node_word(nodes, i, 2)),
+            node_word(nodes, i, node::KEY),
+            ClassId(node_word(nodes, i, node::ONE)),
         );
         i = node_before(nodes, i);
         if y.number != 0 {

@@ -7,19 +7,13 @@ ghost use lib.ListN.{length, getD, take, drop};
 ghost use Rattle.definition.specs.Basics.{any, all, unlike};
 ghost use Rattle.definition.specs.Names.{listed, sameName, namesFew, namesSized, namesEnded, namesUnlike, namesFit};
 ghost use Rattle.names.specs.Listed.{nameOf, Ends, starts, absent};
+use ast::limit;
 
 // The byte that ends a name.
 const END: u8 = 10;
 
 // The number of the first listed name. Smaller numbers are fixed.
 const FIRST_LISTED: u32 = 25;
-
-// Limits of question 2: names, bytes of the whole list, bytes of one name.
-const MAX_NAMES: usize = 1024;
-
-const MAX_BYTES: usize = 32768;
-
-const MAX_SIZE: usize = 255;
 
 // The fixed names as a list of their own, in the order of their numbers 1 to 24.
 const FIXED: [u8; 168] =
@@ -128,13 +122,13 @@ fn sizes_fit(names: &[u8]) -> bool
     let mut seen = 0;
     while at < names.len() {
         let end = name_end(names, at);
-        if seen == MAX_NAMES {
+        if seen == limit::NAMES {
             return false;
         }
         if end == at {
             return false;
         }
-        if end - at > MAX_SIZE {
+        if end - at > limit::NAME_BYTES {
             return false;
         }
         at = end + 1;
@@ -241,7 +235,7 @@ fn names_unlike(names: &[u8], table: &[u32]) -> bool
 pub fn names_fit(names: &[u8]) -> bool
     ensures { λ r. ⌜ r ≡ namesFit (now (names .entry)) ⌝ }
 {
-    if names.len() > MAX_BYTES {
+    if names.len() > limit::LIST_BYTES {
         return false;
     }
     if !is_ended(names) {

@@ -6,9 +6,12 @@ ghost use Rattle.definition.specs.Basics.{if_then_else_, _∈?_};
 ghost use Rattle.definition.specs.Classes.{hasRecord, className, ownMethods, arity as arityOf};
 ghost use Rattle.outside.specs.Words.{methodsAt, over};
 ghost use Rattle.outside.specs.Found.{rowRecord, Records, Tells, recordedNames, stepOf, listed};
+use crate::layout;
 use ast::ClassId;
 use ast::FIRST_CLASS;
 use ast::FunId;
+use ast::column;
+use ast::kind;
 use sheet::arity;
 use sheet::first_named;
 use sheet::is_class_row;
@@ -58,11 +61,11 @@ fn record_at(outside: &[u32], i: u32) -> Recorded
 {
     Recorded {
         some: true,
-        name: word(outside, i, 1),
-        field: word(outside, i, 2),
-        fields: word(outside, i, 3),
-        method: word(outside, i, 4),
-        methods: word(outside, i, 5),
+        name: word(outside, i, layout::CLASS_NAME),
+        field: word(outside, i, layout::FIELD),
+        fields: word(outside, i, layout::FIELDS),
+        method: word(outside, i, layout::METHOD),
+        methods: word(outside, i, layout::METHODS),
     }
 }
 
@@ -70,10 +73,10 @@ fn record_at(outside: &[u32], i: u32) -> Recorded
 fn find_record(outside: &[u32], c: ClassId) -> Recorded
     ensures { λ x. ⌜ Records (now (outside .entry)) (c .0) x ⌝ }
 {
-    let end = word(outside, 0, 1);
-    let mut i = word(outside, 0, 0);
+    let end = word(outside, 0, layout::RECORDS_END);
+    let mut i = word(outside, 0, layout::NAMES_END);
     while i < end {
-        if word(outside, i, 0) == c.0 {
+        if word(outside, i, layout::CLASS) == c.0 {
             return record_at(outside, i);
         }
         i += 1;
@@ -96,7 +99,7 @@ pub fn class_name(sheet: &[u32], outside: &[u32], c: ClassId) -> u32
     ensures { λ x. ⌜ x ≡ className (over (now (outside .entry))) (now (sheet .entry)) (c .0) ⌝ }
 {
     if is_class_row(sheet, c) {
-        return word(sheet, c.0 - FIRST_CLASS, 6);
+        return word(sheet, c.0 - FIRST_CLASS, column::A);
     }
     find_record(outside, c).name
 }
@@ -138,7 +141,10 @@ pub fn own_method(sheet: &[u32], outside: &[u32], c: ClassId, n: u32) -> Method
     ensures { λ x. ⌜ Tells n (ownMethods (over (now (outside .entry))) (now (sheet .entry)) (c .0)) x ⌝ }
 {
     if is_class_row(sheet, c) {
-        return listed_method(sheet, FunId(first_named(sheet, c.0 - FIRST_CLASS, 6, n)));
+        return listed_method(
+            sheet,
+            FunId(first_named(sheet, c.0 - FIRST_CLASS, kind::FUNCTION, n)),
+        );
     }
     let x = find_record(outside, c);
     recorded_method(outside, x.method, x.methods, n)
@@ -149,7 +155,7 @@ pub fn recorded_names(outside: &[u32], kind: u32, c: ClassId) -> Listed
     ensures { λ x. ⌜ listed (now (outside .entry)) x ≡ recordedNames (over (now (outside .entry))) kind (c .0) ⌝ }
 {
     let x = find_record(outside, c);
-    if kind == 10 {
+    if kind == kind::FIELD {
         return Listed {
             kind: kind,
             at: x.field,
@@ -167,7 +173,7 @@ pub fn recorded_names(outside: &[u32], kind: u32, c: ClassId) -> Listed
 pub fn step_of(kind: u32) -> usize
     ensures { λ x. ⌜ x ≡ stepOf kind ⌝ }
 {
-    if kind == 10 { 1 } else { 3 }
+    if kind == kind::FIELD { 1 } else { 3 }
 }
 
 // Is `m` among names from outside?

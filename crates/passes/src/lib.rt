@@ -3,6 +3,10 @@ ghost use mathlib.Core.Path.{_≡_};
 ghost use mathlib.Core.Bool.{true};
 ghost use Rattle.definition.specs.Basics.{all, from};
 ghost use Rattle.row_fits.specs.Pass.{rowsOk, rowsNoted, literalOk, declarationOk, classOk, methodOk, crossOk, depthOk};
+use ast::column;
+use ast::kind;
+use ast::limit;
+use row_fits::known;
 use row_fits::row::note_row;
 use row_fits::row::row_fits;
 use words::word;
@@ -26,44 +30,44 @@ pub fn fill(sheet: &[u32], n: u32, last: u32, table: &mut [u32]) -> bool
 fn literal_fits(sheet: &[u32], table: &[u32], row: u32) -> bool
     ensures { λ x. ⌜ x ≡ literalOk (now (sheet .entry)) (now (table .entry)) row ⌝ }
 {
-    if word(sheet, row, 0) != 52 {
+    if word(sheet, row, column::KIND) != kind::LITERAL {
         return true;
     }
-    let class = word(sheet, row, 6);
+    let class = word(sheet, row, column::A);
     if class == 0 {
         return true;
     }
-    word(table, class, 2) == word(table, row, 2)
+    word(table, class, known::UNIT) == word(table, row, known::UNIT)
 }
 
 fn declaration_fits(sheet: &[u32], table: &[u32], row: u32) -> bool
     ensures { λ x. ⌜ x ≡ declarationOk (now (sheet .entry)) (now (table .entry)) row ⌝ }
 {
-    if word(sheet, row, 0) != 30 {
+    if word(sheet, row, column::KIND) != kind::CLASS_DECLARATION {
         return true;
     }
-    let fun = word(table, row, 3);
-    let class = word(sheet, row, 6);
-    word(table, fun, 0) == word(table, class, 0)
+    let fun = word(table, row, known::FUNCTION);
+    let class = word(sheet, row, column::A);
+    word(table, fun, known::PARENT) == word(table, class, known::PARENT)
 }
 
 fn class_fits(sheet: &[u32], table: &[u32], row: u32) -> bool
     ensures { λ x. ⌜ x ≡ classOk (now (sheet .entry)) (now (table .entry)) row ⌝ }
 {
-    if word(sheet, row, 0) != 4 {
+    if word(sheet, row, column::KIND) != kind::CLASS {
         return true;
     }
-    word(table, row, 7) != 0
+    word(table, row, known::DECLARED) != 0
 }
 
 fn method_fits(table: &[u32], row: u32) -> bool
     ensures { λ x. ⌜ x ≡ methodOk (now (table .entry)) row ⌝ }
 {
-    let class = word(table, row, 4);
+    let class = word(table, row, known::CLASS);
     if class == 0 {
         return true;
     }
-    row < word(table, class, 7)
+    row < word(table, class, known::DECLARED)
 }
 
 fn cross_fits(sheet: &[u32], table: &[u32], row: u32) -> bool
@@ -98,7 +102,7 @@ pub fn all_cross(sheet: &[u32], n: u32, table: &[u32]) -> bool
 fn depth_fits(table: &[u32], row: u32) -> bool
     ensures { λ x. ⌜ x ≡ depthOk (now (table .entry)) row ⌝ }
 {
-    word(table, row, 1) <= 64
+    word(table, row, known::DEPTH) <= limit::DEPTH
 }
 
 // Question 4: is every depth at most 64?

@@ -11,6 +11,8 @@ ghost use Rattle.outside.specs.Words.{over};
 ghost use Rattle.walk.specs.WalkState.{stateOf};
 ghost use Rattle.row_events.specs.Prepared.{Prepared};
 ghost use Rattle.resolve_syms.specs.Walked.{walked, partsWalked, partWalked};
+use ast::column;
+use ast::kind;
 use row_events::after_expr;
 use row_events::after_part;
 use row_events::after_stmt;
@@ -177,8 +179,8 @@ fn resolve_any(
     requires { ⌜ (Prepared (now sheet) (now classes)) × (isPart (now sheet) row ≡ true) ⌝ }
     ensures { λ x. ⌜ stateOf x (now (entries .exit)) (now (results .exit)) (now (nodes .exit)) ≡ walked (over (now (outside .entry))) left (now (sheet .entry)) row (stateOf walk (now (entries .entry)) (now (results .entry)) (now (nodes .entry))) ⌝ }
 {
-    let kind = word(sheet, row, 0);
-    if kind == 2 {
+    let kind = word(sheet, row, column::KIND);
+    if kind == kind::UNIT {
         return resolve_unit(
             sheet,
             outside,
@@ -191,7 +193,7 @@ fn resolve_any(
             nodes,
         );
     }
-    if kind == 6 {
+    if kind == kind::FUNCTION {
         return resolve_fun(
             sheet,
             outside,
@@ -204,7 +206,7 @@ fn resolve_any(
             nodes,
         );
     }
-    if kind < 40 {
+    if kind < kind::NIL {
         return resolve_stmt(
             sheet,
             outside,
@@ -304,7 +306,7 @@ pub fn resolve_parts(
             nodes,
         );
         i = place_after(sheet, k, i);
-        k = word(sheet, k, 1);
+        k = word(sheet, k, column::NEXT);
         n -= 1;
     }
     a

@@ -14,11 +14,15 @@ mod cycle;
 
 use crate::cycle::resolve_parts;
 use ast::FunId;
+use ast::code;
+use ast::column;
 use classes::class_table;
+use outside::layout;
 use store::nodes::Store;
 use symbols::decl::OpenDecl;
 use symbols::decl::define;
 use symbols::env::Env;
+use symbols::tag;
 use walk::state::Walk;
 use words::word;
 
@@ -26,24 +30,24 @@ use words::word;
 fn visible_at(outside: &[u32], i: u32, env: Env) -> OpenDecl
     ensures { λ x. ⌜ ((entries : List ℕ) → x ≡ entryFor (nameAt (now (outside .entry)) i .means) (scopesOf env entries)) ⌝ }
 {
-    let number = word(outside, i, 2);
-    match word(outside, i, 1) {
-        1 => OpenDecl {
-            tag: 3,
+    let number = word(outside, i, layout::NUMBER);
+    match word(outside, i, layout::CODE) {
+        code::FUN => OpenDecl {
+            tag: tag::FUN,
             first: number,
             second: 0,
             slot: env.slot,
         },
-        2 => OpenDecl {
-            tag: 4,
+        code::CLASS => OpenDecl {
+            tag: tag::CLASS,
             first: number,
             second: 0,
             slot: env.slot,
         },
         _ => OpenDecl {
-            tag: 5,
+            tag: tag::GLOBAL,
             first: number,
-            second: word(outside, i, 3),
+            second: word(outside, i, layout::MUTABLE),
             slot: env.slot,
         },
     }
@@ -53,19 +57,19 @@ fn visible_at(outside: &[u32], i: u32, env: Env) -> OpenDecl
 fn open_names(sheet: &[u32], outside: &[u32], entries: &mut [u32]) -> Env
     ensures { λ x. ⌜ scopesOf x (now (entries .exit)) ≡ openNames (now (sheet .entry)) (over (now (outside .entry)) .names) (noScopes (now (sheet .entry)) (now (entries .entry))) ⌝ }
 {
-    let globals = word(sheet, 0, 6);
+    let globals = word(sheet, 0, column::A);
     let mut e = Env {
         count: 0,
         slot: 0,
         fun: FunId(0),
         globals: globals,
     };
-    let mut i = word(outside, 0, 0);
+    let mut i = word(outside, 0, layout::NAMES_END);
     while 1 < i {
         i -= 1;
         e = define(
             sheet,
-            word(outside, i, 0),
+            word(outside, i, layout::NAME),
             visible_at(outside, i, e),
             e,
             entries,

@@ -11,9 +11,9 @@ pub use answer::Answer;
 use answer::refuse;
 use answer::refuse_at;
 use finish::finish;
+use first_four::first_four;
 use outside::plain::core_words;
 use resolve_syms::resolve_units;
-use first_four::first_four;
 
 // The walk, in lent scratch space, and what follows it.
 fn resolve_in(

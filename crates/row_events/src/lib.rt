@@ -13,6 +13,8 @@ ghost use Rattle.machine.specs.Machine.{runState};
 ghost use Rattle.classes.specs.Table.{ClassTable};
 ghost use Rattle.walk.specs.WalkState.{stateOf};
 ghost use Rattle.row_events.specs.Prepared.{Prepared};
+use ast::column;
+use ast::kind;
 use imports::define_imports;
 use visits::assign::check_assign;
 use visits::calls::check_callee;
@@ -44,7 +46,7 @@ pub fn before_unit(
 {
     let a = open_scope(sheet, row, walk, entries);
     let b = define_imports(sheet, row, a, entries);
-    declare_kind(sheet, row, 4, b, entries, results)
+    declare_kind(sheet, row, kind::CLASS, b, entries, results)
 }
 
 // A function opens a scope for its parameters.
@@ -59,7 +61,7 @@ pub fn before_fun(
     ensures { λ x. ⌜ ((O : Outside) (nodes : List ℕ) → stateOf x (now (entries .exit)) (now (results .exit)) nodes ≡ runState O (now (sheet .entry)) (before (now (sheet .entry)) row) (stateOf walk (now (entries .entry)) (now (results .entry)) nodes)) ⌝ }
 {
     let a = open_scope(sheet, row, walk, entries);
-    declare_kind(sheet, row, 11, a, entries, results)
+    declare_kind(sheet, row, kind::PARAMETER, a, entries, results)
 }
 
 // A block opens a scope and declares its literal lets first.
@@ -88,11 +90,11 @@ pub fn before_stmt(
     requires { ⌜ (length (now sheet) ≤ 16384) × (7 < kind (now sheet) row) ⌝ }
     ensures { λ x. ⌜ ((O : Outside) (nodes : List ℕ) → stateOf x (now (entries .exit)) (now (results .exit)) nodes ≡ runState O (now (sheet .entry)) (before (now (sheet .entry)) row) (stateOf walk (now (entries .entry)) (now (results .entry)) nodes)) ⌝ }
 {
-    let kind = word(sheet, row, 0);
+    let kind = word(sheet, row, column::KIND);
     match kind {
-        25 => before_block(sheet, row, walk, entries, results),
-        27 => open_scope(sheet, row, walk, entries),
-        30 => resolve_parent(sheet, row, walk, entries, results),
+        kind::BLOCK => before_block(sheet, row, walk, entries, results),
+        kind::FOR => open_scope(sheet, row, walk, entries),
+        kind::CLASS_DECLARATION => resolve_parent(sheet, row, walk, entries, results),
         _ => walk,
     }
 }
@@ -102,7 +104,7 @@ fn after_let(sheet: &[u32], row: u32, walk: Walk, entries: &mut [u32], results: 
     requires { ⌜ (length (now sheet) ≤ 16384) × (kind (now sheet) row ≡ 29) ⌝ }
     ensures { λ x. ⌜ ((O : Outside) (nodes : List ℕ) → stateOf x (now (entries .exit)) (now (results .exit)) nodes ≡ runState O (now (sheet .entry)) (after (now (sheet .entry)) row) (stateOf walk (now (entries .entry)) (now (results .entry)) nodes)) ⌝ }
 {
-    if word(sheet, word(sheet, row, 2), 0) == 52 {
+    if word(sheet, word(sheet, row, column::CHILD), column::KIND) == kind::LITERAL {
         return walk;
     }
     declare(sheet, row, walk, entries, results)
@@ -121,14 +123,14 @@ pub fn after_stmt(
     requires { ⌜ (Prepared (now sheet) (now classes)) × (7 < kind (now sheet) row) × (kind (now sheet) row < 40) ⌝ }
     ensures { λ x. ⌜ ((O : Outside) → stateOf x (now (entries .exit)) (now (results .exit)) (now (nodes .exit)) ≡ runState O (now (sheet .entry)) (after (now (sheet .entry)) row) (stateOf walk (now (entries .entry)) (now (results .entry)) (now (nodes .entry)))) ⌝ }
 {
-    let kind = word(sheet, row, 0);
+    let kind = word(sheet, row, column::KIND);
     match kind {
-        21 => check_assign(sheet, classes, row, walk, entries, results, nodes),
-        23 => check_jump(sheet, row, walk, entries),
-        24 => check_jump(sheet, row, walk, entries),
-        25 => close_scope(walk, entries),
-        27 => close_scope(walk, entries),
-        29 => after_let(sheet, row, walk, entries, results),
+        kind::ASSIGN => check_assign(sheet, classes, row, walk, entries, results, nodes),
+        kind::BREAK => check_jump(sheet, row, walk, entries),
+        kind::CONTINUE => check_jump(sheet, row, walk, entries),
+        kind::BLOCK => close_scope(walk, entries),
+        kind::FOR => close_scope(walk, entries),
+        kind::LET => after_let(sheet, row, walk, entries, results),
         _ => walk,
     }
 }
@@ -145,12 +147,12 @@ pub fn after_expr(
     requires { ⌜ (length (now sheet) ≤ 16384) × (39 < kind (now sheet) row) ⌝ }
     ensures { λ x. ⌜ ((O : Outside) → stateOf x (now (entries .entry)) (now (results .exit)) (now (nodes .exit)) ≡ runState O (now (sheet .entry)) (after (now (sheet .entry)) row) (stateOf walk (now (entries .entry)) (now (results .entry)) (now (nodes .entry)))) ⌝ }
 {
-    let kind = word(sheet, row, 0);
+    let kind = word(sheet, row, column::KIND);
     match kind {
-        50 => resolve_ident(sheet, row, walk, entries, results, nodes),
-        51 => resolve_host_const(sheet, row, walk, results),
-        52 => note_literal(sheet, row, walk, results),
-        55 => check_instanceof(sheet, row, walk, entries, results),
+        kind::IDENTIFIER => resolve_ident(sheet, row, walk, entries, results, nodes),
+        kind::HOST_CONSTANT => resolve_host_const(sheet, row, walk, results),
+        kind::LITERAL => note_literal(sheet, row, walk, results),
+        kind::INSTANCEOF => check_instanceof(sheet, row, walk, entries, results),
         _ => walk,
     }
 }
@@ -168,10 +170,10 @@ pub fn after_part(
 ) -> Walk
     ensures { λ x. ⌜ stateOf x (now (entries .exit)) (now (results .exit)) (now (nodes .exit)) ≡ runState (over (now (outside .entry))) (now (sheet .entry)) (afterPart (now (sheet .entry)) row i) (stateOf walk (now (entries .entry)) (now (results .entry)) (now (nodes .entry))) ⌝ }
 {
-    let kind = word(sheet, row, 0);
+    let kind = word(sheet, row, column::KIND);
     match kind {
-        59 => after_callee(sheet, outside, row, i, walk, entries, results, nodes),
-        27 => after_test(sheet, row, i, walk, entries),
+        kind::CALL => after_callee(sheet, outside, row, i, walk, entries, results, nodes),
+        kind::FOR => after_test(sheet, row, i, walk, entries),
         _ => walk,
     }
 }
@@ -209,22 +211,22 @@ fn after_test(sheet: &[u32], row: u32, i: usize, walk: Walk, entries: &mut [u32]
 pub fn is_part(sheet: &[u32], k: u32) -> bool
     ensures { λ x. ⌜ x ≡ isPart (now (sheet .entry)) k ⌝ }
 {
-    let kind = word(sheet, k, 0);
-    if kind == 2 {
+    let kind = word(sheet, k, column::KIND);
+    if kind == kind::UNIT {
         return true;
     }
-    if kind == 6 {
+    if kind == kind::FUNCTION {
         return true;
     }
-    20 <= kind
+    kind::EXPRESSION_STATEMENT <= kind
 }
 
 // The first row of the list in which the parts of `row` stand: a class declaration's are the methods of its class.
 pub fn part_list(sheet: &[u32], row: u32) -> u32
     ensures { λ x. ⌜ x ≡ child (now (sheet .entry)) (if is (now (sheet .entry)) 30 row then a (now (sheet .entry)) row else row) ⌝ }
 {
-    if word(sheet, row, 0) == 30 {
-        return word(sheet, word(sheet, row, 6), 2);
+    if word(sheet, row, column::KIND) == kind::CLASS_DECLARATION {
+        return word(sheet, word(sheet, row, column::A), column::CHILD);
     }
-    word(sheet, row, 2)
+    word(sheet, row, column::CHILD)
 }

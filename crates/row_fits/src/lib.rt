@@ -1,3 +1,6 @@
 // What question 3 asks of one row.
+pub mod known;
 pub mod row;
+mod rule;
+mod sort;
 mod tables;

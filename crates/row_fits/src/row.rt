@@ -7,12 +7,18 @@ ghost use Rattle.definition.specs.Sheet.{kind, next, rows, is};
 ghost use Rattle.definition.specs.Shape.{holds as holdsRule};
 ghost use Rattle.row_fits.specs.States.{entryOf, kindTable, ruleAt};
 ghost use Rattle.row_fits.specs.Pass.{rowIn, entryIn, columnsOk, plainOk, functionOk, stateAfter, endsIn, endsOk, newOk, rowAsked, rowOk, putEntry, noteNext, noteChild, noteOwn, noteDeclared, noteRow, unitHere, funInside, classHere, childEntry, nextEntry};
+use crate::known;
+use crate::rule;
 use crate::tables::class_of;
 use crate::tables::may_end;
 use crate::tables::next_state;
 use crate::tables::rule_a;
 use crate::tables::rule_b;
 use crate::tables::start_of;
+use ast::column;
+use ast::flag;
+use ast::kind;
+use ast::limit;
 use words::put;
 use words::word;
 
@@ -40,12 +46,12 @@ fn row_at(sheet: &[u32], row: u32) -> Row
     ensures { λ x. ⌜ x ≡ rowIn (now (sheet .entry)) row ⌝ }
 {
     Row {
-        kind: word(sheet, row, 0),
-        next: word(sheet, row, 1),
-        child: word(sheet, row, 2),
-        file: word(sheet, row, 3),
-        a: word(sheet, row, 6),
-        b: word(sheet, row, 7),
+        kind: word(sheet, row, column::KIND),
+        next: word(sheet, row, column::NEXT),
+        child: word(sheet, row, column::CHILD),
+        file: word(sheet, row, column::FILE),
+        a: word(sheet, row, column::A),
+        b: word(sheet, row, column::B),
     }
 }
 
@@ -53,24 +59,24 @@ fn entry_at(table: &[u32], row: u32) -> Entry
     ensures { λ x. ⌜ x ≡ entryIn (now (table .entry)) row ⌝ }
 {
     Entry {
-        parent: word(table, row, 0),
-        depth: word(table, row, 1),
-        unit: word(table, row, 2),
-        fun: word(table, row, 3),
-        class: word(table, row, 4),
-        state: word(table, row, 5),
+        parent: word(table, row, known::PARENT),
+        depth: word(table, row, known::DEPTH),
+        unit: word(table, row, known::UNIT),
+        fun: word(table, row, known::FUNCTION),
+        class: word(table, row, known::CLASS),
+        state: word(table, row, known::STATE),
     }
 }
 
 fn put_entry(table: &mut [u32], row: u32, e: Entry)
     ensures { λ _. ⌜ now (table .exit) ≡ putEntry (now (table .entry)) row e ⌝ }
 {
-    put(table, row, 0, e.parent);
-    put(table, row, 1, e.depth);
-    put(table, row, 2, e.unit);
-    put(table, row, 3, e.fun);
-    put(table, row, 4, e.class);
-    put(table, row, 5, e.state);
+    put(table, row, known::PARENT, e.parent);
+    put(table, row, known::DEPTH, e.depth);
+    put(table, row, known::UNIT, e.unit);
+    put(table, row, known::FUNCTION, e.fun);
+    put(table, row, known::CLASS, e.class);
+    put(table, row, known::STATE, e.state);
 }
 
 // Is `value` a row of kind `k`?
@@ -78,7 +84,7 @@ fn is_row(sheet: &[u32], k: u32, value: u32) -> bool
     ensures { λ x. ⌜ x ≡ (ltb value (rows (now (sheet .entry))) && is (now (sheet .entry)) k value) ⌝ }
 {
     if (value as usize) < sheet.len() / 8 {
-        return word(sheet, value, 0) == k;
+        return word(sheet, value, column::KIND) == k;
     }
     false
 }
@@ -106,10 +112,10 @@ fn zero_or(value: u32, x: bool) -> bool
 fn is_mode(start: u32, value: u32) -> bool
     ensures { λ x. ⌜ x ≡ (leb value 1 || ltb (value - 2) start) ⌝ }
 {
-    if value <= 1 {
+    if value <= flag::MUTABLE {
         return true;
     }
-    value - 2 < start
+    value - flag::FIRST_CONSTANT < start
 }
 
 // Does `value` fit a rule of columns, where `last` is the last name?
@@ -117,18 +123,18 @@ fn holds(sheet: &[u32], last: u32, rule: u32, value: u32) -> bool
     ensures { λ x. ⌜ x ≡ holdsRule (now (sheet .entry)) last (ruleAt rule) value ⌝ }
 {
     match rule {
-        1 => true,
-        2 => value <= 1,
-        3 => is_name(last, value),
-        4 => zero_or(value, is_name(last, value)),
-        5 => value <= 1000000,
-        6 => is_row(sheet, 2, value),
-        7 => is_row(sheet, 6, value),
-        8 => is_row(sheet, 4, value),
-        9 => zero_or(value, is_row(sheet, 4, value)),
-        10 => zero_or(value, is_row(sheet, 6, value)),
-        11 => value < word(sheet, 0, 6),
-        12 => is_mode(word(sheet, 0, 6), value),
+        rule::ANY => true,
+        rule::BIT => value <= 1,
+        rule::NAME => is_name(last, value),
+        rule::NAME_OR_ZERO => zero_or(value, is_name(last, value)),
+        rule::GLOBALS => value <= limit::GLOBALS,
+        rule::UNIT_ROW => is_row(sheet, kind::UNIT, value),
+        rule::FUNCTION_ROW => is_row(sheet, kind::FUNCTION, value),
+        rule::CLASS_ROW => is_row(sheet, kind::CLASS, value),
+        rule::CLASS_ROW_OR_ZERO => zero_or(value, is_row(sheet, kind::CLASS, value)),
+        rule::FUNCTION_ROW_OR_ZERO => zero_or(value, is_row(sheet, kind::FUNCTION, value)),
+        rule::GLOBAL => value < word(sheet, 0, column::A),
+        rule::MODE => is_mode(word(sheet, 0, column::A), value),
         _ => value <= 0,
     }
 }
@@ -145,45 +151,45 @@ fn columns_fit(sheet: &[u32], last: u32, w: Row) -> bool
 fn plain_fits(sheet: &[u32], w: Row) -> bool
     ensures { λ x. ⌜ x ≡ plainOk (now (sheet .entry)) w ⌝ }
 {
-    if w.file >= 262144 {
+    if w.file >= limit::FILES {
         return false;
     }
-    if w.kind != 29 {
+    if w.kind != kind::LET {
         return true;
     }
-    if w.b < 2 {
+    if w.b < flag::FIRST_CONSTANT {
         return true;
     }
-    word(sheet, w.child, 0) != 52
+    word(sheet, w.child, column::KIND) != kind::LITERAL
 }
 
 // A unit's function has a block and nothing else.
 fn unit_function_fits(sheet: &[u32], w: Row) -> bool
     ensures { λ x. ⌜ x ≡ (eqb (w .b) 1 && (eqb (kind (now (sheet .entry)) (w .child)) 25 && eqb (next (now (sheet .entry)) (w .child)) 0)) ⌝ }
 {
-    if w.b != 1 {
+    if w.b != flag::UNIT_FUNCTION {
         return false;
     }
-    if word(sheet, w.child, 0) != 25 {
+    if word(sheet, w.child, column::KIND) != kind::BLOCK {
         return false;
     }
-    word(sheet, w.child, 1) == 0
+    word(sheet, w.child, column::NEXT) == 0
 }
 
 fn function_fits(sheet: &[u32], w: Row, p: u32) -> bool
     ensures { λ x. ⌜ x ≡ functionOk (now (sheet .entry)) w p ⌝ }
 {
-    if w.kind != 6 {
+    if w.kind != kind::FUNCTION {
         return true;
     }
-    let holder = word(sheet, p, 0);
-    if holder == 2 {
+    let holder = word(sheet, p, column::KIND);
+    if holder == kind::UNIT {
         return unit_function_fits(sheet, w);
     }
     if w.b != 0 {
         return false;
     }
-    if holder != 4 {
+    if holder != kind::CLASS {
         return true;
     }
     w.a != 0
@@ -230,10 +236,10 @@ fn ends_fit(w: Row, row: u32, q: u32) -> bool
 fn first_declared(table: &[u32], w: Row) -> bool
     ensures { λ x. ⌜ x ≡ newOk (now (table .entry)) w ⌝ }
 {
-    if w.kind != 30 {
+    if w.kind != kind::CLASS_DECLARATION {
         return true;
     }
-    word(table, w.a, 7) == 0
+    word(table, w.a, known::DECLARED) == 0
 }
 
 // What question 3 asks of `row` with words `w`, parent `p` and the state `q` of its list before it.
@@ -260,8 +266,8 @@ pub fn row_fits(sheet: &[u32], last: u32, row: u32, table: &[u32]) -> bool
     ensures { λ x. ⌜ x ≡ rowOk (now (sheet .entry)) last row (now (table .entry)) ⌝ }
 {
     let w = row_at(sheet, row);
-    let p = word(table, row, 0);
-    let q = word(table, row, 5);
+    let p = word(table, row, known::PARENT);
+    let q = word(table, row, known::STATE);
     row_asked(sheet, last, w, row, p, q, table)
 }
 
@@ -274,10 +280,10 @@ fn deeper(d: u32) -> u32
 fn class_here(sheet: &[u32], kind: u32, e: Entry) -> u32
     ensures { λ x. ⌜ x ≡ classHere (now (sheet .entry)) kind e ⌝ }
 {
-    if kind != 6 {
+    if kind != kind::FUNCTION {
         return e.class;
     }
-    if word(sheet, e.parent, 0) != 4 {
+    if word(sheet, e.parent, column::KIND) != kind::CLASS {
         return e.class;
     }
     e.parent
@@ -286,14 +292,14 @@ fn class_here(sheet: &[u32], kind: u32, e: Entry) -> u32
 fn unit_here(row: u32, kind: u32, e: Entry) -> u32
     ensures { λ x. ⌜ x ≡ unitHere row kind e ⌝ }
 {
-    if kind == 2 { row } else { e.unit }
+    if kind == kind::UNIT { row } else { e.unit }
 }
 
 // The innermost function around what `row` holds.
 fn fun_inside(row: u32, kind: u32, e: Entry) -> u32
     ensures { λ x. ⌜ x ≡ funInside row kind e ⌝ }
 {
-    if kind == 6 { row } else { e.fun }
+    if kind == kind::FUNCTION { row } else { e.fun }
 }
 
 fn child_entry(sheet: &[u32], row: u32, kind: u32, e: Entry) -> Entry
@@ -343,15 +349,15 @@ fn note_own(sheet: &[u32], row: u32, kind: u32, e: Entry, table: &mut [u32])
 {
     let unit = unit_here(row, kind, e);
     let class = class_here(sheet, kind, e);
-    put(table, row, 2, unit);
-    put(table, row, 4, class);
+    put(table, row, known::UNIT, unit);
+    put(table, row, known::CLASS, class);
 }
 
 fn note_declared(row: u32, w: Row, table: &mut [u32])
     ensures { λ _. ⌜ now (table .exit) ≡ noteDeclared row w (now (table .entry)) ⌝ }
 {
-    if w.kind == 30 {
-        put(table, w.a, 7, row);
+    if w.kind == kind::CLASS_DECLARATION {
+        put(table, w.a, known::DECLARED, row);
     }
 }
 

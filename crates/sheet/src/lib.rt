@@ -14,6 +14,8 @@ ghost use Rattle.sheet.specs.Exports.{exportOf};
 use ast::ClassId;
 use ast::FIRST_CLASS;
 use ast::FunId;
+use ast::column;
+use ast::kind;
 use words::word;
 
 // The first child of `row` that is of a kind and has name `n`, or 0.
@@ -21,17 +23,17 @@ pub fn first_named(sheet: &[u32], row: u32, kind: u32, n: u32) -> u32
     ensures { λ x. ⌜ x ≡ head (filter (λ k. eqb (a (now (sheet .entry)) k) n) (kidsOf (now (sheet .entry)) kind row)) ⌝ }
 {
     let mut left = sheet.len() / 8;
-    let mut k = word(sheet, row, 2);
+    let mut k = word(sheet, row, column::CHILD);
     while 0 < left {
         if k == 0 {
             return 0;
         }
-        if word(sheet, k, 0) == kind {
-            if word(sheet, k, 6) == n {
+        if word(sheet, k, column::KIND) == kind {
+            if word(sheet, k, column::A) == n {
                 return k;
             }
         }
-        k = word(sheet, k, 1);
+        k = word(sheet, k, column::NEXT);
         left -= 1;
     }
     0
@@ -42,16 +44,16 @@ fn count_kind(sheet: &[u32], row: u32, kind: u32) -> usize
     ensures { λ x. ⌜ x ≡ length (kidsOf (now (sheet .entry)) kind row) ⌝ }
 {
     let mut left = sheet.len() / 8;
-    let mut k = word(sheet, row, 2);
+    let mut k = word(sheet, row, column::CHILD);
     let mut count = 0;
     while 0 < left {
         if k == 0 {
             return count;
         }
-        if word(sheet, k, 0) == kind {
+        if word(sheet, k, column::KIND) == kind {
             count += 1;
         }
-        k = word(sheet, k, 1);
+        k = word(sheet, k, column::NEXT);
         left -= 1;
     }
     count
@@ -61,7 +63,7 @@ fn count_kind(sheet: &[u32], row: u32, kind: u32) -> usize
 pub fn arity(sheet: &[u32], f: FunId) -> usize
     ensures { λ x. ⌜ x ≡ arityOf (now (sheet .entry)) (f .0) ⌝ }
 {
-    count_kind(sheet, f.0, 11)
+    count_kind(sheet, f.0, kind::PARAMETER)
 }
 
 // How many children `row` has.
@@ -69,14 +71,14 @@ fn count_kids(sheet: &[u32], row: u32) -> usize
     ensures { λ x. ⌜ x ≡ length (kids (now (sheet .entry)) row) ⌝ }
 {
     let mut left = sheet.len() / 8;
-    let mut k = word(sheet, row, 2);
+    let mut k = word(sheet, row, column::CHILD);
     let mut count = 0;
     while 0 < left {
         if k == 0 {
             return count;
         }
         count += 1;
-        k = word(sheet, k, 1);
+        k = word(sheet, k, column::NEXT);
         left -= 1;
     }
     count
@@ -95,7 +97,7 @@ pub fn is_class_row(sheet: &[u32], c: ClassId) -> bool
     ensures { λ x. ⌜ x ≡ ofSheet (now (sheet .entry)) (c .0) ⌝ }
 {
     if c.0 >= FIRST_CLASS {
-        return word(sheet, c.0 - FIRST_CLASS, 0) == 4;
+        return word(sheet, c.0 - FIRST_CLASS, column::KIND) == kind::CLASS;
     }
     false
 }
@@ -106,19 +108,19 @@ pub fn param_index(sheet: &[u32], f: FunId, row: u32) -> u32
     ensures { λ x. ⌜ x ≡ place (eqb row) (kidsOf (now (sheet .entry)) 11 (f .0)) ⌝ }
 {
     let mut left = sheet.len() / 8;
-    let mut k = word(sheet, f.0, 2);
+    let mut k = word(sheet, f.0, column::CHILD);
     let mut index = 0;
     while 0 < left {
         if k == 0 {
             return index;
         }
-        if word(sheet, k, 0) == 11 {
+        if word(sheet, k, column::KIND) == kind::PARAMETER {
             if row == k {
                 return index;
             }
             index += 1;
         }
-        k = word(sheet, k, 1);
+        k = word(sheet, k, column::NEXT);
         left -= 1;
     }
     index
@@ -136,17 +138,17 @@ pub fn has_named(sheet: &[u32], row: u32, kind: u32, n: u32) -> bool
 pub fn find_export(sheet: &[u32], u: u32, i: u32, n: u32) -> u32
     ensures { λ x. ⌜ exportOf (now (sheet .entry)) x ≡ first (λ y. eqb (y .name) n) (named 0 nothing) (seen (now (sheet .entry)) u i) .means ⌝ }
 {
-    let unit = word(sheet, i, 6);
+    let unit = word(sheet, i, column::A);
     if unit == u {
         return 0;
     }
-    let fun = first_named(sheet, unit, 7, n);
+    let fun = first_named(sheet, unit, kind::FUNCTION_EXPORT, n);
     if fun != 0 {
         return fun;
     }
-    let class = first_named(sheet, unit, 4, n);
+    let class = first_named(sheet, unit, kind::CLASS, n);
     if class != 0 {
         return class;
     }
-    first_named(sheet, unit, 8, n)
+    first_named(sheet, unit, kind::CONSTANT_EXPORT, n)
 }

@@ -10,12 +10,17 @@ ghost use Rattle.symbols.specs.OpenDecls.{means};
 ghost use Rattle.store.specs.Stored.{storeOf};
 use crate::nodes::Store;
 use crate::nodes::index_of;
+use crate::result;
 use ast::ClassId;
 use ast::Decl;
 use ast::FunId;
+use ast::column;
+use ast::flag;
+use ast::kind;
 use sheet::param_index;
 use symbols::decl::OpenDecl;
 use symbols::decl::is_mutable;
+use symbols::tag;
 use words::word;
 
 // An argument or a local.
@@ -24,14 +29,14 @@ fn variable_code(sheet: &[u32], d: OpenDecl) -> Decl
     ensures { λ x. ⌜ codeAndValues x ≡ fourWords (codeOf (now (sheet .entry)) (means d) (d .slot) (d .second)) ⌝ }
 {
     let fun = FunId(d.second);
-    if word(sheet, d.first, 0) == 11 {
+    if word(sheet, d.first, column::KIND) == kind::PARAMETER {
         let index = param_index(sheet, fun, d.first);
         return Decl::Arg {
             idx: index,
             src_fun: fun,
         };
     }
-    let mutable = word(sheet, d.first, 7) == 1;
+    let mutable = word(sheet, d.first, column::B) == flag::MUTABLE;
     Decl::Local {
         idx: d.slot,
         src_fun: fun,
@@ -46,18 +51,18 @@ pub fn code_of(sheet: &[u32], d: OpenDecl) -> Decl
 {
     let tag = d.tag;
     match tag {
-        3 => Decl::Fun { id: FunId(d.first) },
-        4 => Decl::Class {
+        tag::FUN => Decl::Fun { id: FunId(d.first) },
+        tag::CLASS => Decl::Class {
             id: ClassId(d.first),
         },
-        5 => Decl::Global {
+        tag::GLOBAL => Decl::Global {
             idx: d.first,
-            mutable: d.second == 1,
+            mutable: d.second == flag::MUTABLE,
         },
-        6 => variable_code(sheet, d),
+        tag::VARIABLE => variable_code(sheet, d),
         _ => Decl::Global {
             idx: d.second,
-            mutable: word(sheet, d.first, 7) == 1,
+            mutable: word(sheet, d.first, column::B) == flag::MUTABLE,
         },
     }
 }
@@ -67,13 +72,13 @@ pub fn seen_in(sheet: &[u32], d: OpenDecl, fun: FunId, results: &[u32], nodes: &
     requires { ⌜ (length (now sheet) ≤ 16384) × (isDeclared (means d) ≡ true) ⌝ }
     ensures { λ x. ⌜ ((o : Store) → codeAndValues x ≡ fourWords (seenIn (now (sheet .entry)) (means d) (d .slot) (d .second) (fun .0) (storeOf o (now (results .entry)) (now (nodes .entry))))) ⌝ }
 {
-    if d.tag != 6 {
+    if d.tag != tag::VARIABLE {
         return code_of(sheet, d);
     }
     if d.second == fun.0 {
         return code_of(sheet, d);
     }
-    let last = word(results, fun.0, 6);
+    let last = word(results, fun.0, result::CAPTURES);
     let index = index_of(nodes, last, d.first);
     let mutable = is_mutable(sheet, d);
     Decl::Captured {

@@ -10,7 +10,13 @@ ghost use Rattle.definition.specs.Basics.{place};
 ghost use Rattle.definition.specs.Sheet.{is};
 ghost use Rattle.machine.specs.Machine.{entryWord, nodeWord, previous, chainTo, hasKey, functionMarks, appendNode, appendCall, addNew, addCapture, fieldNode};
 ghost use Rattle.store.specs.Stored.{storeOf, nodeOf, usedPushed, nodesPushed};
+use crate::node;
+use crate::result;
+use ast::column;
+use ast::kind;
+use symbols::entry;
 use symbols::env::entry_word;
+use symbols::tag;
 use words::put;
 use words::word;
 
@@ -39,7 +45,7 @@ pub fn node_word(nodes: &[u32], i: u32, c: u32) -> u32
 pub fn node_before(nodes: &[u32], i: u32) -> u32
     ensures { λ x. ⌜ x ≡ previous (now (nodes .entry)) i ⌝ }
 {
-    let before = node_word(nodes, i, 0);
+    let before = node_word(nodes, i, node::BEFORE);
     if before < i { before } else { i }
 }
 
@@ -50,7 +56,7 @@ pub fn has_key(nodes: &[u32], p: u32, k: u32) -> bool
     let mut i = p;
     while 0 < i {
         i -= 1;
-        if node_word(nodes, i, 1) == k {
+        if node_word(nodes, i, node::KEY) == k {
             return true;
         }
         i = node_before(nodes, i);
@@ -66,7 +72,7 @@ pub fn index_of(nodes: &[u32], p: u32, k: u32) -> u32
     let mut n = 0;
     while 0 < i {
         i -= 1;
-        let key = node_word(nodes, i, 1);
+        let key = node_word(nodes, i, node::KEY);
         i = node_before(nodes, i);
         if k == key {
             n = 0;
@@ -160,8 +166,8 @@ fn add_new(store: Store, results: &mut [u32], nodes: &mut [u32], row: u32, c: u3
 fn marks_function(sheet: &[u32], entries: &[u32], i: u32) -> bool
     ensures { λ x. ⌜ x ≡ (eqb (entryWord (now (entries .entry)) i 0) 1 && is (now (sheet .entry)) 6 (entryWord (now (entries .entry)) i 1)) ⌝ }
 {
-    if entry_word(entries, i, 0) == 1 {
-        return word(sheet, entry_word(entries, i, 1), 0) == 6;
+    if entry_word(entries, i, entry::TAG) == tag::SCOPE {
+        return word(sheet, entry_word(entries, i, entry::NAME), column::KIND) == kind::FUNCTION;
     }
     false
 }
@@ -184,15 +190,15 @@ pub fn reg_captured(
     while 0 < i {
         i -= 1;
         if marks_function(sheet, entries, i) {
-            let fun = entry_word(entries, i, 1);
+            let fun = entry_word(entries, i, entry::NAME);
             if fun == x.one {
                 return w;
             }
-            let last = word(results, fun, 6);
+            let last = word(results, fun, result::CAPTURES);
             if has_key(nodes, last, x.key) {
                 return w;
             }
-            w = append_node(w, results, nodes, fun, 6, x);
+            w = append_node(w, results, nodes, fun, result::CAPTURES, x);
         }
     }
     w
@@ -213,5 +219,5 @@ pub fn reg_field(
         one: 0,
         two: 0,
     };
-    add_new(store, results, nodes, class, 7, field)
+    add_new(store, results, nodes, class, result::FIELDS, field)
 }

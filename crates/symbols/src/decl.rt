@@ -10,12 +10,17 @@ ghost use Rattle.definition.specs.Slots.{isLocal, isMutable};
 ghost use Rattle.machine.specs.Machine.{oneMore, lookupMeaning, lookupSlot, lookupGlobal, newMeaning, pushName};
 ghost use Rattle.symbols.specs.OpenScopes.{scopesOf};
 ghost use Rattle.symbols.specs.OpenDecls.{means, entryFor};
+use crate::entry;
 use crate::env::Env;
 use crate::env::entry_word;
 use crate::env::find_name;
 use crate::env::push_entry;
+use crate::tag;
 use ast::ClassId;
 use ast::FIRST_CLASS;
+use ast::column;
+use ast::flag;
+use ast::kind;
 use words::one_more;
 use words::word;
 
@@ -37,7 +42,7 @@ pub fn lookup(env: Env, entries: &[u32], m: u32) -> OpenDecl
     let k = find_name(entries, m, env.count);
     if k == 0 {
         return OpenDecl {
-            tag: 2,
+            tag: tag::NOTHING,
             first: 0,
             second: 0,
             slot: 0,
@@ -45,10 +50,10 @@ pub fn lookup(env: Env, entries: &[u32], m: u32) -> OpenDecl
     }
     let i = k - 1;
     OpenDecl {
-        tag: entry_word(entries, i, 0),
-        first: entry_word(entries, i, 2),
-        second: entry_word(entries, i, 3),
-        slot: entry_word(entries, i, 4),
+        tag: entry_word(entries, i, entry::TAG),
+        first: entry_word(entries, i, entry::FIRST),
+        second: entry_word(entries, i, entry::SECOND),
+        slot: entry_word(entries, i, entry::SLOT),
     }
 }
 
@@ -58,11 +63,11 @@ pub fn is_declared(d: OpenDecl) -> bool
 {
     let tag = d.tag;
     match tag {
-        3 => true,
-        4 => true,
-        5 => true,
-        6 => true,
-        7 => true,
+        tag::FUN => true,
+        tag::CLASS => true,
+        tag::GLOBAL => true,
+        tag::VARIABLE => true,
+        tag::TOPLEVEL => true,
         _ => false,
     }
 }
@@ -71,7 +76,7 @@ pub fn is_declared(d: OpenDecl) -> bool
 pub fn class_number(d: OpenDecl) -> ClassId
     ensures { λ x. ⌜ x .0 ≡ classNumber (means d) ⌝ }
 {
-    if d.tag == 4 {
+    if d.tag == tag::CLASS {
         ClassId(d.first)
     } else {
         ClassId(0)
@@ -82,8 +87,8 @@ pub fn class_number(d: OpenDecl) -> ClassId
 pub fn is_local(sheet: &[u32], d: OpenDecl) -> bool
     ensures { λ x. ⌜ x ≡ isLocal (now (sheet .entry)) (means d) ⌝ }
 {
-    if d.tag == 6 {
-        word(sheet, d.first, 0) == 29
+    if d.tag == tag::VARIABLE {
+        word(sheet, d.first, column::KIND) == kind::LET
     } else {
         false
     }
@@ -93,14 +98,14 @@ pub fn is_local(sheet: &[u32], d: OpenDecl) -> bool
 pub fn is_mutable(sheet: &[u32], d: OpenDecl) -> bool
     ensures { λ x. ⌜ x ≡ isMutable (now (sheet .entry)) (means d) ⌝ }
 {
-    if d.tag == 5 {
-        return d.second == 1;
+    if d.tag == tag::GLOBAL {
+        return d.second == flag::MUTABLE;
     }
-    if d.tag == 7 {
-        return word(sheet, d.first, 7) == 1;
+    if d.tag == tag::TOPLEVEL {
+        return word(sheet, d.first, column::B) == flag::MUTABLE;
     }
     if is_local(sheet, d) {
-        return word(sheet, d.first, 7) == 1;
+        return word(sheet, d.first, column::B) == flag::MUTABLE;
     }
     false
 }
@@ -113,36 +118,36 @@ fn declared_let(sheet: &[u32], row: u32, env: Env) -> OpenDecl
 {
     let slot = env.slot;
     let fun = env.fun;
-    let b = word(sheet, row, 7);
-    if 1 < b {
+    let b = word(sheet, row, column::B);
+    if flag::MUTABLE < b {
         return OpenDecl {
-            tag: 5,
-            first: b - 2,
+            tag: tag::GLOBAL,
+            first: b - flag::FIRST_CONSTANT,
             second: 0,
             slot: slot,
         };
     }
-    if word(sheet, fun.0, 7) != 1 {
+    if word(sheet, fun.0, column::B) != flag::UNIT_FUNCTION {
         return OpenDecl {
-            tag: 6,
+            tag: tag::VARIABLE,
             first: row,
             second: fun.0,
             slot: slot,
         };
     }
-    let value = word(sheet, row, 2);
+    let value = word(sheet, row, column::CHILD);
     if b == 0 {
-        if word(sheet, value, 0) == 52 {
+        if word(sheet, value, column::KIND) == kind::LITERAL {
             return OpenDecl {
-                tag: 3,
-                first: word(sheet, value, 2),
+                tag: tag::FUN,
+                first: word(sheet, value, column::CHILD),
                 second: 0,
                 slot: slot,
             };
         }
     }
     OpenDecl {
-        tag: 7,
+        tag: tag::TOPLEVEL,
         first: row,
         second: env.globals,
         slot: slot,
@@ -154,22 +159,22 @@ pub fn declared_by(sheet: &[u32], row: u32, env: Env) -> OpenDecl
     requires { ⌜ length (now sheet) ≤ 16384 ⌝ }
     ensures { λ x. ⌜ ((entries : List ℕ) → x ≡ entryFor (newMeaning (now (sheet .entry)) row (scopesOf env entries)) (scopesOf env entries)) ⌝ }
 {
-    let kind = word(sheet, row, 0);
-    if kind == 29 {
+    let kind = word(sheet, row, column::KIND);
+    if kind == kind::LET {
         return declared_let(sheet, row, env);
     }
     let slot = env.slot;
     let fun = env.fun;
-    if kind == 4 {
+    if kind == kind::CLASS {
         return OpenDecl {
-            tag: 4,
+            tag: tag::CLASS,
             first: FIRST_CLASS + row,
             second: 0,
             slot: slot,
         };
     }
     OpenDecl {
-        tag: 6,
+        tag: tag::VARIABLE,
         first: row,
         second: fun.0,
         slot: slot,
@@ -187,7 +192,11 @@ fn slot_after(sheet: &[u32], d: OpenDecl, n: u32) -> u32
 fn global_after(d: OpenDecl, n: u32) -> u32
     ensures { λ x. ⌜ x ≡ (if isToplevel (means d) then oneMore n else n) ⌝ }
 {
-    if d.tag == 7 { one_more(n) } else { n }
+    if d.tag == tag::TOPLEVEL {
+        one_more(n)
+    } else {
+        n
+    }
 }
 
 // Declares name `m` as `d`, which must be what the next entry of the open scopes holds of some meaning (`entryFor`: its slot is the next

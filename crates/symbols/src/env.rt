@@ -6,7 +6,11 @@ ghost use Rattle.definition.specs.Basics.{if_then_else_};
 ghost use Rattle.definition.specs.Sheet.{Sheet, is};
 ghost use Rattle.machine.specs.Machine.{entryWord, findName, takenIn, loopIn, lastMark, countPushed, wordsPushed, stepScopes};
 ghost use Rattle.symbols.specs.OpenScopes.{scopesOf};
+use crate::entry;
+use crate::tag;
 use ast::FunId;
+use ast::column;
+use ast::kind;
 use words::word;
 
 // The counters: entries in use, the next slot of a local, the innermost function or 0, the number of the next global.
@@ -33,8 +37,8 @@ pub fn find_name(entries: &[u32], m: u32, n: u32) -> u32
     let mut i = n;
     while 0 < i {
         let at = i - 1;
-        if entry_word(entries, at, 1) == m {
-            if 1 < entry_word(entries, at, 0) {
+        if entry_word(entries, at, entry::NAME) == m {
+            if tag::SCOPE < entry_word(entries, at, entry::TAG) {
                 return i;
             }
         }
@@ -50,12 +54,12 @@ pub fn has_local(entries: &[u32], m: u32, n: u32) -> bool
     let mut i = n;
     while 0 < i {
         i -= 1;
-        let tag = entry_word(entries, i, 0);
-        if tag == 1 {
+        let tag = entry_word(entries, i, entry::TAG);
+        if tag == tag::SCOPE {
             return false;
         }
-        if entry_word(entries, i, 1) == m {
-            if 1 < tag {
+        if entry_word(entries, i, entry::NAME) == m {
+            if tag::SCOPE < tag {
                 return true;
             }
         }
@@ -70,12 +74,12 @@ pub fn in_loop(sheet: &[u32], entries: &[u32], n: u32) -> bool
     let mut i = n;
     while 0 < i {
         i -= 1;
-        let tag = entry_word(entries, i, 0);
-        if tag == 0 {
+        let tag = entry_word(entries, i, entry::TAG);
+        if tag == tag::LOOP {
             return true;
         }
-        if tag == 1 {
-            if word(sheet, entry_word(entries, i, 1), 0) == 6 {
+        if tag == tag::SCOPE {
+            if word(sheet, entry_word(entries, i, entry::NAME), column::KIND) == kind::FUNCTION {
                 return false;
             }
         }
@@ -90,7 +94,7 @@ fn last_mark(entries: &[u32], n: u32) -> u32
     let mut i = n;
     while 0 < i {
         i -= 1;
-        if entry_word(entries, i, 0) == 1 {
+        if entry_word(entries, i, entry::TAG) == tag::SCOPE {
             return i;
         }
     }
@@ -127,7 +131,7 @@ pub fn push_entry(
 fn fun_inside(sheet: &[u32], row: u32, fun: FunId) -> FunId
     ensures { λ x. ⌜ x .0 ≡ (if is (now (sheet .entry)) 6 row then row else fun .0) ⌝ }
 {
-    if word(sheet, row, 0) == 6 {
+    if word(sheet, row, column::KIND) == kind::FUNCTION {
         FunId(row)
     } else {
         fun
@@ -139,7 +143,7 @@ pub fn push_scope(sheet: &[u32], row: u32, env: Env, entries: &mut [u32]) -> Env
     ensures { λ x. ⌜ scopesOf x (now (entries .exit)) ≡ stepScopes (now (sheet .entry)) (enter row) (scopesOf env (now (entries .entry))) ⌝ }
 {
     let fun = fun_inside(sheet, row, env.fun);
-    let count = push_entry(entries, env.count, 1, row, env.fun.0, 0, env.slot);
+    let count = push_entry(entries, env.count, tag::SCOPE, row, env.fun.0, 0, env.slot);
     Env {
         count: count,
         slot: env.slot,
@@ -153,7 +157,7 @@ pub fn push_loop(env: Env, entries: &mut [u32]) -> Env
     ensures { λ x. ⌜ ((s : Sheet) → scopesOf x (now (entries .exit)) ≡ stepScopes s loop (scopesOf env (now (entries .entry)))) ⌝ }
 {
     let fun = env.fun;
-    let count = push_entry(entries, env.count, 0, 0, fun.0, 0, env.slot);
+    let count = push_entry(entries, env.count, tag::LOOP, 0, fun.0, 0, env.slot);
     Env {
         count: count,
         slot: env.slot,
@@ -177,8 +181,8 @@ pub fn pop_scope(env: Env, entries: &[u32]) -> Env
     }
     Env {
         count: mark,
-        slot: entry_word(entries, mark, 4),
-        fun: FunId(entry_word(entries, mark, 2)),
+        slot: entry_word(entries, mark, entry::SLOT),
+        fun: FunId(entry_word(entries, mark, entry::FIRST)),
         globals: env.globals,
     }
 }

@@ -7,9 +7,8 @@ ghost use Rattle.definition.specs.Text.{trimmed, inTen};
 ghost use Rattle.text.specs.Lines.{isLine, numbersOf, numberIn, digitsFrom, wholeLines, goodLines, numbersIn, lineOf, placeByte};
 ghost use Rattle.text.specs.Reading.{SheetRead};
 ghost use Rattle.text.specs.Writing.{RowsWritten};
+use ast::limit;
 use words::clear;
-
-const MAX_LINES: usize = 2048;
 
 const MAX_NUMBER: u64 = 4294967295;
 
@@ -107,7 +106,7 @@ fn lines_to_read(bytes: usize, lent: usize) -> usize
     if 81 * n != bytes {
         return 0;
     }
-    if n > MAX_LINES {
+    if n > limit::ROWS {
         return 0;
     }
     if 8 * n > lent {

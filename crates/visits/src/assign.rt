@@ -8,6 +8,9 @@ ghost use Rattle.definition.specs.Outside.{Outside};
 ghost use Rattle.machine.specs.Machine.{stepState};
 ghost use Rattle.classes.specs.Table.{ClassTable};
 ghost use Rattle.walk.specs.WalkState.{stateOf};
+use ast::column;
+use ast::kind;
+use ast::question;
 use sheet::has_named;
 use store::nodes::reg_field;
 use symbols::decl::is_mutable;
@@ -25,12 +28,12 @@ fn assign_name(sheet: &[u32], row: u32, walk: Walk, entries: &[u32]) -> Walk
     if walk.number != 0 {
         return walk;
     }
-    let target = word(sheet, row, 2);
-    let m = word(sheet, target, 6);
+    let target = word(sheet, row, column::CHILD);
+    let m = word(sheet, target, column::A);
     if is_mutable(sheet, lookup(walk.env, entries, m)) {
         return walk;
     }
-    refuse(walk, 6, row, m)
+    refuse(walk, question::MUTABLE, row, m)
 }
 
 // A member that is assigned to is a field of the innermost function's class, if it has one and does not list it.
@@ -53,9 +56,9 @@ fn assign_member(
     if class == 0 {
         return walk;
     }
-    let target = word(sheet, row, 2);
-    let m = word(sheet, target, 6);
-    if has_named(sheet, class, 10, m) {
+    let target = word(sheet, row, column::CHILD);
+    let m = word(sheet, target, column::A);
+    if has_named(sheet, class, kind::FIELD, m) {
         return walk;
     }
     let store = reg_field(walk.store, results, nodes, class, m);
@@ -81,10 +84,10 @@ pub fn check_assign(
     requires { ⌜ (ClassTable (now sheet) (now classes)) × (kind (now sheet) row ≡ 21) ⌝ }
     ensures { λ x. ⌜ ((O : Outside) → stateOf x (now (entries .entry)) (now (results .exit)) (now (nodes .exit)) ≡ stepState O (now (sheet .entry)) (visit row) (stateOf walk (now (entries .entry)) (now (results .entry)) (now (nodes .entry)))) ⌝ }
 {
-    let kind = word(sheet, word(sheet, row, 2), 0);
+    let kind = word(sheet, word(sheet, row, column::CHILD), column::KIND);
     match kind {
-        50 => assign_name(sheet, row, walk, entries),
-        54 => assign_member(sheet, classes, row, walk, results, nodes),
+        kind::IDENTIFIER => assign_name(sheet, row, walk, entries),
+        kind::MEMBER => assign_member(sheet, classes, row, walk, results, nodes),
         _ => walk,
     }
 }

@@ -11,6 +11,9 @@ ghost use Rattle.visits.specs.Callee.{methodQuestion};
 ghost use Rattle.walk.specs.WalkState.{stateOf};
 use ast::ClassId;
 use ast::Decl;
+use ast::column;
+use ast::kind;
+use ast::question;
 use outside::records::Method;
 use outside::records::has_record;
 use outside::records::own_method;
@@ -30,11 +33,11 @@ use words::word;
 fn constructed_class(sheet: &[u32], row: u32, env: Env, entries: &[u32]) -> ClassId
     ensures { λ x. ⌜ x .0 ≡ constructedClass (now (sheet .entry)) row (scopesOf env (now (entries .entry))) ⌝ }
 {
-    let callee = word(sheet, row, 2);
-    if word(sheet, callee, 0) != 50 {
+    let callee = word(sheet, row, column::CHILD);
+    if word(sheet, callee, column::KIND) != kind::IDENTIFIER {
         return ClassId(0);
     }
-    let m = word(sheet, callee, 6);
+    let m = word(sheet, callee, column::A);
     class_number(lookup(env, entries, m))
 }
 
@@ -42,15 +45,15 @@ fn constructed_class(sheet: &[u32], row: u32, env: Env, entries: &[u32]) -> Clas
 fn receiver_class(sheet: &[u32], row: u32, env: Env, entries: &[u32]) -> ClassId
     ensures { λ x. ⌜ x .0 ≡ receiverClass (now (sheet .entry)) row (scopesOf env (now (entries .entry))) ⌝ }
 {
-    let callee = word(sheet, row, 2);
-    if word(sheet, callee, 0) != 54 {
+    let callee = word(sheet, row, column::CHILD);
+    if word(sheet, callee, column::KIND) != kind::MEMBER {
         return ClassId(0);
     }
-    let base = word(sheet, callee, 2);
-    if word(sheet, base, 0) != 50 {
+    let base = word(sheet, callee, column::CHILD);
+    if word(sheet, base, column::KIND) != kind::IDENTIFIER {
         return ClassId(0);
     }
-    let m = word(sheet, base, 6);
+    let m = word(sheet, base, column::A);
     class_number(lookup(env, entries, m))
 }
 
@@ -70,9 +73,14 @@ fn construct(
     if walk.number != 0 {
         return walk;
     }
-    let callee = word(sheet, row, 2);
+    let callee = word(sheet, row, column::CHILD);
     if !has_record(sheet, outside, class) {
-        return refuse(walk, 12, callee, word(sheet, callee, 6));
+        return refuse(
+            walk,
+            question::CONSTRUCTED_RECORD,
+            callee,
+            word(sheet, callee, column::A),
+        );
     }
     let call = Node {
         key: row,
@@ -96,14 +104,14 @@ fn method_question(sheet: &[u32], outside: &[u32], row: u32, class: ClassId, m: 
     ensures { λ x. ⌜ x ≡ methodQuestion (over (now (outside .entry))) (now (sheet .entry)) row (class .0) (m .fun .0) (m .params) ⌝ }
 {
     if !has_record(sheet, outside, class) {
-        return 17;
+        return question::KNOWN;
     }
     let f = m.fun;
     if f.0 == 0 {
-        return 13;
+        return question::METHOD_THERE;
     }
     if arguments(sheet, row) != m.params {
-        return 14;
+        return question::METHOD_ARITY;
     }
     0
 }
@@ -124,14 +132,14 @@ fn call_method(
     if walk.number != 0 {
         return walk;
     }
-    let callee = word(sheet, row, 2);
-    let m = word(sheet, callee, 6);
+    let callee = word(sheet, row, column::CHILD);
+    let m = word(sheet, callee, column::A);
     let method = own_method(sheet, outside, class, m);
     let no = method_question(sheet, outside, row, class, method);
     if no != 0 {
         return refuse(walk, no, callee, m);
     }
-    mark_hidden(results, word(sheet, callee, 2));
+    mark_hidden(results, word(sheet, callee, column::CHILD));
     let f = method.fun;
     write_decl(results, callee, Decl::Fun { id: f });
     walk

@@ -22,6 +22,11 @@ pub mod calls;
 use ast::ClassId;
 use ast::Decl;
 use ast::FunId;
+use ast::code;
+use ast::column;
+use ast::kind;
+use ast::name;
+use ast::question;
 use store::code::seen_in;
 use store::nodes::Node;
 use store::nodes::Store;
@@ -34,6 +39,7 @@ use symbols::decl::is_declared;
 use symbols::decl::lookup;
 use symbols::env::Env;
 use symbols::env::in_loop;
+use symbols::tag;
 use walk::state::Walk;
 use walk::state::refuse;
 use words::word;
@@ -50,14 +56,18 @@ pub fn check_jump(sheet: &[u32], row: u32, walk: Walk, entries: &[u32]) -> Walk
     if in_loop(sheet, entries, e.count) {
         return walk;
     }
-    refuse(walk, 5, row, 0)
+    refuse(walk, question::IN_LOOP, row, 0)
 }
 
 // The question on an undeclared name: 9 for null, 8 for any other.
 fn undeclared(m: u32) -> u32
     ensures { λ x. ⌜ x ≡ (if eqb m 22 then 9 else 8) ⌝ }
 {
-    if m == 22 { 9 } else { 8 }
+    if m == name::NULL {
+        question::NULL_DECLARED
+    } else {
+        question::DECLARED
+    }
 }
 
 // A local or argument that is used is captured by every function around, out to its own. Most belong to the innermost function,
@@ -76,7 +86,7 @@ fn capture(
         then addCapture (openFunctions (now (sheet .entry)) (scopesOf env (now (entries .entry)))) (record { key = rowOf (means d); one = ownerOf (means d); two = d .slot }) (storeOf store (now (results .entry)) (now (nodes .entry)))
         else storeOf store (now (results .entry)) (now (nodes .entry))) ⌝ }
 {
-    if d.tag != 6 {
+    if d.tag != tag::VARIABLE {
         return store;
     }
     let fun = env.fun;
@@ -108,7 +118,7 @@ pub fn resolve_ident(
     }
     let e = walk.env;
     let o = walk.store;
-    let m = word(sheet, row, 6);
+    let m = word(sheet, row, column::A);
     let d = lookup(e, entries, m);
     if !is_declared(d) {
         return refuse(walk, undeclared(m), row, m);
@@ -140,10 +150,10 @@ pub fn check_instanceof(
     if walk.number != 0 {
         return walk;
     }
-    let m = word(sheet, row, 6);
+    let m = word(sheet, row, column::A);
     let class = class_number(lookup(walk.env, entries, m));
     if class.0 == 0 {
-        return refuse(walk, 10, row, m);
+        return refuse(walk, question::INSTANCEOF_CLASS, row, m);
     }
     write_decl(results, row, Decl::Class { id: class });
     walk
@@ -153,7 +163,11 @@ pub fn check_instanceof(
 fn main_unit_code(sheet: &[u32], fun: FunId) -> u32
     ensures { λ x. ⌜ x ≡ (if eqb (fun .0) (b (now (sheet .entry)) 0) then 7 else 8) ⌝ }
 {
-    if fun.0 == word(sheet, 0, 7) { 7 } else { 8 }
+    if fun.0 == word(sheet, 0, column::B) {
+        code::TRUE
+    } else {
+        code::FALSE
+    }
 }
 
 // Question 17: is a host constant MAIN_UNIT?
@@ -164,9 +178,9 @@ pub fn resolve_host_const(sheet: &[u32], row: u32, walk: Walk, results: &mut [u3
     if walk.number != 0 {
         return walk;
     }
-    let m = word(sheet, row, 6);
-    if m != 24 {
-        return refuse(walk, 17, row, m);
+    let m = word(sheet, row, column::A);
+    if m != name::MAIN_UNIT {
+        return refuse(walk, question::KNOWN, row, m);
     }
     let e = walk.env;
     let code = main_unit_code(sheet, e.fun);
@@ -203,7 +217,7 @@ fn write_parent(sheet: &[u32], c: u32, class: ClassId, results: &mut [u32])
     ensures { λ _. ⌜ ((o : Store) (nodes : List ℕ) → storeOf o (now (results .exit)) nodes
         ≡ (if is (now (sheet .entry)) 4 c then writeRowAt c (2 ∷ class .0 ∷ []) (storeOf o (now (results .entry)) nodes) else storeOf o (now (results .entry)) nodes)) ⌝ }
 {
-    if word(sheet, c, 0) == 4 {
+    if word(sheet, c, column::KIND) == kind::CLASS {
         write_decl(results, c, Decl::Class { id: class });
     }
 }
@@ -222,11 +236,11 @@ pub fn resolve_parent(
     if walk.number != 0 {
         return walk;
     }
-    let c = word(sheet, row, 6);
-    let m = word(sheet, c, 7);
+    let c = word(sheet, row, column::A);
+    let m = word(sheet, c, column::B);
     let class = class_number(lookup(walk.env, entries, m));
     if !names_class(m, class) {
-        return refuse(walk, 11, row, m);
+        return refuse(walk, question::PARENT_CLASS, row, m);
     }
     write_parent(sheet, c, class, results);
     walk

@@ -17,6 +17,9 @@ ghost use Rattle.store.specs.Stored.{storeOf};
 ghost use Rattle.walk.specs.WalkState.{stateOf};
 use crate::state::Walk;
 use crate::state::refuse;
+use ast::column;
+use ast::kind;
+use ast::question;
 use store::code::code_of;
 use store::nodes::Store;
 use store::table::raise_locals;
@@ -34,20 +37,24 @@ use words::word;
 fn is_literal_let(sheet: &[u32], row: u32) -> bool
     ensures { λ x. ⌜ x ≡ literalLet (now (sheet .entry)) row ⌝ }
 {
-    if word(sheet, row, 0) != 29 {
+    if word(sheet, row, column::KIND) != kind::LET {
         return false;
     }
-    word(sheet, word(sheet, row, 2), 0) == 52
+    word(sheet, word(sheet, row, column::CHILD), column::KIND) == kind::LITERAL
 }
 
 // The question on a name that is taken: 7 for a let whose value is no function literal, 16 for any other row.
 fn declare_question(sheet: &[u32], row: u32) -> u32
     ensures { λ x. ⌜ x ≡ (if is (now (sheet .entry)) 29 row && not (literalLet (now (sheet .entry)) row) then 7 else 16) ⌝ }
 {
-    if word(sheet, row, 0) != 29 {
-        return 16;
+    if word(sheet, row, column::KIND) != kind::LET {
+        return question::NAME_FREE;
     }
-    if is_literal_let(sheet, row) { 16 } else { 7 }
+    if is_literal_let(sheet, row) {
+        question::NAME_FREE
+    } else {
+        question::LET_FREE
+    }
 }
 
 // A local is counted in the innermost function.
@@ -67,7 +74,7 @@ fn store_let(sheet: &[u32], row: u32, env: Env, d: OpenDecl, results: &mut [u32]
     ensures { λ _. ⌜ ((O : Outside) (o : Store) (entries nodes : List ℕ) → d ≡ entryFor (newMeaning (now (sheet .entry)) row (scopesOf env entries)) (scopesOf env entries)
         → storeOf o (now (results .exit)) nodes ≡ stepStore O (now (sheet .entry)) (declare row) (scopesOf env entries) (storeOf o (now (results .entry)) nodes)) ⌝ }
 {
-    if word(sheet, row, 0) != 29 {
+    if word(sheet, row, column::KIND) != kind::LET {
         return;
     }
     count_local(sheet, env, d, results);
@@ -90,7 +97,7 @@ pub fn declare(
     }
     let e = walk.env;
     let store = walk.store;
-    let m = word(sheet, row, 6);
+    let m = word(sheet, row, column::A);
     if has_local(entries, m, e.count) {
         return refuse(walk, declare_question(sheet, row), row, m);
     }
@@ -119,7 +126,7 @@ fn declare_if(
     ensures { λ x. ⌜ ((O : Outside) (nodes : List ℕ) → stateOf x (now (entries .exit)) (now (results .exit)) nodes
         ≡ runState O (now (sheet .entry)) (if is (now (sheet .entry)) kind k then declare k ∷ [] else []) (stateOf walk (now (entries .entry)) (now (results .entry)) nodes)) ⌝ }
 {
-    if word(sheet, k, 0) != kind {
+    if word(sheet, k, column::KIND) != kind {
         return walk;
     }
     declare(sheet, k, walk, entries, results)
@@ -139,14 +146,14 @@ pub fn declare_kind(
         ≡ runState O (now (sheet .entry)) (map declare (kidsOf (now (sheet .entry)) kind row)) (stateOf walk (now (entries .entry)) (now (results .entry)) nodes)) ⌝ }
 {
     let mut n = sheet.len() / 8;
-    let mut k = word(sheet, row, 2);
+    let mut k = word(sheet, row, column::CHILD);
     let mut a = walk;
     while 0 < n {
         if k == 0 {
             return a;
         }
         a = declare_if(sheet, k, kind, a, entries, results);
-        k = word(sheet, k, 1);
+        k = word(sheet, k, column::NEXT);
         n -= 1;
     }
     a
@@ -183,14 +190,14 @@ pub fn hoist_literals(
         ≡ runState O (now (sheet .entry)) (map declare (filter (literalLet (now (sheet .entry))) (kids (now (sheet .entry)) row))) (stateOf walk (now (entries .entry)) (now (results .entry)) nodes)) ⌝ }
 {
     let mut n = sheet.len() / 8;
-    let mut k = word(sheet, row, 2);
+    let mut k = word(sheet, row, column::CHILD);
     let mut a = walk;
     while 0 < n {
         if k == 0 {
             return a;
         }
         a = declare_literal(sheet, k, a, entries, results);
-        k = word(sheet, k, 1);
+        k = word(sheet, k, column::NEXT);
         n -= 1;
     }
     a
