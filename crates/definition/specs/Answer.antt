@@ -5,6 +5,7 @@ use Prim.Native.Nat.{ℕ, zero, suc, _+_, _-_}
 use lib.ListN.{length, getD, set, take, replicate}
 use lib.Dec.{eqb, ltb}
 use Rattle.definition.specs.Basics.{if_then_else_, filter, concatMap, from, bit}
+use Rattle.definition.specs.Kind.{CLASS, FUNCTION, LET, IDENTIFIER, HOST-CONSTANT, LITERAL, MEMBER, INSTANCEOF, CALL}
 use Rattle.definition.specs.Sheet.{Sheet, child, a, b, rows, is, holder}
 use Rattle.definition.specs.Meaning.{isClass, classNumber}
 use Rattle.definition.specs.Outside.{Outside, Method}
@@ -25,7 +26,7 @@ numbered i (n ∷ ns) = (23 ∷ i ∷ n ∷ []) ∷ numbered (suc i) ns
 
 -- is row r the base of a call's member callee?
 abbrev pub isCalleeBase : Sheet → ℕ → Bool
-isCalleeBase s r = is s 54 (holder s r) && is s 59 (holder s (holder s r)) && eqb (child s (holder s (holder s r))) (holder s r)
+isCalleeBase s r = is s MEMBER (holder s r) && is s CALL (holder s (holder s r)) && eqb (child s (holder s (holder s r))) (holder s r)
 
 module _ (s : Sheet) (h : List Moment) where
   -- a let: what it declares, or code 0
@@ -34,7 +35,7 @@ module _ (s : Sheet) (h : List Moment) where
 
   -- the calls of a method on a class
   abbrev pub classCalls : List Moment
-  classCalls = filter (λ m. not (eqb (receiver s (visited (m .event)) (openOn s (m .stack))) 0)) (visits s h 59)
+  classCalls = filter (λ m. not (eqb (receiver s (visited (m .event)) (openOn s (m .stack))) 0)) (visits s h CALL)
 
   -- an identifier: what it means in its function; nothing where it is the base of a class method's callee
   abbrev pub identifierRow : ℕ → List (List ℕ)
@@ -80,14 +81,14 @@ module _ (O : Outside) (s : Sheet) (h : List Moment) where
   -- the answer rows of sheet row r, without its number
   abbrev pub rowsOf : ℕ → List (List ℕ)
   rowsOf r =
-      if is s 29 r then letRow s h r
-      else if is s 50 r then identifierRow s h r
-      else if is s 51 r then hostRow s h r
-      else if is s 55 r then instanceRow s h r
-      else if is s 54 r then memberRow r
-      else if is s 52 r then literalRows s h r
-      else if is s 6 r then functionRows s h r
-      else if is s 4 r then classRows r
+      if is s LET r then letRow s h r
+      else if is s IDENTIFIER r then identifierRow s h r
+      else if is s HOST-CONSTANT r then hostRow s h r
+      else if is s INSTANCEOF r then instanceRow s h r
+      else if is s MEMBER r then memberRow r
+      else if is s LITERAL r then literalRows s h r
+      else if is s FUNCTION r then functionRows s h r
+      else if is s CLASS r then classRows r
       else []
 
   -- all answer rows

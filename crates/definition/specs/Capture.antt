@@ -4,6 +4,7 @@ use mathlib.Core.List.{List, [], _∷_, map}
 use Prim.Native.Nat.{ℕ}
 use lib.Dec.{eqb}
 use Rattle.definition.specs.Basics.{if_then_else_, filter, any, distinct, place, from, bit, concatMap, _∈?_}
+use Rattle.definition.specs.Kind.{IDENTIFIER, LITERAL}
 use Rattle.definition.specs.Sheet.{Sheet, rows, child, a, is}
 use Rattle.definition.specs.Meaning.{Meaning, rowOf, ownerOf, isVariable}
 use Rattle.definition.specs.Scope.{Moment, find, top, around, visited, visits, visitOf, within}
@@ -38,7 +39,7 @@ same u v = eqb (rowOf (u .means)) (rowOf (v .means))
 module _ (s : Sheet) (h : List Moment) where
   -- the identifiers in the walk's order
   abbrev pub uses : List Use
-  uses = map (useAt s) (visits s h 50)
+  uses = map (useAt s) (visits s h IDENTIFIER)
 
   -- what function f captures, once each, by index in the order of first use, each told by that use
   abbrev pub captures : ℕ → List Use
@@ -57,7 +58,7 @@ module _ (s : Sheet) (h : List Moment) where
 
   -- the functions of the literals that stand in function f
   abbrev pub inner : ℕ → List ℕ
-  inner f = map (child s) (filter (λ l. is s 52 l && any (λ m. eqb (within s m) f) (visitOf h l)) (from 0 (rows s)))
+  inner f = map (child s) (filter (λ l. is s LITERAL l && any (λ m. eqb (within s m) f) (visitOf h l)) (from 0 (rows s)))
 
   -- the slots of f whose mutable locals are handed to a literal in f, rising
   abbrev pub escaping : ℕ → List ℕ

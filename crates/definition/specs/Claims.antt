@@ -9,6 +9,7 @@ use Prim.Native.Nat.{ℕ, suc, _+_, _<_}
 use lib.ListN.{length, getD, take, drop}
 use lib.Dec.{eqb, T}
 use Rattle.definition.specs.Basics.{if_then_else_, filter, count, place, largest, _∈?_}
+use Rattle.definition.specs.Kind.{FUNCTION, PARAMETER, LET, IDENTIFIER, LITERAL}
 use Rattle.definition.specs.Sheet.{Sheet, a, b, rows, is, kidsOf, holder, functionsOf, functionOf}
 use Rattle.definition.specs.Meaning.{isVariable, rowOf}
 use Rattle.definition.specs.Outside.{Outside}
@@ -36,7 +37,7 @@ pub data Follows (s : Sheet) (out : List Row) : Row → ℕ → Row → Type 0 w
   -- it ends at code 4 or 5;
   ends : {x : Row} → (getD x 1 0 ≡ 4) ⊎ (getD x 1 0 ≡ 5) → Follows s out x 0 x
   -- code 6 with index i is a step to source i, counted from 0, of the literal of its sheet row's function
-  steps : {x y : Row} {n : ℕ} → getD x 1 0 ≡ 6 → T (is s 52 (holder s (functionOf s (getD x 0 0))))
+  steps : {x y : Row} {n : ℕ} → getD x 1 0 ≡ 6 → T (is s LITERAL (holder s (functionOf s (getD x 0 0))))
       → Follows s out (getD (rowsFor out (holder s (functionOf s (getD x 0 0)))) (getD x 2 0) []) n y → Follows s out x (suc n) y
 
 -- the let and parameter rows of the locals and arguments that are open, innermost first
@@ -48,7 +49,7 @@ openRows (bound n d ∷ st) = if isVariable d then rowOf d ∷ openRows st else 
 
 -- how many locals are open: the slot of the next one
 abbrev pub openLets : Sheet → Stack → ℕ
-openLets s st = count (is s 29) (openRows st)
+openLets s st = count (is s LET) (openRows st)
 
 -- the largest slot that a local of function f takes, plus 1, or 0
 abbrev pub slotsUsed : Sheet → List Moment → ℕ → ℕ
@@ -58,7 +59,7 @@ slotsUsed s h f = largest (map (λ m. suc (openLets s (m .stack))) (filter (λ m
 -- local's stand in the answer row of its let
 abbrev pub declaredAs : Outside → Sheet → List Row → ℕ → List ℕ
 declaredAs O s out d =
-    if is s 11 d then told (eight (d ∷ 4 ∷ place (eqb d) (kidsOf s 11 (functionOf s d)) ∷ (functionOf s d + O .base) ∷ []))
+    if is s PARAMETER d then told (eight (d ∷ 4 ∷ place (eqb d) (kidsOf s PARAMETER (functionOf s d)) ∷ (functionOf s d + O .base) ∷ []))
     else told (firstFor out d)
 
 -- how many functions lie around row r inside the function of row d
@@ -68,7 +69,7 @@ between s r d = place (eqb (functionOf s d)) (functionsOf s r)
 -- is an identifier that stands in function f visited, and does it mean the local or argument of row d?
 abbrev pub usedIn : Sheet → ℕ → ℕ → Moment → Bool
 usedIn s f d m =
-    is s 50 (visited (m .event)) && f ∈? functionsOf s (visited (m .event))
+    is s IDENTIFIER (visited (m .event)) && f ∈? functionsOf s (visited (m .event))
     && isVariable (lookup (a s (visited (m .event))) (m .stack)) && eqb (rowOf (lookup (a s (visited (m .event))) (m .stack))) d
 
 -- Of identifier r, visited with st open, that means the local or argument of row d:
@@ -100,34 +101,34 @@ pub record Captures (O : Outside) (s : Sheet) (out : List Row) (f : ℕ) : Type 
   pub counted : (k : ℕ) × (e : ℕ) × (firstFor out f ≡ eight (f ∷ 20 ∷ k ∷ length captured ∷ e ∷ []))
   pub listed : take (length captured) (drop 1 (rowsFor out f)) ≡ map (λ d. f ∷ declaredAs O s out d) captured
   -- "its literal lists exactly n sources in that order, and following source i ends at the declaration captured as i";
-  pub sources : T (is s 52 (holder s f)) → length (rowsFor out (holder s f)) ≡ length captured
-  pub followed : T (is s 52 (holder s f)) → (i : ℕ) → i < length captured
+  pub sources : T (is s LITERAL (holder s f)) → length (rowsFor out (holder s f)) ≡ length captured
+  pub followed : T (is s LITERAL (holder s f)) → (i : ℕ) → i < length captured
       → (y : Row) × Follows s out (getD (rowsFor out (holder s f)) i []) (between s (holder s f) (getD captured i 0)) y
       × (told y ≡ declaredAs O s out (getD captured i 0))
   -- "a function without a literal captures nothing"
-  pub no-literal : T (not (is s 52 (holder s f))) → captured ≡ []
+  pub no-literal : T (not (is s LITERAL (holder s f))) → captured ≡ []
 
 -- Demand 3, whole: the closure claim on sheet s with O outside and answer rows `out`.
 pub record Demand3 (O : Outside) (s : Sheet) (out : List Row) : Type 0 where
   -- Every identifier of the sheet is visited once in the walk. "For each identifier that means a local or an argument" there:
-  pub identifiers : (r : ℕ) → r < rows s → T (is s 50 r)
+  pub identifiers : (r : ℕ) → r < rows s → T (is s IDENTIFIER r)
       → (m : Moment) × (filter (λ k. eqb (visited (k .event)) r) (history O s) ≡ m ∷ [])
       × (T (isVariable (lookup (a s r) (m .stack))) → Followed O s out (m .stack) r (rowOf (lookup (a s r) (m .stack))))
   -- Following has one end and one number of steps.
   pub one-end : (x y z : Row) (n k : ℕ) → Follows s out x n y → Follows s out x k z → (n ≡ k) × (y ≡ z)
   -- "Each function captures .."
-  pub functions : (f : ℕ) → f < rows s → T (is s 6 f) → Captures O s out f
+  pub functions : (f : ℕ) → f < rows s → T (is s FUNCTION f) → Captures O s out f
   -- What is open at a moment of the walk is a parameter or a let, and was declared once, by its own row.
   pub opened : (m : Moment) → Mem m (history O s) → (d : ℕ) → Mem d (openRows (m .stack))
-      → (T (is s 11 d) ⊎ T (is s 29 d)) × (count (λ k. eqb (declares (k .event)) d) (history O s) ≡ 1)
+      → (T (is s PARAMETER d) ⊎ T (is s LET d)) × (count (λ k. eqb (declares (k .event)) d) (history O s) ≡ 1)
   -- A local has one answer row: code 5, its slot, its function, 1 if it is mutable; the slot is "below its local count".
-  pub locals : (m : Moment) → Mem m (history O s) → (d : ℕ) → Mem d (openRows (m .stack)) → T (is s 29 d)
+  pub locals : (m : Moment) → Mem m (history O s) → (d : ℕ) → Mem d (openRows (m .stack)) → T (is s LET d)
       → (k : ℕ) × (rowsFor out d ≡ eight (d ∷ 5 ∷ k ∷ (functionOf s d + O .base) ∷ b s d ∷ []) ∷ []) × (k < getD (firstFor out (functionOf s d)) 2 0)
   -- "Locals of one function open at the same point of the walk have different slots": those of different functions too.
   pub slots-apart : (m : Moment) → Mem m (history O s) → (d e : ℕ) → Mem d (openRows (m .stack)) → Mem e (openRows (m .stack))
-      → T (is s 29 d) → T (is s 29 e) → getD (firstFor out d) 2 0 ≡ getD (firstFor out e) 2 0 → d ≡ e
+      → T (is s LET d) → T (is s LET e) → getD (firstFor out d) 2 0 ≡ getD (firstFor out e) 2 0 → d ≡ e
   -- "slots and count being document 01's": a local was declared once, in the next slot, as many as locals were open there; a function's
   -- count is its largest slot plus 1, or 0.
-  pub slots : (m : Moment) → Mem m (history O s) → (d : ℕ) → Mem d (openRows (m .stack)) → T (is s 29 d)
+  pub slots : (m : Moment) → Mem m (history O s) → (d : ℕ) → Mem d (openRows (m .stack)) → T (is s LET d)
       → (k : Moment) × (filter (λ y. eqb (declares (y .event)) d) (history O s) ≡ k ∷ []) × (getD (firstFor out d) 2 0 ≡ openLets s (k .stack))
-  pub counts : (f : ℕ) → f < rows s → T (is s 6 f) → getD (firstFor out f) 2 0 ≡ slotsUsed s (history O s) f
+  pub counts : (f : ℕ) → f < rows s → T (is s FUNCTION f) → getD (firstFor out f) 2 0 ≡ slotsUsed s (history O s) f

@@ -5,6 +5,7 @@ use Prim.Native.Nat.{ℕ, zero, suc}
 use lib.ListN.{getD}
 use lib.Dec.{eqb, leb, ltb}
 use Rattle.definition.specs.Basics.{if_then_else_, _⇒_, every, all, count, unlike, concatMap, from, bit}
+use Rattle.definition.specs.Kind.{HEADER, UNIT, CLASS, FUNCTION, FUNCTION-EXPORT, CONSTANT-EXPORT, FIELD, LET, CLASS-DECLARATION, LITERAL}
 use Rattle.definition.specs.Sheet.{Sheet, kind, next, child, file, a, b, rows, kids, is, kidsOf, holder}
 use Rattle.definition.specs.Shape.{holds, fits, one, only, shapeOf}
 
@@ -33,13 +34,13 @@ depthEntry up t r = if eqb r 0 then 0 else suc (at t (at up r))
 -- the tables by the table of parents; entry r of each is made of the entry at the parent of r
 module _ (s : Sheet) (up : List ℕ) where
   abbrev pub unitEntry : List ℕ → ℕ → ℕ
-  unitEntry t r = if is s 2 r then r else at t (at up r)
+  unitEntry t r = if is s UNIT r then r else at t (at up r)
 
   abbrev pub functionEntry : List ℕ → ℕ → ℕ
-  functionEntry t r = if is s 6 (at up r) then at up r else at t (at up r)
+  functionEntry t r = if is s FUNCTION (at up r) then at up r else at t (at up r)
 
   abbrev pub classEntry : List ℕ → ℕ → ℕ
-  classEntry t r = if is s 6 r && is s 4 (at up r) then at up r else at t (at up r)
+  classEntry t r = if is s FUNCTION r && is s CLASS (at up r) then at up r else at t (at up r)
 
   abbrev pub tablesBy : Tables
   tablesBy =
@@ -63,7 +64,7 @@ links s = concatMap (λ r. next s r ∷ child s r ∷ []) (from 0 (rows s))
 
 -- row 0 is the header: kind 0, next 0
 abbrev pub headerFirst : Sheet → Bool
-headerFirst s = is s 0 0 && eqb (next s 0) 0
+headerFirst s = is s HEADER 0 && eqb (next s 0) 0
 
 -- its main function is a unit's
 abbrev pub mainMarked : Sheet → Bool
@@ -94,7 +95,7 @@ fileFits s r = ltb (file s r) 262144
 
 -- the value of a constant is no literal
 abbrev pub constantFits : Sheet → ℕ → Bool
-constantFits s r = is s 29 r && leb 2 (b s r) ⇒ not (is s 52 (child s r))
+constantFits s r = is s LET r && leb 2 (b s r) ⇒ not (is s LITERAL (child s r))
 
 -- the names of the children of kind k are unlike
 abbrev pub namesApart : Sheet → ℕ → ℕ → Bool
@@ -102,15 +103,15 @@ namesApart s k r = unlike eqb (map (a s) (kidsOf s k r))
 
 -- in one unit no two classes, no two function exports and no two constant exports share a name
 abbrev pub unitApart : Sheet → ℕ → Bool
-unitApart s r = is s 2 r ⇒ namesApart s 4 r && namesApart s 7 r && namesApart s 8 r
+unitApart s r = is s UNIT r ⇒ namesApart s CLASS r && namesApart s FUNCTION-EXPORT r && namesApart s CONSTANT-EXPORT r
 
 -- nor two fields or two methods of a class
 abbrev pub classApart : Sheet → ℕ → Bool
-classApart s r = is s 4 r ⇒ namesApart s 10 r && namesApart s 6 r
+classApart s r = is s CLASS r ⇒ namesApart s FIELD r && namesApart s FUNCTION r
 
 -- one class declaration for each class
 abbrev pub declaredOnce : Sheet → ℕ → Bool
-declaredOnce s r = is s 4 r ⇒ eqb (count (λ d. is s 30 d && eqb (a s d) r) (from 0 (rows s))) 1
+declaredOnce s r = is s CLASS r ⇒ eqb (count (λ d. is s CLASS-DECLARATION d && eqb (a s d) r) (from 0 (rows s))) 1
 
 -- what the tables say of row r
 abbrev pub parent : Tables → ℕ → ℕ
@@ -128,14 +129,14 @@ class t r = at (t .classes) r
 module _ (s : Sheet) (t : Tables) where
   -- is row r a unit's function? a method?
   abbrev pub ofUnit : ℕ → Bool
-  ofUnit r = is s 6 r && is s 2 (parent t r)
+  ofUnit r = is s FUNCTION r && is s UNIT (parent t r)
 
   abbrev pub ofClass : ℕ → Bool
-  ofClass r = is s 6 r && is s 4 (parent t r)
+  ofClass r = is s FUNCTION r && is s CLASS (parent t r)
 
   -- b 1 stands at a unit's function and at no other
   abbrev pub unitMarked : ℕ → Bool
-  unitMarked r = is s 6 r ⇒ eqb (b s r) (bit (ofUnit r))
+  unitMarked r = is s FUNCTION r ⇒ eqb (b s r) (bit (ofUnit r))
 
   -- a unit function has no parameters and a block body
   abbrev pub unitBody : ℕ → Bool
@@ -147,15 +148,15 @@ module _ (s : Sheet) (t : Tables) where
 
   -- a literal's class is of its own unit
   abbrev pub literalClass : ℕ → Bool
-  literalClass r = is s 52 r && not (eqb (a s r) 0) ⇒ eqb (unit t (a s r)) (unit t r)
+  literalClass r = is s LITERAL r && not (eqb (a s r) 0) ⇒ eqb (unit t (a s r)) (unit t r)
 
   -- a class declaration stands in its own unit's function, and in no literal or method: its innermost function is the unit's
   abbrev pub declaredInUnit : ℕ → Bool
-  declaredInUnit r = is s 30 r ⇒ eqb (parent t (function t r)) (parent t (a s r))
+  declaredInUnit r = is s CLASS-DECLARATION r ⇒ eqb (parent t (function t r)) (parent t (a s r))
 
   -- after all rows of its methods
   abbrev pub declaredAfter : ℕ → Bool
-  declaredAfter r = is s 30 r ⇒ all (λ m. eqb (class t m) (a s r) ⇒ ltb m r) (from 0 (rows s))
+  declaredAfter r = is s CLASS-DECLARATION r ⇒ all (λ m. eqb (class t m) (a s r) ⇒ ltb m r) (from 0 (rows s))
 
 -- what is asked of row r, with the tables t, all links ls and the last name n
 abbrev pub rowClauses : Sheet → Tables → List ℕ → ℕ → ℕ → List Bool

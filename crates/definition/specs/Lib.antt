@@ -4,6 +4,7 @@
 pub mod Basics
 pub mod Bytes
 -- "The sheet": rows, text, names, kinds, questions 3 and 4.
+pub mod Kind
 pub mod Sheet
 pub mod Text
 pub mod Names

@@ -5,6 +5,7 @@ use Prim.Native.Nat.{ℕ, zero, suc, _+_, _-_}
 use lib.ListN.{length}
 use lib.Dec.{eqb}
 use Rattle.definition.specs.Basics.{if_then_else_, filter, first, from, _∈?_}
+use Rattle.definition.specs.Kind.{CLASS, ASSIGN, BREAK, CONTINUE, LET, CLASS-DECLARATION, IDENTIFIER, HOST-CONSTANT, MEMBER, INSTANCEOF, CALL}
 use Rattle.definition.specs.Sheet.{Sheet, child, a, b, rows, kids, is}
 use Rattle.definition.specs.Outside.{Outside, Method}
 use Rattle.definition.specs.Meaning.{Meaning, isDeclared, isClass, classNumber}
@@ -43,12 +44,12 @@ openOn s st = record { means = λ n. lookup n st; isTaken = λ n. taken n st; is
 
 -- the class that call r constructs: its callee is an identifier that means it
 abbrev pub constructed : Sheet → ℕ → Open → ℕ
-constructed s r x = if is s 50 (child s r) then classNumber (x .means (a s (child s r))) else 0
+constructed s r x = if is s IDENTIFIER (child s r) then classNumber (x .means (a s (child s r))) else 0
 
 -- the class on which call r calls a method: its callee is a member of an identifier that means the class
 abbrev pub receiver : Sheet → ℕ → Open → ℕ
 receiver s r x =
-    if is s 54 (child s r) && is s 50 (child s (child s r)) then classNumber (x .means (a s (child s (child s r)))) else 0
+    if is s MEMBER (child s r) && is s IDENTIFIER (child s (child s r)) then classNumber (x .means (a s (child s (child s r)))) else 0
 
 -- how many arguments call r has
 abbrev pub arguments : Sheet → ℕ → ℕ
@@ -74,18 +75,18 @@ askCallee O s r x =
 abbrev pub askVisit : Outside → Sheet → ℕ → Open → Refusal
 askVisit O s r x =
     -- 5: does a break or continue stand in a loop?
-    if is s 23 r || is s 24 r then ask 5 r 0 (x .isLooping)
+    if is s BREAK r || is s CONTINUE r then ask 5 r 0 (x .isLooping)
     -- 6: is an assigned identifier mutable?
-    else if is s 21 r then ask 6 r (a s (child s r)) (not (is s 50 (child s r)) || isMutable s (x .means (a s (child s r))))
+    else if is s ASSIGN r then ask 6 r (a s (child s r)) (not (is s IDENTIFIER (child s r)) || isMutable s (x .means (a s (child s r))))
     -- 8: is an identifier other than null declared? 9: and null?
-    else if is s 50 r then ask (if eqb (a s r) 22 then 9 else 8) r (a s r) (isDeclared (x .means (a s r)))
+    else if is s IDENTIFIER r then ask (if eqb (a s r) 22 then 9 else 8) r (a s r) (isDeclared (x .means (a s r)))
     -- 10: does instanceof name a class?
-    else if is s 55 r then ask 10 r (a s r) (isClass (x .means (a s r)))
+    else if is s INSTANCEOF r then ask 10 r (a s r) (isClass (x .means (a s r)))
     -- 11: does a parent name one?
-    else if is s 30 r then ask 11 r (b s (a s r)) (eqb (b s (a s r)) 0 || isClass (x .means (b s (a s r))))
+    else if is s CLASS-DECLARATION r then ask 11 r (b s (a s r)) (eqb (b s (a s r)) 0 || isClass (x .means (b s (a s r))))
     -- 17: is a host constant MAIN_UNIT?
-    else if is s 51 r then ask 17 r (a s r) (eqb (a s r) 24)
-    else if is s 59 r then askCallee O s r x
+    else if is s HOST-CONSTANT r then ask 17 r (a s r) (eqb (a s r) 24)
+    else if is s CALL r then askCallee O s r x
     else none
 
 -- the question at an event of the walk
@@ -94,7 +95,7 @@ askEvent O s (enter r) x = none
 askEvent O s leave x = none
 askEvent O s loop x = none
 -- 7: is a let's name free in its own scope? 16: is each class, parameter and hoisted name new in its scope?
-askEvent O s (declare r) x = ask (if is s 29 r && not (literalLet s r) then 7 else 16) r (a s r) (not (x .isTaken (a s r)))
+askEvent O s (declare r) x = ask (if is s LET r && not (literalLet s r) then 7 else 16) r (a s r) (not (x .isTaken (a s r)))
 -- 15: does the imported unit define the listed name? 16: is each import new in its scope?
 askEvent O s (bring r n d) x = if isDeclared d then ask 16 r n (not (x .isTaken n)) else ask 15 r n false
 askEvent O s (visit r) x = askVisit O s r x
@@ -112,7 +113,7 @@ askClimb O s parent (suc n) met c =
 
 -- the first no of a question on the classes of the sheet, in row order
 abbrev pub firstOfClasses : Sheet → (ℕ → Refusal) → Refusal
-firstOfClasses s question = firstNo (map (λ r. question (256 + r)) (filter (is s 4) (from 0 (rows s))))
+firstOfClasses s question = firstNo (map (λ r. question (256 + r)) (filter (is s CLASS) (from 0 (rows s))))
 
 -- 20: is init among the methods ms of class c, which call r constructs? 21: with arguments + 1 parameters? At the callee's position
 abbrev pub askInit : Outside → Sheet → List Method → ℕ → ℕ → Refusal
@@ -135,5 +136,5 @@ module _ (O : Outside) (s : Sheet) (h : List Moment) where
       firstNo (
       firstNo (map (λ m. askEvent O s (m .event) (openOn s (m .stack))) h)
       ∷ firstOfClasses s (askClimb O s (parentOf s h) (suc (rows s)) [])
-      ∷ firstNo (map askConstructor (visits s h 59))
+      ∷ firstNo (map askConstructor (visits s h CALL))
       ∷ [])

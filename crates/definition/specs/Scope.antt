@@ -5,6 +5,7 @@ use mathlib.Core.List.{List, [], _∷_, map}
 use Prim.Native.Nat.{ℕ, _+_, _-_}
 use lib.Dec.{eqb, leb}
 use Rattle.definition.specs.Basics.{if_then_else_, filter, final, head}
+use Rattle.definition.specs.Kind.{CLASS, FUNCTION, LET}
 use Rattle.definition.specs.Sheet.{Sheet, child, a, b, is}
 use Rattle.definition.specs.Meaning.{Meaning, nothing, function, class, global, toplevel, variable}
 use Rattle.definition.specs.Outside.{Outside}
@@ -47,7 +48,7 @@ taken n (bound m d ∷ st) = eqb m n || taken n st
 -- the functions around, innermost first
 abbrev pub around : Sheet → Stack → List ℕ
 around s [] = []
-around s (scope r ∷ st) = if is s 6 r then r ∷ around s st else around s st
+around s (scope r ∷ st) = if is s FUNCTION r then r ∷ around s st else around s st
 around s (looping ∷ st) = around s st
 around s (bound m d ∷ st) = around s st
 
@@ -58,7 +59,7 @@ inside s st = head (around s st)
 -- is there a loop around in the innermost function?
 abbrev pub inLoop : Sheet → Stack → Bool
 inLoop s [] = false
-inLoop s (scope r ∷ st) = if is s 6 r then false else inLoop s st
+inLoop s (scope r ∷ st) = if is s FUNCTION r then false else inLoop s st
 inLoop s (looping ∷ st) = true
 inLoop s (bound m d ∷ st) = inLoop s st
 
@@ -72,15 +73,15 @@ closed (bound m d ∷ st) = closed st
 -- is let r, in function f, a global of its own? In a unit function it is, but for a constant, which has its global, and a
 -- hoisted immutable literal, which is the function itself
 abbrev pub newGlobal : Sheet → ℕ → ℕ → Bool
-newGlobal s r f = is s 29 r && leb (b s r) 1 && eqb (b s f) 1 && not (literalLet s r && eqb (b s r) 0)
+newGlobal s r f = is s LET r && leb (b s r) 1 && eqb (b s f) 1 && not (literalLet s r && eqb (b s r) 0)
 
 -- what a class, parameter or let row declares in function f
 abbrev pub declared : Sheet → ℕ → ℕ → Meaning
 declared s r f =
-    if is s 4 r then class (256 + r)
-    else if is s 29 r && leb 2 (b s r) then global (b s r - 2) 0
+    if is s CLASS r then class (256 + r)
+    else if is s LET r && leb 2 (b s r) then global (b s r - 2) 0
     else if newGlobal s r f then toplevel r
-    else if is s 29 r && eqb (b s f) 1 then function (child s (child s r))
+    else if is s LET r && eqb (b s f) 1 then function (child s (child s r))
     else variable r f
 
 -- the stack after an event

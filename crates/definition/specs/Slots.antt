@@ -5,13 +5,14 @@ use Prim.Native.Nat.{ℕ, suc, _+_}
 use lib.ListN.{length}
 use lib.Dec.{eqb}
 use Rattle.definition.specs.Basics.{if_then_else_, filter, place, largest, bit}
+use Rattle.definition.specs.Kind.{PARAMETER, LET}
 use Rattle.definition.specs.Sheet.{Sheet, a, b, is, kidsOf}
 use Rattle.definition.specs.Meaning.{Meaning, nothing, function, class, global, toplevel, variable, isVariable, isToplevel, rowOf}
 use Rattle.definition.specs.Scope.{Stack, Moment, scope, looping, bound, declares, declarings, declaration, within}
 
 -- is it a local?
 abbrev pub isLocal : Sheet → Meaning → Bool
-isLocal s d = isVariable d && is s 29 (rowOf d)
+isLocal s d = isVariable d && is s LET (rowOf d)
 
 -- may it be assigned to?
 abbrev pub isMutable : Sheet → Meaning → Bool
@@ -20,7 +21,7 @@ isMutable s (function f) = false
 isMutable s (class c) = false
 isMutable s (global g m) = eqb m 1
 isMutable s (toplevel r) = eqb (b s r) 1
-isMutable s (variable r f) = is s 29 r && eqb (b s r) 1
+isMutable s (variable r f) = is s LET r && eqb (b s r) 1
 
 -- how many locals are open: the next slot, also across functions
 abbrev pub openLocals : Sheet → Stack → ℕ
@@ -54,7 +55,7 @@ module _ (s : Sheet) (h : List Moment) where
   code (class c) k = 2 ∷ c ∷ []
   code (global g m) k = 3 ∷ g ∷ 0 ∷ bit (eqb m 1) ∷ []
   code (toplevel r) k = 3 ∷ globalOf r ∷ 0 ∷ bit (eqb (b s r) 1) ∷ []
-  code (variable r f) k = if is s 11 r then 4 ∷ place (eqb r) (kidsOf s 11 f) ∷ f ∷ [] else 5 ∷ k ∷ f ∷ bit (eqb (b s r) 1) ∷ []
+  code (variable r f) k = if is s PARAMETER r then 4 ∷ place (eqb r) (kidsOf s PARAMETER f) ∷ f ∷ [] else 5 ∷ k ∷ f ∷ bit (eqb (b s r) 1) ∷ []
 
   -- the local count of function f: its largest slot plus 1, or 0
   abbrev pub localCount : ℕ → ℕ

@@ -4,6 +4,7 @@ use mathlib.Core.List.{List, [], _∷_, _++_, map}
 use Prim.Native.Nat.{ℕ, zero, suc, _+_}
 use lib.Dec.{eqb, leb}
 use Rattle.definition.specs.Basics.{if_then_else_, filter, first, concatMap}
+use Rattle.definition.specs.Kind.{UNIT, IMPORT, CLASS, FUNCTION, FUNCTION-EXPORT, CONSTANT-EXPORT, PARAMETER, ASSIGN, BREAK, CONTINUE, BLOCK, FOR, LET, CLASS-DECLARATION, IDENTIFIER, HOST-CONSTANT, LITERAL, INSTANCEOF, CALL}
 use Rattle.definition.specs.Sheet.{Sheet, kind, child, a, b, rows, kids, is, kidsOf}
 use Rattle.definition.specs.Meaning.{Meaning, Named, named, nothing, function, class, global}
 
@@ -19,9 +20,9 @@ pub data Event : Type 0 where
 -- what a unit exports: functions, classes, constants
 abbrev pub exports : Sheet → ℕ → List Named
 exports s u =
-    map (λ r. named (a s r) (function (b s r))) (kidsOf s 7 u)
-    ++ map (λ r. named (a s r) (class (256 + r))) (kidsOf s 4 u)
-    ++ map (λ r. named (a s r) (global (b s r) 0)) (kidsOf s 8 u)
+    map (λ r. named (a s r) (function (b s r))) (kidsOf s FUNCTION-EXPORT u)
+    ++ map (λ r. named (a s r) (class (256 + r))) (kidsOf s CLASS u)
+    ++ map (λ r. named (a s r) (global (b s r) 0)) (kidsOf s CONSTANT-EXPORT u)
 
 -- what unit u sees of the unit that import i names: nothing of itself
 abbrev pub seen : Sheet → ℕ → ℕ → List Named
@@ -35,42 +36,52 @@ imports s u i =
 
 -- is row r a let whose value is a function literal?
 abbrev pub literalLet : Sheet → ℕ → Bool
-literalLet s r = is s 29 r && is s 52 (child s r)
+literalLet s r = is s LET r && is s LITERAL (child s r)
 
 -- what happens before the parts of row r: a unit declares imports and classes, a function its parameters, a block its
 -- literal lets; a class declaration asks for its parent
 abbrev pub before : Sheet → ℕ → List Event
 before s r =
-    if is s 2 r then enter r ∷ concatMap (imports s r) (kidsOf s 3 r) ++ map declare (kidsOf s 4 r)
-    else if is s 6 r then enter r ∷ map declare (kidsOf s 11 r)
-    else if is s 25 r then enter r ∷ map declare (filter (literalLet s) (kids s r))
-    else if is s 27 r then enter r ∷ []
-    else if is s 30 r then visit r ∷ []
+    if is s UNIT r then enter r ∷ concatMap (imports s r) (kidsOf s IMPORT r) ++ map declare (kidsOf s CLASS r)
+    else if is s FUNCTION r then enter r ∷ map declare (kidsOf s PARAMETER r)
+    else if is s BLOCK r then enter r ∷ map declare (filter (literalLet s) (kids s r))
+    else if is s FOR r then enter r ∷ []
+    else if is s CLASS-DECLARATION r then visit r ∷ []
     else []
 
 -- what happens after part i of row r: the checks on a call's callee; a `for` comes to its loop after init and test
 abbrev pub afterPart : Sheet → ℕ → ℕ → List Event
 afterPart s r i =
-    if is s 59 r && eqb i 0 then visit r ∷ []
-    else if is s 27 r && eqb i 1 then loop ∷ []
+    if is s CALL r && eqb i 0 then visit r ∷ []
+    else if is s FOR r && eqb i 1 then loop ∷ []
     else []
+
+-- does row r open a scope: a unit, a function, a block, a `for`?
+abbrev pub opensScope : Sheet → ℕ → Bool
+opensScope s r = is s UNIT r || is s FUNCTION r || is s BLOCK r || is s FOR r
+
+-- is row r asked about when its parts are walked, or its place noted: an assignment, a break or continue, an identifier, a host constant, a
+-- function literal, an instanceof?
+abbrev pub isVisited : Sheet → ℕ → Bool
+isVisited s r =
+    is s ASSIGN r || is s BREAK r || is s CONTINUE r || is s IDENTIFIER r || is s HOST-CONSTANT r || is s LITERAL r || is s INSTANCEOF r
 
 -- what happens after the parts of row r: a scope closes; a let that was not declared first declares its name, if its value
 -- is no literal; the other rows that ask something are visited
 abbrev pub after : Sheet → ℕ → List Event
 after s r =
-    if is s 2 r || is s 6 r || is s 25 r || is s 27 r then leave ∷ []
-    else if is s 29 r then (if is s 52 (child s r) then [] else declare r ∷ [])
-    else if is s 21 r || is s 23 r || is s 24 r || is s 50 r || is s 51 r || is s 52 r || is s 55 r then visit r ∷ []
+    if opensScope s r then leave ∷ []
+    else if is s LET r then (if is s LITERAL (child s r) then [] else declare r ∷ [])
+    else if isVisited s r then visit r ∷ []
     else []
 
 -- is row k walked as a part: a unit, a function, a statement, an expression or a pair?
 abbrev pub isPart : Sheet → ℕ → Bool
-isPart s k = is s 2 k || is s 6 k || leb 20 (kind s k)
+isPart s k = is s UNIT k || is s FUNCTION k || leb 20 (kind s k)
 
 -- the rows that are walked as parts of row r: a class declaration's are the methods of its class
 abbrev pub parts : Sheet → ℕ → List ℕ
-parts s r = filter (isPart s) (kids s (if is s 30 r then a s r else r))
+parts s r = filter (isPart s) (kids s (if is s CLASS-DECLARATION r then a s r else r))
 
 -- the parts ks of row r, from part i on, each walked by `walk`
 abbrev pub each : (ℕ → List Event) → Sheet → ℕ → ℕ → List ℕ → List Event
