@@ -45,7 +45,9 @@ fn emit_row(results: &[u32], row: u32, k: usize, out: &mut [u32]) -> usize
 
 // An identifier has a row unless it is the base of a method called on a class.
 fn emit_shown(results: &[u32], row: u32, k: usize, out: &mut [u32]) -> usize
-    ensures { λ n. ⌜ sink n (now (out .exit)) ≡ emitAll (if eqb (cell (now (results .entry)) row 4) 0 then answerRow row (rowWords (now (results .entry)) row) ∷ [] else []) (sink k (now (out .entry))) ⌝ }
+    ensures { λ n. ⌜ sink n (now (out .exit))
+        ≡ emitAll (if eqb (cell (now (results .entry)) row 4) 0 then answerRow row (rowWords (now (results .entry)) row) ∷ [] else [])
+        (sink k (now (out .entry))) ⌝ }
 {
     if word(results, row, result::HIDDEN) != 0 {
         return k;
@@ -55,7 +57,9 @@ fn emit_shown(results: &[u32], row: u32, k: usize, out: &mut [u32]) -> usize
 
 // A member has a row if it is the callee of such a call.
 fn emit_member(results: &[u32], row: u32, k: usize, out: &mut [u32]) -> usize
-    ensures { λ n. ⌜ sink n (now (out .exit)) ≡ emitAll (if eqb (cell (now (results .entry)) row 0) 0 then [] else answerRow row (rowWords (now (results .entry)) row) ∷ []) (sink k (now (out .entry))) ⌝ }
+    ensures { λ n. ⌜ sink n (now (out .exit))
+        ≡ emitAll (if eqb (cell (now (results .entry)) row 0) 0 then [] else answerRow row (rowWords (now (results .entry)) row) ∷ [])
+        (sink k (now (out .entry))) ⌝ }
 {
     if word(results, row, result::CODE) == 0 {
         return k;
@@ -78,8 +82,14 @@ fn emit_of(
     k: usize,
     out: &mut [u32],
 ) -> usize
-    requires { ⌜ (RowsReady (over (now outside)) (now sheet) (storeOf store (now results) (now nodes)) (now literals) (now siblings) (now subclassed)) × (row < rows (now sheet)) × (Placed (over (now outside)) (now sheet) (now results) (now nodes) (now starts) (now out) row k) ⌝ }
-    ensures { λ n. ⌜ (sink n (now (out .exit)) ≡ emitAll (rowsIn (over (now (outside .entry))) (now (sheet .entry)) (storeOf store (now (results .entry)) (now (nodes .entry))) row) (sink k (now (out .entry)))) × (Placed (over (now (outside .entry))) (now (sheet .entry)) (now (results .entry)) (now (nodes .entry)) (now (starts .exit)) (now (out .exit)) (row + 1) n) ⌝ }
+    requires { ⌜ (RowsReady (over (now outside)) (now sheet) (storeOf store (now results) (now nodes)) (now literals) (now siblings)
+        (now subclassed)) × (row < rows (now sheet))
+        × (Placed (over (now outside)) (now sheet) (now results) (now nodes) (now starts) (now out) row k) ⌝ }
+    ensures { λ n. ⌜ (sink n (now (out .exit))
+        ≡ emitAll (rowsIn (over (now (outside .entry))) (now (sheet .entry))
+        (storeOf store (now (results .entry)) (now (nodes .entry))) row) (sink k (now (out .entry))))
+        × (Placed (over (now (outside .entry))) (now (sheet .entry)) (now (results .entry)) (now (nodes .entry)) (now (starts .exit))
+        (now (out .exit)) (row + 1) n) ⌝ }
 {
     let kind = word(sheet, row, column::KIND);
     match kind {
@@ -127,8 +137,11 @@ fn emit_each(
     starts: &mut [usize],
     out: &mut [u32],
 ) -> usize
-    requires { ⌜ (RowsReady (over (now outside)) (now sheet) (storeOf store (now results) (now nodes)) (now literals) (now siblings) (now subclassed)) × (now starts ≡ replicate 2048 0) ⌝ }
-    ensures { λ n. ⌜ sink n (now (out .exit)) ≡ emitAll (answersIn (over (now (outside .entry))) (now (sheet .entry)) (storeOf store (now (results .entry)) (now (nodes .entry)))) (sink 0 (now (out .entry))) ⌝ }
+    requires { ⌜ (RowsReady (over (now outside)) (now sheet) (storeOf store (now results) (now nodes)) (now literals) (now siblings)
+        (now subclassed)) × (now starts ≡ replicate 2048 0) ⌝ }
+    ensures { λ n. ⌜ sink n (now (out .exit))
+        ≡ emitAll (answersIn (over (now (outside .entry))) (now (sheet .entry)) (storeOf store (now (results .entry)) (now (nodes .entry))))
+        (sink 0 (now (out .entry))) ⌝ }
 {
     let mut k: usize = 0;
     let mut row: usize = 0;
@@ -165,8 +178,12 @@ fn emit_linked(
     starts: &mut [usize],
     out: &mut [u32],
 ) -> usize
-    requires { ⌜ (PastFour (over (now outside)) (now sheet)) × (StoreReads (over (now outside)) (now sheet) (storeOf store (now results) (now nodes))) × (Scratch (now sheet) (now literals) (now siblings) (now subclassed)) × (now starts ≡ replicate 2048 0) ⌝ }
-    ensures { λ n. ⌜ sink n (now (out .exit)) ≡ emitAll (answersIn (over (now (outside .entry))) (now (sheet .entry)) (storeOf store (now (results .entry)) (now (nodes .entry)))) (sink 0 (now (out .entry))) ⌝ }
+    requires { ⌜ (PastFour (over (now outside)) (now sheet))
+        × (StoreReads (over (now outside)) (now sheet) (storeOf store (now results) (now nodes)))
+        × (Scratch (now sheet) (now literals) (now siblings) (now subclassed)) × (now starts ≡ replicate 2048 0) ⌝ }
+    ensures { λ n. ⌜ sink n (now (out .exit))
+        ≡ emitAll (answersIn (over (now (outside .entry))) (now (sheet .entry)) (storeOf store (now (results .entry)) (now (nodes .entry))))
+        (sink 0 (now (out .entry))) ⌝ }
 {
     link_literals(sheet, results, literals, siblings);
     mark_parents(sheet, results, subclassed);
@@ -193,8 +210,11 @@ pub fn emit_rows(
     store: Store,
     out: &mut [u32],
 ) -> usize
-    requires { ⌜ (PastFour (over (now outside)) (now sheet)) × (StoreReads (over (now outside)) (now sheet) (storeOf store (now results) (now nodes))) ⌝ }
-    ensures { λ n. ⌜ sink n (now (out .exit)) ≡ emitAll (answersIn (over (now (outside .entry))) (now (sheet .entry)) (storeOf store (now (results .entry)) (now (nodes .entry)))) (sink 0 (now (out .entry))) ⌝ }
+    requires { ⌜ (PastFour (over (now outside)) (now sheet))
+        × (StoreReads (over (now outside)) (now sheet) (storeOf store (now results) (now nodes))) ⌝ }
+    ensures { λ n. ⌜ sink n (now (out .exit))
+        ≡ emitAll (answersIn (over (now (outside .entry))) (now (sheet .entry)) (storeOf store (now (results .entry)) (now (nodes .entry))))
+        (sink 0 (now (out .entry))) ⌝ }
 {
     let mut literals = [0u32; 2048];
     let mut siblings = [0u32; 2048];

@@ -49,7 +49,9 @@ fn is_own(
     c: ClassId,
     m: u32,
 ) -> bool
-    ensures { λ x. ⌜ ((o : Store) → x ≡ (m ∈? ownIn (over (now (outside .entry))) (now (sheet .entry)) (storeOf o (now (results .entry)) (now (nodes .entry))) kind (c .0))) ⌝ }
+    ensures { λ x. ⌜ ((o : Store) → x ≡
+        (m ∈? ownIn (over (now (outside .entry))) (now (sheet .entry))
+        (storeOf o (now (results .entry)) (now (nodes .entry))) kind (c .0))) ⌝ }
 {
     if is_class_row(sheet, c) {
         return is_row_name(sheet, results, nodes, kind, c.0 - FIRST_CLASS, m);
@@ -68,7 +70,9 @@ fn has_name(
     c: ClassId,
     m: u32,
 ) -> bool
-    ensures { λ x. ⌜ ((o : Store) → x ≡ (m ∈? namesIn (over (now (outside .entry))) (now (sheet .entry)) (storeOf o (now (results .entry)) (now (nodes .entry))) kind n (c .0))) ⌝ }
+    ensures { λ x. ⌜ ((o : Store) → x ≡
+        (m ∈? namesIn (over (now (outside .entry))) (now (sheet .entry))
+        (storeOf o (now (results .entry)) (now (nodes .entry))) kind n (c .0))) ⌝ }
 {
     let mut at = c.0;
     let mut left = n;
@@ -97,7 +101,9 @@ pub fn is_inherited(
     p: ClassId,
     m: u32,
 ) -> bool
-    ensures { λ x. ⌜ ((o : Store) → x ≡ (m ∈? inherited (over (now (outside .entry))) (now (sheet .entry)) (storeOf o (now (results .entry)) (now (nodes .entry))) kind n (p .0))) ⌝ }
+    ensures { λ x. ⌜ ((o : Store) → x ≡
+        (m ∈? inherited (over (now (outside .entry))) (now (sheet .entry))
+        (storeOf o (now (results .entry)) (now (nodes .entry))) kind n (p .0))) ⌝ }
 {
     if p.0 == 0 {
         return false;

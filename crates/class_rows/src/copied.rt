@@ -20,7 +20,9 @@ use words::one_more;
 
 // The own method of name `m` of a class, else function `f`.
 fn own_or(sheet: &[u32], outside: &[u32], c: ClassId, m: u32, f: FunId) -> FunId
-    ensures { λ x. ⌜ x .0 ≡ (if eqb (methodNamed m (ownMethods (over (now (outside .entry))) (now (sheet .entry)) (c .0))) 0 then f .0 else methodNamed m (ownMethods (over (now (outside .entry))) (now (sheet .entry)) (c .0))) ⌝ }
+    ensures { λ x. ⌜ x .0 ≡
+        (if eqb (methodNamed m (ownMethods (over (now (outside .entry))) (now (sheet .entry)) (c .0))) 0 then f .0 else methodNamed m
+        (ownMethods (over (now (outside .entry))) (now (sheet .entry)) (c .0))) ⌝ }
 {
     let own = own_method(sheet, outside, c, m).fun;
     if own.0 == 0 { f } else { own }
@@ -71,7 +73,8 @@ fn put_copy(
     out: &mut [u32],
 ) -> Written
     requires { ⌜ at < length (now out) / 8 ⌝ }
-    ensures { λ x. ⌜ filled x (now (out .exit)) ≡ put (copiedRow (over (now (outside .entry))) (now (sheet .entry)) wanted (now (out .entry))) at (filled k (now (out .entry))) ⌝ }
+    ensures { λ x. ⌜ filled x (now (out .exit))
+        ≡ put (copiedRow (over (now (outside .entry))) (now (sheet .entry)) wanted (now (out .entry))) at (filled k (now (out .entry))) ⌝ }
 {
     let x = copied_row(sheet, outside, out, wanted, at, k.slot);
     let count = emit(out, k.count, x);
@@ -93,7 +96,9 @@ pub fn put_copied(
     out: &mut [u32],
 ) -> Written
     requires { ⌜ (i + n ≤ k .count) × (i + n ≤ length (now out) / 8) ⌝ }
-    ensures { λ x. ⌜ filled x (now (out .exit)) ≡ putAll (copiedRow (over (now (outside .entry))) (now (sheet .entry)) wanted (now (out .entry))) (from i n) (filled k (now (out .entry))) ⌝ }
+    ensures { λ x. ⌜ filled x (now (out .exit))
+        ≡ putAll (copiedRow (over (now (outside .entry))) (now (sheet .entry)) wanted (now (out .entry))) (from i n)
+        (filled k (now (out .entry))) ⌝ }
 {
     let mut done = k;
     let mut at = i;

@@ -72,8 +72,12 @@ fn class_head(
     methods: Above,
     row: u32,
 ) -> AnswerRow
-    requires { ⌜ (ClassReady (over (now outside)) (now sheet) (now results) (now nodes) (now subclassed) row) × (Counted (over (now outside)) (now sheet) (now results) (now nodes) 10 (256 + row) fields) × (Counted (over (now outside)) (now sheet) (now results) (now nodes) 6 (256 + row) methods) ⌝ }
-    ensures { λ x. ⌜ ((o : Store) → wordsOf x ≡ eight (row ∷ headWords (over (now (outside .entry))) (now (sheet .entry)) (storeOf o (now (results .entry)) (now (nodes .entry))) row)) ⌝ }
+    requires { ⌜ (ClassReady (over (now outside)) (now sheet) (now results) (now nodes) (now subclassed) row)
+        × (Counted (over (now outside)) (now sheet) (now results) (now nodes) 10 (256 + row) fields)
+        × (Counted (over (now outside)) (now sheet) (now results) (now nodes) 6 (256 + row) methods) ⌝ }
+    ensures { λ x. ⌜ ((o : Store) → wordsOf x
+        ≡ eight (row ∷ headWords (over (now (outside .entry))) (now (sheet .entry))
+        (storeOf o (now (results .entry)) (now (nodes .entry))) row)) ⌝ }
 {
     let parent = parent_of(sheet, results, ClassId(FIRST_CLASS + row)).0;
     let children = mark_bit(subclassed, row);
@@ -116,8 +120,13 @@ fn write_class(
     k: usize,
     out: &mut [u32],
 ) -> usize
-    requires { ⌜ (ClassReady (over (now outside)) (now sheet) (now results) (now nodes) (now subclassed) row) × (Shown (over (now outside)) (now sheet) (now results) (now nodes) 10 (256 + row) (now out) k fields) × (Shown (over (now outside)) (now sheet) (now results) (now nodes) 6 (256 + row) (now out) k methods) ⌝ }
-    ensures { λ x. ⌜ ((o : Store) → sink x (now (out .exit)) ≡ emitAll (map (λ vs. eight (row ∷ vs)) (classRowsNamed (over (now (outside .entry))) (now (sheet .entry)) (storeOf o (now (results .entry)) (now (nodes .entry))) row)) (sink k (now (out .entry)))) ⌝ }
+    requires { ⌜ (ClassReady (over (now outside)) (now sheet) (now results) (now nodes) (now subclassed) row)
+        × (Shown (over (now outside)) (now sheet) (now results) (now nodes) 10 (256 + row) (now out) k fields)
+        × (Shown (over (now outside)) (now sheet) (now results) (now nodes) 6 (256 + row) (now out) k methods) ⌝ }
+    ensures { λ x. ⌜ ((o : Store) → sink x (now (out .exit))
+        ≡ emitAll (map (λ vs. eight (row ∷ vs))
+        (classRowsNamed (over (now (outside .entry))) (now (sheet .entry)) (storeOf o (now (results .entry)) (now (nodes .entry))) row))
+        (sink k (now (out .entry)))) ⌝ }
 {
     let head = class_head(
         sheet,
@@ -172,8 +181,14 @@ pub fn emit_class(
     k: usize,
     out: &mut [u32],
 ) -> usize
-    requires { ⌜ (ClassReady (over (now outside)) (now sheet) (now results) (now nodes) (now subclassed) row) × (Placed (over (now outside)) (now sheet) (now results) (now nodes) (now starts) (now out) row k) ⌝ }
-    ensures { λ x. ⌜ ((o : Store) → sink x (now (out .exit)) ≡ emitAll (map (λ vs. eight (row ∷ vs)) (classRowsNamed (over (now (outside .entry))) (now (sheet .entry)) (storeOf o (now (results .entry)) (now (nodes .entry))) row)) (sink k (now (out .entry)))) × (Placed (over (now (outside .entry))) (now (sheet .entry)) (now (results .entry)) (now (nodes .entry)) (now (starts .exit)) (now (out .exit)) (row + 1) x) ⌝ }
+    requires { ⌜ (ClassReady (over (now outside)) (now sheet) (now results) (now nodes) (now subclassed) row)
+        × (Placed (over (now outside)) (now sheet) (now results) (now nodes) (now starts) (now out) row k) ⌝ }
+    ensures { λ x. ⌜ ((o : Store) → sink x (now (out .exit))
+        ≡ emitAll (map (λ vs. eight (row ∷ vs))
+        (classRowsNamed (over (now (outside .entry))) (now (sheet .entry)) (storeOf o (now (results .entry)) (now (nodes .entry))) row))
+        (sink k (now (out .entry)))) ×
+        (Placed (over (now (outside .entry))) (now (sheet .entry)) (now (results .entry)) (now (nodes .entry)) (now (starts .exit))
+        (now (out .exit)) (row + 1) x) ⌝ }
 {
     let room = out.len() / 8;
     if room <= k {

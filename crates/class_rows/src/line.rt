@@ -30,8 +30,12 @@ pub fn put_line(
     k: Written,
     out: &mut [u32],
 ) -> Written
-    requires { ⌜ (0 < rows (now sheet)) × (Shown (over (now outside)) (now sheet) (now results) (now nodes) (wanted .kind) (wanted .class .0) (now out) (k .count) a) ⌝ }
-    ensures { λ x. ⌜ ((o : Store) → filled x (now (out .exit)) ≡ putAll (nameRow (over (now (outside .entry))) (now (sheet .entry)) (storeOf o (now (results .entry)) (now (nodes .entry))) wanted) (namesIn (over (now (outside .entry))) (now (sheet .entry)) (storeOf o (now (results .entry)) (now (nodes .entry))) (wanted .kind) (rows (now (sheet .entry))) (wanted .class .0)) (filled k (now (out .entry)))) ⌝ }
+    requires { ⌜ (0 < rows (now sheet)) ×
+        (Shown (over (now outside)) (now sheet) (now results) (now nodes) (wanted .kind) (wanted .class .0) (now out) (k .count) a) ⌝ }
+    ensures { λ x. ⌜ ((o : Store) → filled x (now (out .exit))
+        ≡ putAll (nameRow (over (now (outside .entry))) (now (sheet .entry)) (storeOf o (now (results .entry)) (now (nodes .entry))) wanted)
+        (namesIn (over (now (outside .entry))) (now (sheet .entry)) (storeOf o (now (results .entry)) (now (nodes .entry))) (wanted .kind)
+        (rows (now (sheet .entry))) (wanted .class .0)) (filled k (now (out .entry)))) ⌝ }
 {
     let n = sheet.len() / 8;
     let c = wanted.class;
@@ -56,7 +60,9 @@ pub fn count_line(
     a: Above,
 ) -> u32
     requires { ⌜ (0 < rows (now sheet)) × (Counted (over (now outside)) (now sheet) (now results) (now nodes) (wanted .kind) (wanted .class .0) a) ⌝ }
-    ensures { λ x. ⌜ ((o : Store) → x ≡ min (length (namesIn (over (now (outside .entry))) (now (sheet .entry)) (storeOf o (now (results .entry)) (now (nodes .entry))) (wanted .kind) (rows (now (sheet .entry))) (wanted .class .0))) 4294967295) ⌝ }
+    ensures { λ x. ⌜ ((o : Store) → x ≡ min
+        (length (namesIn (over (now (outside .entry))) (now (sheet .entry)) (storeOf o (now (results .entry)) (now (nodes .entry)))
+        (wanted .kind) (rows (now (sheet .entry))) (wanted .class .0))) 4294967295) ⌝ }
 {
     let n = sheet.len() / 8;
     let c = wanted.class;

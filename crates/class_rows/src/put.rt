@@ -61,7 +61,8 @@ fn name_row(
     m: u32,
     i: u32,
 ) -> AnswerRow
-    ensures { λ x. ⌜ ((o : Store) (nodes : List ℕ) → wordsOf x ≡ nameRow (over (now (outside .entry))) (now (sheet .entry)) (storeOf o (now (results .entry)) nodes) wanted m i) ⌝ }
+    ensures { λ x. ⌜ ((o : Store) (nodes : List ℕ) → wordsOf x
+        ≡ nameRow (over (now (outside .entry))) (now (sheet .entry)) (storeOf o (now (results .entry)) nodes) wanted m i) ⌝ }
 {
     if wanted.kind == kind::FIELD {
         return AnswerRow {
@@ -94,7 +95,9 @@ fn put_name(
     k: Written,
     out: &mut [u32],
 ) -> Written
-    ensures { λ x. ⌜ ((o : Store) (nodes : List ℕ) → filled x (now (out .exit)) ≡ put (nameRow (over (now (outside .entry))) (now (sheet .entry)) (storeOf o (now (results .entry)) nodes) wanted) m (filled k (now (out .entry)))) ⌝ }
+    ensures { λ x. ⌜ ((o : Store) (nodes : List ℕ) → filled x (now (out .exit))
+        ≡ put (nameRow (over (now (outside .entry))) (now (sheet .entry)) (storeOf o (now (results .entry)) nodes) wanted) m
+        (filled k (now (out .entry)))) ⌝ }
 {
     let x = name_row(sheet, outside, results, wanted, m, k.slot);
     let count = emit(out, k.count, x);
@@ -117,7 +120,9 @@ fn put_new(
     k: Written,
     out: &mut [u32],
 ) -> Written
-    ensures { λ x. ⌜ ((o : Store) → filled x (now (out .exit)) ≡ putNew (over (now (outside .entry))) (now (sheet .entry)) (storeOf o (now (results .entry)) (now (nodes .entry))) wanted p (m ∷ []) (filled k (now (out .entry)))) ⌝ }
+    ensures { λ x. ⌜ ((o : Store) → filled x (now (out .exit))
+        ≡ putNew (over (now (outside .entry))) (now (sheet .entry)) (storeOf o (now (results .entry)) (now (nodes .entry))) wanted p
+        (m ∷ []) (filled k (now (out .entry)))) ⌝ }
 {
     if is_inherited(
         sheet,
@@ -146,7 +151,9 @@ fn put_recorded(
     k: Written,
     out: &mut [u32],
 ) -> Written
-    ensures { λ x. ⌜ ((o : Store) → filled x (now (out .exit)) ≡ putNew (over (now (outside .entry))) (now (sheet .entry)) (storeOf o (now (results .entry)) (now (nodes .entry))) wanted p (listed (now (outside .entry)) names) (filled k (now (out .entry)))) ⌝ }
+    ensures { λ x. ⌜ ((o : Store) → filled x (now (out .exit))
+        ≡ putNew (over (now (outside .entry))) (now (sheet .entry)) (storeOf o (now (results .entry)) (now (nodes .entry))) wanted p
+        (listed (now (outside .entry)) names) (filled k (now (out .entry)))) ⌝ }
 {
     let step = step_of(names.kind);
     let mut done = k;
@@ -182,7 +189,9 @@ fn put_listed(
     k: Written,
     out: &mut [u32],
 ) -> Written
-    ensures { λ x. ⌜ ((o : Store) → filled x (now (out .exit)) ≡ putNew (over (now (outside .entry))) (now (sheet .entry)) (storeOf o (now (results .entry)) (now (nodes .entry))) wanted p (map (a (now (sheet .entry))) (kidsOf (now (sheet .entry)) (wanted .kind) r)) (filled k (now (out .entry)))) ⌝ }
+    ensures { λ x. ⌜ ((o : Store) → filled x (now (out .exit))
+        ≡ putNew (over (now (outside .entry))) (now (sheet .entry)) (storeOf o (now (results .entry)) (now (nodes .entry))) wanted p
+        (map (a (now (sheet .entry))) (kidsOf (now (sheet .entry)) (wanted .kind) r)) (filled k (now (out .entry)))) ⌝ }
 {
     let mut done = k;
     let mut left = sheet.len() / 8;
@@ -223,7 +232,9 @@ fn put_stored(
     k: Written,
     out: &mut [u32],
 ) -> Written
-    ensures { λ x. ⌜ ((o : Store) → filled x (now (out .exit)) ≡ putNew (over (now (outside .entry))) (now (sheet .entry)) (storeOf o (now (results .entry)) (now (nodes .entry))) wanted p (map (λ y. y .key) (chainTo (now (nodes .entry)) last)) (filled k (now (out .entry)))) ⌝ }
+    ensures { λ x. ⌜ ((o : Store) → filled x (now (out .exit))
+        ≡ putNew (over (now (outside .entry))) (now (sheet .entry)) (storeOf o (now (results .entry)) (now (nodes .entry))) wanted p
+        (map (λ y. y .key) (chainTo (now (nodes .entry)) last)) (filled k (now (out .entry)))) ⌝ }
 {
     if last == 0 {
         return k;
@@ -256,7 +267,10 @@ pub fn put_own(
     k: Written,
     out: &mut [u32],
 ) -> Written
-    ensures { λ x. ⌜ ((o : Store) → filled x (now (out .exit)) ≡ putNew (over (now (outside .entry))) (now (sheet .entry)) (storeOf o (now (results .entry)) (now (nodes .entry))) wanted p (ownIn (over (now (outside .entry))) (now (sheet .entry)) (storeOf o (now (results .entry)) (now (nodes .entry))) (wanted .kind) (c .0)) (filled k (now (out .entry)))) ⌝ }
+    ensures { λ x. ⌜ ((o : Store) → filled x (now (out .exit))
+        ≡ putNew (over (now (outside .entry))) (now (sheet .entry)) (storeOf o (now (results .entry)) (now (nodes .entry))) wanted p
+        (ownIn (over (now (outside .entry))) (now (sheet .entry)) (storeOf o (now (results .entry)) (now (nodes .entry))) (wanted .kind)
+        (c .0)) (filled k (now (out .entry)))) ⌝ }
 {
     if is_class_row(sheet, c) {
         let r = c.0 - FIRST_CLASS;
@@ -292,7 +306,10 @@ pub fn put_names(
     k: Written,
     out: &mut [u32],
 ) -> Written
-    ensures { λ x. ⌜ ((o : Store) → filled x (now (out .exit)) ≡ putAll (nameRow (over (now (outside .entry))) (now (sheet .entry)) (storeOf o (now (results .entry)) (now (nodes .entry))) wanted) (namesIn (over (now (outside .entry))) (now (sheet .entry)) (storeOf o (now (results .entry)) (now (nodes .entry))) (wanted .kind) n (c .0)) (filled k (now (out .entry)))) ⌝ }
+    ensures { λ x. ⌜ ((o : Store) → filled x (now (out .exit))
+        ≡ putAll (nameRow (over (now (outside .entry))) (now (sheet .entry)) (storeOf o (now (results .entry)) (now (nodes .entry))) wanted)
+        (namesIn (over (now (outside .entry))) (now (sheet .entry)) (storeOf o (now (results .entry)) (now (nodes .entry))) (wanted .kind) n
+        (c .0)) (filled k (now (out .entry)))) ⌝ }
 {
     if n == 0 {
         return k;
@@ -319,7 +336,9 @@ pub fn count_names(
     n: usize,
     c: ClassId,
 ) -> u32
-    ensures { λ x. ⌜ ((o : Store) → x ≡ min (length (namesIn (over (now (outside .entry))) (now (sheet .entry)) (storeOf o (now (results .entry)) (now (nodes .entry))) (wanted .kind) n (c .0))) 4294967295) ⌝ }
+    ensures { λ x. ⌜ ((o : Store) → x ≡ min
+        (length (namesIn (over (now (outside .entry))) (now (sheet .entry)) (storeOf o (now (results .entry)) (now (nodes .entry)))
+        (wanted .kind) n (c .0))) 4294967295) ⌝ }
 {
     let mut none = [0u32; 1];
     let start = Written { count: 0, slot: 0 };

@@ -23,7 +23,10 @@ use walk::state::Walk;
 // The first no of questions 18 to 21, with marks of the classes climbed through for 2,048 rows.
 fn ask_later(sheet: &[u32], outside: &[u32], results: &[u32], nodes: &[u32], calls: u32) -> Refusal
     requires { ⌜ PastFour (over (now outside)) (now sheet) ⌝ }
-    ensures { λ x. ⌜ ((o : Store) → o .calls ≡ calls → refusalOf x ≡ firstNo (classesRefusal (over (now (outside .entry))) (now (sheet .entry)) (storeOf o (now (results .entry)) (now (nodes .entry))) ∷ callsRefusal (over (now (outside .entry))) (now (sheet .entry)) (storeOf o (now (results .entry)) (now (nodes .entry))) ∷ [])) ⌝ }
+    ensures { λ x. ⌜ ((o : Store) → o .calls ≡ calls → refusalOf x
+        ≡ firstNo (classesRefusal (over (now (outside .entry))) (now (sheet .entry))
+        (storeOf o (now (results .entry)) (now (nodes .entry))) ∷ callsRefusal (over (now (outside .entry))) (now (sheet .entry))
+        (storeOf o (now (results .entry)) (now (nodes .entry))) ∷ [])) ⌝ }
 {
     let mut climbed = [0u32; 2048];
     later_refusal(sheet, outside, results, nodes, &mut climbed, calls)
@@ -39,7 +42,9 @@ fn write_answer(
     globals: u32,
     out: &mut [u32],
 ) -> Answer
-    requires { ⌜ (PastFour (over (now outside)) (now sheet)) × (StoreReads (over (now outside)) (now sheet) (storeOf store (now results) (now nodes))) × (Accepted (over (now outside)) (now sheet) (storeOf store (now results) (now nodes)) globals) ⌝ }
+    requires { ⌜ (PastFour (over (now outside)) (now sheet))
+        × (StoreReads (over (now outside)) (now sheet) (storeOf store (now results) (now nodes)))
+        × (Accepted (over (now outside)) (now sheet) (storeOf store (now results) (now nodes)) globals) ⌝ }
     ensures { λ x. ⌜ Settled (over (now (outside .entry))) (now (sheet .entry)) (length (now (out .entry))) x (now (out .exit)) ⌝ }
 {
     let n = emit_rows(sheet, outside, results, nodes, store, out);
@@ -55,7 +60,9 @@ pub fn finish(
     walk: Walk,
     out: &mut [u32],
 ) -> Answer
-    requires { ⌜ (PastFour (over (now outside)) (now sheet)) × ((entries : List ℕ) → Walked (over (now outside)) (now sheet) (stateOf walk entries (now results) (now nodes))) × (walk .number ≡ 0) ⌝ }
+    requires { ⌜ (PastFour (over (now outside)) (now sheet))
+        × ((entries : List ℕ) → Walked (over (now outside)) (now sheet) (stateOf walk entries (now results) (now nodes))) ×
+        (walk .number ≡ 0) ⌝ }
     ensures { λ x. ⌜ Settled (over (now (outside .entry))) (now (sheet .entry)) (length (now (out .entry))) x (now (out .exit)) ⌝ }
 {
     let store = walk.store;

@@ -27,7 +27,8 @@ use words::word;
 
 // Is node `i` of a capture list the mutable local of function `f` in slot `j`?
 fn is_slot(sheet: &[u32], nodes: &[u32], i: u32, f: FunId, j: u32) -> bool
-    ensures { λ x. ⌜ x ≡ (isMutable (now (sheet .entry)) (meaningOfNode (nodeAt (now (nodes .entry)) i)) && eqb (nodeAt (now (nodes .entry)) i .one) (f .0) && eqb (nodeAt (now (nodes .entry)) i .two) j) ⌝ }
+    ensures { λ x. ⌜ x ≡ (isMutable (now (sheet .entry)) (meaningOfNode (nodeAt (now (nodes .entry)) i)) && eqb
+        (nodeAt (now (nodes .entry)) i .one) (f .0) && eqb (nodeAt (now (nodes .entry)) i .two) j) ⌝ }
 {
     let d = captured_at(nodes, i);
     if !is_mutable(sheet, d) {
@@ -103,7 +104,8 @@ pub fn count_escapes(
     f: FunId,
 ) -> u32
     requires { ⌜ (f .0 < rows (now sheet)) × (LiteralChains (now sheet) (now results) (now literals) (now siblings)) ⌝ }
-    ensures { λ x. ⌜ ((o : Store) → x ≡ length (escapingSlots (now (sheet .entry)) (storeOf o (now (results .entry)) (now (nodes .entry))) (f .0))) ⌝ }
+    ensures { λ x. ⌜ ((o : Store) → x ≡ length
+        (escapingSlots (now (sheet .entry)) (storeOf o (now (results .entry)) (now (nodes .entry))) (f .0))) ⌝ }
 {
     let n = slots_asked(results, literals, f);
     let mut j = 0;
@@ -131,7 +133,9 @@ pub fn emit_escapes(
 ) -> usize
     requires { ⌜ (f .0 < rows (now sheet)) × (LiteralChains (now sheet) (now results) (now literals) (now siblings)) ⌝ }
     ensures { λ n. ⌜ ((o : Store) → sink n (now (out .exit))
-        ≡ emitAll (map (λ j. eight (f .0 ∷ 5 ∷ j ∷ f .0 ∷ 1 ∷ [])) (escapingSlots (now (sheet .entry)) (storeOf o (now (results .entry)) (now (nodes .entry))) (f .0))) (sink k (now (out .entry)))) ⌝ }
+        ≡ emitAll (map (λ j. eight (f .0 ∷ 5 ∷ j ∷ f .0 ∷ 1 ∷ []))
+        (escapingSlots (now (sheet .entry)) (storeOf o (now (results .entry)) (now (nodes .entry))) (f .0)))
+        (sink k (now (out .entry)))) ⌝ }
 {
     let last = slots_asked(results, literals, f);
     let mut j = 0;

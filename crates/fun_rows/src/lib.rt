@@ -59,7 +59,13 @@ fn emit_decl(row: u32, d: Decl, k: usize, out: &mut [u32]) -> usize
 
 // The local or argument that node `i` of a capture list stands for.
 fn captured_at(nodes: &[u32], i: u32) -> OpenDecl
-    ensures { λ x. ⌜ x ≡ record { tag = 6; first = nodeWord (now (nodes .entry)) i 1; second = nodeWord (now (nodes .entry)) i 2; slot = nodeWord (now (nodes .entry)) i 3 } ⌝ }
+    ensures { λ x. ⌜ x ≡ record {
+      tag = 6;
+      first = nodeWord (now (nodes .entry)) i 1;
+      second = nodeWord
+          (now (nodes .entry)) i 2;
+      slot = nodeWord (now (nodes .entry)) i 3;
+    } ⌝ }
 {
     OpenDecl {
         tag: tag::VARIABLE,
@@ -73,7 +79,8 @@ fn captured_at(nodes: &[u32], i: u32) -> OpenDecl
 fn emit_captured(sheet: &[u32], nodes: &[u32], row: u32, p: u32, k: usize, out: &mut [u32]) -> usize
     requires { ⌜ length (now sheet) ≤ 16384 ⌝ }
     ensures { λ n. ⌜ sink n (now (out .exit))
-        ≡ emitAll (map (λ y. eight (row ∷ codeOf (now (sheet .entry)) (meaningOfNode y) (y .two) 0)) (chainTo (now (nodes .entry)) p)) (sink k (now (out .entry))) ⌝ }
+        ≡ emitAll (map (λ y. eight (row ∷ codeOf (now (sheet .entry)) (meaningOfNode y) (y .two) 0)) (chainTo (now (nodes .entry)) p))
+        (sink k (now (out .entry))) ⌝ }
 {
     if p == 0 {
         return k;
@@ -97,7 +104,9 @@ fn emit_sources(
 ) -> usize
     requires { ⌜ length (now sheet) ≤ 16384 ⌝ }
     ensures { λ n. ⌜ ((o : Store) → sink n (now (out .exit))
-        ≡ emitAll (map (λ y. eight (row ∷ seenIn (now (sheet .entry)) (meaningOfNode y) (y .two) 0 (fun .0) (storeOf o (now (results .entry)) (now (nodes .entry))))) (chainTo (now (nodes .entry)) p)) (sink k (now (out .entry)))) ⌝ }
+        ≡ emitAll (map (λ y. eight
+        (row ∷ seenIn (now (sheet .entry)) (meaningOfNode y) (y .two) 0 (fun .0) (storeOf o (now (results .entry)) (now (nodes .entry)))))
+        (chainTo (now (nodes .entry)) p)) (sink k (now (out .entry)))) ⌝ }
 {
     if p == 0 {
         return k;
@@ -128,7 +137,8 @@ pub fn emit_literal(
 ) -> usize
     requires { ⌜ length (now sheet) ≤ 16384 ⌝ }
     ensures { λ n. ⌜ ((o : Store) → sink n (now (out .exit))
-        ≡ emitAll (map (λ vs. eight (row ∷ vs)) (literalRowsIn (now (sheet .entry)) (storeOf o (now (results .entry)) (now (nodes .entry))) row)) (sink k (now (out .entry)))) ⌝ }
+        ≡ emitAll (map (λ vs. eight (row ∷ vs))
+        (literalRowsIn (now (sheet .entry)) (storeOf o (now (results .entry)) (now (nodes .entry))) row)) (sink k (now (out .entry)))) ⌝ }
 {
     let fun = FunId(word(results, row, result::ONE));
     let last = word(results, word(sheet, row, column::CHILD), result::CAPTURES);
@@ -146,9 +156,12 @@ pub fn emit_function(
     k: usize,
     out: &mut [u32],
 ) -> usize
-    requires { ⌜ (length (now sheet) ≤ 16384) × (f .0 < rows (now sheet)) × (LiteralChains (now sheet) (now results) (now literals) (now siblings)) ⌝ }
+    requires { ⌜ (length (now sheet) ≤ 16384) × (f .0 < rows (now sheet))
+        × (LiteralChains (now sheet) (now results) (now literals) (now siblings)) ⌝ }
     ensures { λ n. ⌜ ((o : Store) → sink n (now (out .exit))
-        ≡ emitAll (map (λ vs. eight (f .0 ∷ vs)) (functionRowsIn (now (sheet .entry)) (storeOf o (now (results .entry)) (now (nodes .entry))) (f .0))) (sink k (now (out .entry)))) ⌝ }
+        ≡ emitAll (map (λ vs. eight (f .0 ∷ vs))
+        (functionRowsIn (now (sheet .entry)) (storeOf o (now (results .entry)) (now (nodes .entry))) (f .0)))
+        (sink k (now (out .entry)))) ⌝ }
 {
     let last = word(results, f.0, result::CAPTURES);
     let x = [

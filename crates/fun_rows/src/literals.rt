@@ -26,7 +26,8 @@ fn is_reached(sheet: &[u32], results: &[u32], l: u32) -> bool
 
 // Chains the literals, from the last row down. Row 0 is the header and no literal.
 pub fn link_literals(sheet: &[u32], results: &[u32], literals: &mut [u32], siblings: &mut [u32])
-    requires { ⌜ (length (now sheet) ≤ 16384) × (kind (now sheet) 0 ≡ 0) × (Clear (now literals)) × (rows (now sheet) ≤ length (now literals)) × (rows (now sheet) ≤ length (now siblings)) ⌝ }
+    requires { ⌜ (length (now sheet) ≤ 16384) × (kind (now sheet) 0 ≡ 0) × (Clear (now literals))
+        × (rows (now sheet) ≤ length (now literals)) × (rows (now sheet) ≤ length (now siblings)) ⌝ }
     ensures { λ _. ⌜ LiteralChains (now (sheet .entry)) (now (results .entry)) (now (literals .exit)) (now (siblings .exit)) ⌝ }
 {
     let mut l = (sheet.len() / 8) as u32;

@@ -66,7 +66,9 @@ fn exported(sheet: &[u32], x: u32, env: Env) -> OpenDecl
 // Import row `i` declares name `m` as export row `x`. Question 15: is there such an export? Question 16: is the name new in its scope?
 fn bring(sheet: &[u32], i: u32, m: u32, x: u32, walk: Walk, entries: &mut [u32]) -> Walk
     requires { ⌜ length (now sheet) ≤ 16384 ⌝ }
-    ensures { λ r. ⌜ ((O : Outside) (results nodes : List ℕ) → stateOf r (now (entries .exit)) results nodes ≡ stepState O (now (sheet .entry)) (brings i m (exportOf (now (sheet .entry)) x)) (stateOf walk (now (entries .entry)) results nodes)) ⌝ }
+    ensures { λ r. ⌜ ((O : Outside) (results nodes : List ℕ) → stateOf r (now (entries .exit)) results nodes
+        ≡ stepState O (now (sheet .entry)) (brings i m (exportOf (now (sheet .entry)) x))
+        (stateOf walk (now (entries .entry)) results nodes)) ⌝ }
 {
     if walk.number != 0 {
         return walk;
@@ -94,7 +96,9 @@ fn bring(sheet: &[u32], i: u32, m: u32, x: u32, walk: Walk, entries: &mut [u32])
 fn bring_if(sheet: &[u32], k: u32, kind: u32, i: u32, walk: Walk, entries: &mut [u32]) -> Walk
     requires { ⌜ length (now sheet) ≤ 16384 ⌝ }
     ensures { λ r. ⌜ ((O : Outside) (results nodes : List ℕ) → stateOf r (now (entries .exit)) results nodes
-        ≡ runState O (now (sheet .entry)) (if is (now (sheet .entry)) kind k then brings i (a (now (sheet .entry)) k) (exportOf (now (sheet .entry)) k) ∷ [] else []) (stateOf walk (now (entries .entry)) results nodes)) ⌝ }
+        ≡ runState O (now (sheet .entry))
+        (if is (now (sheet .entry)) kind k then brings i (a (now (sheet .entry)) k) (exportOf (now (sheet .entry)) k) ∷ [] else [])
+        (stateOf walk (now (entries .entry)) results nodes)) ⌝ }
 {
     if word(sheet, k, column::KIND) != kind {
         return walk;
@@ -106,7 +110,9 @@ fn bring_if(sheet: &[u32], k: u32, kind: u32, i: u32, walk: Walk, entries: &mut 
 fn import_kind(sheet: &[u32], u: u32, kind: u32, i: u32, walk: Walk, entries: &mut [u32]) -> Walk
     requires { ⌜ length (now sheet) ≤ 16384 ⌝ }
     ensures { λ r. ⌜ ((O : Outside) (results nodes : List ℕ) → stateOf r (now (entries .exit)) results nodes
-        ≡ runState O (now (sheet .entry)) (map (λ k. brings i (a (now (sheet .entry)) k) (exportOf (now (sheet .entry)) k)) (kidsOf (now (sheet .entry)) kind u)) (stateOf walk (now (entries .entry)) results nodes)) ⌝ }
+        ≡ runState O (now (sheet .entry))
+        (map (λ k. brings i (a (now (sheet .entry)) k) (exportOf (now (sheet .entry)) k)) (kidsOf (now (sheet .entry)) kind u))
+        (stateOf walk (now (entries .entry)) results nodes)) ⌝ }
 {
     let mut n = sheet.len() / 8;
     let mut k = word(sheet, u, column::CHILD);
@@ -126,7 +132,8 @@ fn import_kind(sheet: &[u32], u: u32, kind: u32, i: u32, walk: Walk, entries: &m
 fn import_all(sheet: &[u32], u: u32, i: u32, walk: Walk, entries: &mut [u32]) -> Walk
     requires { ⌜ length (now sheet) ≤ 16384 ⌝ }
     ensures { λ r. ⌜ ((O : Outside) (results nodes : List ℕ) → stateOf r (now (entries .exit)) results nodes
-        ≡ runState O (now (sheet .entry)) (map (λ y. brings i (y .name) (y .means)) (exports (now (sheet .entry)) u)) (stateOf walk (now (entries .entry)) results nodes)) ⌝ }
+        ≡ runState O (now (sheet .entry)) (map (λ y. brings i (y .name) (y .means)) (exports (now (sheet .entry)) u))
+        (stateOf walk (now (entries .entry)) results nodes)) ⌝ }
 {
     let x = import_kind(sheet, u, kind::FUNCTION_EXPORT, i, walk, entries);
     let y = import_kind(sheet, u, kind::CLASS, i, x, entries);
@@ -137,7 +144,10 @@ fn import_all(sheet: &[u32], u: u32, i: u32, walk: Walk, entries: &mut [u32]) ->
 fn bring_listed(sheet: &[u32], u: u32, i: u32, k: u32, walk: Walk, entries: &mut [u32]) -> Walk
     requires { ⌜ length (now sheet) ≤ 16384 ⌝ }
     ensures { λ r. ⌜ ((O : Outside) (results nodes : List ℕ) → stateOf r (now (entries .exit)) results nodes
-        ≡ runState O (now (sheet .entry)) (brings i (a (now (sheet .entry)) k) (firstWith (λ y. eqb (y .name) (a (now (sheet .entry)) k)) (named 0 nothing) (seen (now (sheet .entry)) u i) .means) ∷ []) (stateOf walk (now (entries .entry)) results nodes)) ⌝ }
+        ≡ runState O (now (sheet .entry))
+        (brings i (a (now (sheet .entry)) k)
+        (firstWith (λ y. eqb (y .name) (a (now (sheet .entry)) k)) (named 0 nothing) (seen (now (sheet .entry)) u i) .means) ∷ [])
+        (stateOf walk (now (entries .entry)) results nodes)) ⌝ }
 {
     let m = word(sheet, k, column::A);
     let x = find_export(sheet, u, i, m);
@@ -148,7 +158,10 @@ fn bring_listed(sheet: &[u32], u: u32, i: u32, k: u32, walk: Walk, entries: &mut
 fn import_listed(sheet: &[u32], u: u32, i: u32, walk: Walk, entries: &mut [u32]) -> Walk
     requires { ⌜ length (now sheet) ≤ 16384 ⌝ }
     ensures { λ r. ⌜ ((O : Outside) (results nodes : List ℕ) → stateOf r (now (entries .exit)) results nodes
-        ≡ runState O (now (sheet .entry)) (map (λ k. brings i (a (now (sheet .entry)) k) (firstWith (λ y. eqb (y .name) (a (now (sheet .entry)) k)) (named 0 nothing) (seen (now (sheet .entry)) u i) .means)) (kids (now (sheet .entry)) i)) (stateOf walk (now (entries .entry)) results nodes)) ⌝ }
+        ≡ runState O (now (sheet .entry))
+        (map (λ k. brings i (a (now (sheet .entry)) k)
+        (firstWith (λ y. eqb (y .name) (a (now (sheet .entry)) k)) (named 0 nothing) (seen (now (sheet .entry)) u i) .means))
+        (kids (now (sheet .entry)) i)) (stateOf walk (now (entries .entry)) results nodes)) ⌝ }
 {
     let mut n = sheet.len() / 8;
     let mut k = word(sheet, i, column::CHILD);
@@ -168,7 +181,9 @@ fn import_listed(sheet: &[u32], u: u32, i: u32, walk: Walk, entries: &mut [u32])
 fn import_seen(sheet: &[u32], u: u32, i: u32, walk: Walk, entries: &mut [u32]) -> Walk
     requires { ⌜ length (now sheet) ≤ 16384 ⌝ }
     ensures { λ r. ⌜ ((O : Outside) (results nodes : List ℕ) → stateOf r (now (entries .exit)) results nodes
-        ≡ runState O (now (sheet .entry)) (if eqb (b (now (sheet .entry)) i) 1 then map (λ y. brings i (y .name) (y .means)) (seen (now (sheet .entry)) u i) else []) (stateOf walk (now (entries .entry)) results nodes)) ⌝ }
+        ≡ runState O (now (sheet .entry))
+        (if eqb (b (now (sheet .entry)) i) 1 then map (λ y. brings i (y .name) (y .means)) (seen (now (sheet .entry)) u i) else [])
+        (stateOf walk (now (entries .entry)) results nodes)) ⌝ }
 {
     if word(sheet, i, column::B) != flag::IMPORT_ALL {
         return walk;
@@ -183,7 +198,8 @@ fn import_seen(sheet: &[u32], u: u32, i: u32, walk: Walk, entries: &mut [u32]) -
 // Import row `i` of unit row `u`: all that it sees, if it says so; then each listed name.
 fn import_one(sheet: &[u32], u: u32, i: u32, walk: Walk, entries: &mut [u32]) -> Walk
     requires { ⌜ length (now sheet) ≤ 16384 ⌝ }
-    ensures { λ r. ⌜ ((O : Outside) (results nodes : List ℕ) → stateOf r (now (entries .exit)) results nodes ≡ runState O (now (sheet .entry)) (imports (now (sheet .entry)) u i) (stateOf walk (now (entries .entry)) results nodes)) ⌝ }
+    ensures { λ r. ⌜ ((O : Outside) (results nodes : List ℕ) → stateOf r (now (entries .exit)) results nodes
+        ≡ runState O (now (sheet .entry)) (imports (now (sheet .entry)) u i) (stateOf walk (now (entries .entry)) results nodes)) ⌝ }
 {
     let x = import_seen(sheet, u, i, walk, entries);
     import_listed(sheet, u, i, x, entries)
@@ -193,7 +209,8 @@ fn import_one(sheet: &[u32], u: u32, i: u32, walk: Walk, entries: &mut [u32]) ->
 fn import_if(sheet: &[u32], u: u32, k: u32, walk: Walk, entries: &mut [u32]) -> Walk
     requires { ⌜ length (now sheet) ≤ 16384 ⌝ }
     ensures { λ r. ⌜ ((O : Outside) (results nodes : List ℕ) → stateOf r (now (entries .exit)) results nodes
-        ≡ runState O (now (sheet .entry)) (if is (now (sheet .entry)) 3 k then imports (now (sheet .entry)) u k else []) (stateOf walk (now (entries .entry)) results nodes)) ⌝ }
+        ≡ runState O (now (sheet .entry)) (if is (now (sheet .entry)) 3 k then imports (now (sheet .entry)) u k else [])
+        (stateOf walk (now (entries .entry)) results nodes)) ⌝ }
 {
     if word(sheet, k, column::KIND) != kind::IMPORT {
         return walk;
@@ -204,7 +221,9 @@ fn import_if(sheet: &[u32], u: u32, k: u32, walk: Walk, entries: &mut [u32]) -> 
 // All imports of unit row `u`, in the order of its children.
 pub fn define_imports(sheet: &[u32], u: u32, walk: Walk, entries: &mut [u32]) -> Walk
     requires { ⌜ length (now sheet) ≤ 16384 ⌝ }
-    ensures { λ r. ⌜ ((O : Outside) (results nodes : List ℕ) → stateOf r (now (entries .exit)) results nodes ≡ runState O (now (sheet .entry)) (concatMap (imports (now (sheet .entry)) u) (kidsOf (now (sheet .entry)) 3 u)) (stateOf walk (now (entries .entry)) results nodes)) ⌝ }
+    ensures { λ r. ⌜ ((O : Outside) (results nodes : List ℕ) → stateOf r (now (entries .exit)) results nodes
+        ≡ runState O (now (sheet .entry)) (concatMap (imports (now (sheet .entry)) u) (kidsOf (now (sheet .entry)) 3 u))
+        (stateOf walk (now (entries .entry)) results nodes)) ⌝ }
 {
     let mut n = sheet.len() / 8;
     let mut k = word(sheet, u, column::CHILD);

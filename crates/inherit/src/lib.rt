@@ -78,8 +78,14 @@ fn refuse_class(sheet: &[u32], number: u32, row: u32) -> Refusal
 // The questions 18 and 19 on the class of row `r` and then on its ancestors. A class climbed through is marked with `r + 1`. One with a
 // mark of an earlier climb was climbed through to the top without a no, so the climb stops there.
 fn climb(sheet: &[u32], outside: &[u32], results: &[u32], climbed: &mut [u32], r: u32) -> Refusal
-    requires { ⌜ (length (now sheet) ≤ 8 * length (now climbed)) × (r ≤ 2048) × (Marked r (now climbed)) × (8 * rows (now sheet) ≡ length (now sheet)) × ((o : Store) (nodes : List ℕ) → Climbed (over (now outside)) (now sheet) (storeOf o (now results) nodes) (now climbed)) ⌝ }
-    ensures { λ x. ⌜ ((o : Store) (nodes : List ℕ) → refusalOf x ≡ climbIn (over (now (outside .entry))) (now (sheet .entry)) (storeOf o (now (results .entry)) nodes) (suc (rows (now (sheet .entry)))) [] (256 + r)) × (Marked (r + 1) (now (climbed .exit))) × (x .number ≡ 0 → (o : Store) (nodes : List ℕ) → Climbed (over (now (outside .entry))) (now (sheet .entry)) (storeOf o (now (results .entry)) nodes) (now (climbed .exit))) ⌝ }
+    requires { ⌜ (length (now sheet) ≤ 8 * length (now climbed)) × (r ≤ 2048) × (Marked r (now climbed))
+        × (8 * rows (now sheet) ≡ length (now sheet))
+        × ((o : Store) (nodes : List ℕ) → Climbed (over (now outside)) (now sheet) (storeOf o (now results) nodes) (now climbed)) ⌝ }
+    ensures { λ x. ⌜ ((o : Store) (nodes : List ℕ) → refusalOf x
+        ≡ climbIn (over (now (outside .entry))) (now (sheet .entry)) (storeOf o (now (results .entry)) nodes)
+        (suc (rows (now (sheet .entry)))) [] (256 + r)) × (Marked (r + 1) (now (climbed .exit)))
+        × (x .number ≡ 0 → (o : Store) (nodes : List ℕ)
+        → Climbed (over (now (outside .entry))) (now (sheet .entry)) (storeOf o (now (results .entry)) nodes) (now (climbed .exit))) ⌝ }
 {
     let mut c = FIRST_CLASS + r;
     while is_class_row(sheet, ClassId(c)) {
@@ -103,8 +109,10 @@ fn climb(sheet: &[u32], outside: &[u32], results: &[u32], climbed: &mut [u32], r
 
 // The first no of the questions 18 and 19, classes in row order.
 fn check_classes(sheet: &[u32], outside: &[u32], results: &[u32], climbed: &mut [u32]) -> Refusal
-    requires { ⌜ (length (now sheet) ≤ 16384) × (length (now sheet) ≤ 8 * length (now climbed)) × (Marked 0 (now climbed)) × (8 * rows (now sheet) ≡ length (now sheet)) ⌝ }
-    ensures { λ x. ⌜ ((o : Store) (nodes : List ℕ) → refusalOf x ≡ classesRefusal (over (now (outside .entry))) (now (sheet .entry)) (storeOf o (now (results .entry)) nodes)) ⌝ }
+    requires { ⌜ (length (now sheet) ≤ 16384) × (length (now sheet) ≤ 8 * length (now climbed)) × (Marked 0 (now climbed))
+        × (8 * rows (now sheet) ≡ length (now sheet)) ⌝ }
+    ensures { λ x. ⌜ ((o : Store) (nodes : List ℕ) → refusalOf x
+        ≡ classesRefusal (over (now (outside .entry))) (now (sheet .entry)) (storeOf o (now (results .entry)) nodes)) ⌝ }
 {
     let mut r: u32 = 0;
     while (r as usize) < sheet.len() / 8 {
@@ -121,7 +129,9 @@ fn check_classes(sheet: &[u32], outside: &[u32], results: &[u32], climbed: &mut 
 
 // The method of name `n` that a class has, its own or inherited.
 pub fn find_method(sheet: &[u32], outside: &[u32], results: &[u32], c: ClassId, n: u32) -> Method
-    ensures { λ x. ⌜ ((o : Store) (nodes : List ℕ) → Tells n (methodsIn (over (now (outside .entry))) (now (sheet .entry)) (storeOf o (now (results .entry)) nodes) (rows (now (sheet .entry))) (c .0)) x) ⌝ }
+    ensures { λ x. ⌜ ((o : Store) (nodes : List ℕ)
+        → Tells n (methodsIn (over (now (outside .entry))) (now (sheet .entry)) (storeOf o (now (results .entry)) nodes)
+        (rows (now (sheet .entry))) (c .0)) x) ⌝ }
 {
     let mut left = sheet.len() / 8;
     let mut at = c.0;
@@ -143,7 +153,9 @@ pub fn find_method(sheet: &[u32], outside: &[u32], results: &[u32], c: ClassId, 
 
 // The questions 20 and 21 on constructor call `row` of a class. The constructor also takes the new object.
 fn check_call(sheet: &[u32], outside: &[u32], results: &[u32], row: u32, c: ClassId) -> Refusal
-    ensures { λ x. ⌜ ((o : Store) (nodes : List ℕ) (two : ℕ) → refusalOf x ≡ checkCallIn (over (now (outside .entry))) (now (sheet .entry)) (storeOf o (now (results .entry)) nodes) (record { key = row; one = c .0; two = two })) ⌝ }
+    ensures { λ x. ⌜ ((o : Store) (nodes : List ℕ) (two : ℕ) → refusalOf x
+        ≡ checkCallIn (over (now (outside .entry))) (now (sheet .entry)) (storeOf o (now (results .entry)) nodes)
+        (record { key = row; one = c .0; two = two })) ⌝ }
 {
     let init = find_method(sheet, outside, results, c, name::INIT);
     let at = word(sheet, row, column::CHILD);
@@ -174,7 +186,8 @@ fn check_ctor_calls(
     nodes: &[u32],
     calls: u32,
 ) -> Refusal
-    ensures { λ x. ⌜ ((o : Store) → o .calls ≡ calls → refusalOf x ≡ callsRefusal (over (now (outside .entry))) (now (sheet .entry)) (storeOf o (now (results .entry)) (now (nodes .entry)))) ⌝ }
+    ensures { λ x. ⌜ ((o : Store) → o .calls ≡ calls → refusalOf x
+        ≡ callsRefusal (over (now (outside .entry))) (now (sheet .entry)) (storeOf o (now (results .entry)) (now (nodes .entry)))) ⌝ }
 {
     let mut x = NO_REFUSAL;
     let mut i = calls;
@@ -204,8 +217,12 @@ pub fn later_refusal(
     climbed: &mut [u32],
     calls: u32,
 ) -> Refusal
-    requires { ⌜ (length (now sheet) ≤ 16384) × (length (now sheet) ≤ 8 * length (now climbed)) × (Marked 0 (now climbed)) × (8 * rows (now sheet) ≡ length (now sheet)) ⌝ }
-    ensures { λ x. ⌜ ((o : Store) → o .calls ≡ calls → refusalOf x ≡ firstNo (classesRefusal (over (now (outside .entry))) (now (sheet .entry)) (storeOf o (now (results .entry)) (now (nodes .entry))) ∷ callsRefusal (over (now (outside .entry))) (now (sheet .entry)) (storeOf o (now (results .entry)) (now (nodes .entry))) ∷ [])) ⌝ }
+    requires { ⌜ (length (now sheet) ≤ 16384) × (length (now sheet) ≤ 8 * length (now climbed)) × (Marked 0 (now climbed))
+        × (8 * rows (now sheet) ≡ length (now sheet)) ⌝ }
+    ensures { λ x. ⌜ ((o : Store) → o .calls ≡ calls → refusalOf x
+        ≡ firstNo (classesRefusal (over (now (outside .entry))) (now (sheet .entry))
+        (storeOf o (now (results .entry)) (now (nodes .entry))) ∷ callsRefusal (over (now (outside .entry))) (now (sheet .entry))
+        (storeOf o (now (results .entry)) (now (nodes .entry))) ∷ [])) ⌝ }
 {
     let x = check_classes(sheet, outside, results, climbed);
     if x.number != 0 {

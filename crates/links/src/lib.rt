@@ -37,7 +37,8 @@ pub fn links_rise(sheet: &[u32], n: usize) -> bool
 
 // Counts the links to each row in `seen`, all zero at first; the missing links count for row 0.
 fn count_links(sheet: &[u32], n: usize, seen: &mut [u32])
-    requires { ⌜ (length (now sheet) ≡ 8 * n) × (n ≤ 2048) × (n ≤ length (now seen)) × (all (linksRise (now sheet)) (from 0 (rows (now sheet))) ≡ true) × ((k : ℕ) → k < n → getD (now seen) k 0 ≡ 0) ⌝ }
+    requires { ⌜ (length (now sheet) ≡ 8 * n) × (n ≤ 2048) × (n ≤ length (now seen))
+        × (all (linksRise (now sheet)) (from 0 (rows (now sheet))) ≡ true) × ((k : ℕ) → k < n → getD (now seen) k 0 ≡ 0) ⌝ }
     ensures { λ _. ⌜ Counts (now (sheet .entry)) n (now (seen .exit)) ⌝ }
 {
     let mut r: usize = 0;
@@ -67,7 +68,8 @@ fn all_once(n: usize, seen: &[u32]) -> bool
 
 // Is every row but 0 linked exactly once? `seen` has a zero for each row.
 pub fn linked_once(sheet: &[u32], n: usize, seen: &mut [u32]) -> bool
-    requires { ⌜ (length (now sheet) ≡ 8 * n) × (n ≤ 2048) × (n ≤ length (now seen)) × (all (linksRise (now sheet)) (from 0 (rows (now sheet))) ≡ true) × ((k : ℕ) → k < n → getD (now seen) k 0 ≡ 0) ⌝ }
+    requires { ⌜ (length (now sheet) ≡ 8 * n) × (n ≤ 2048) × (n ≤ length (now seen))
+        × (all (linksRise (now sheet)) (from 0 (rows (now sheet))) ≡ true) × ((k : ℕ) → k < n → getD (now seen) k 0 ≡ 0) ⌝ }
     ensures { λ b. ⌜ b ≡ all (linkedOnce (links (now (sheet .entry)))) (from 0 (rows (now (sheet .entry)))) ⌝ }
 {
     count_links(sheet, n, seen);

@@ -150,7 +150,8 @@ fn is_ended(names: &[u8]) -> bool
 // Writes where each name starts and then the place past the last, and answers how many names there are.
 fn find_starts(names: &[u8], table: &mut [u32]) -> usize
     requires { ⌜ (length (now names) ≤ 32768) × (length (listed (now names)) < length (now table)) ⌝ }
-    ensures { λ r. ⌜ (r ≡ length (listed (now (names .entry)))) × (r < length (now (table .entry))) × (take (r + 1) (now (table .exit)) ≡ starts (now (names .entry))) ⌝ }
+    ensures { λ r. ⌜ (r ≡ length (listed (now (names .entry)))) × (r < length (now (table .entry)))
+        × (take (r + 1) (now (table .exit)) ≡ starts (now (names .entry))) ⌝ }
 {
     let mut at: usize = 0;
     let mut k: usize = 0;

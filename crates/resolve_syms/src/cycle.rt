@@ -46,7 +46,9 @@ fn resolve_unit(
     nodes: &mut [u32],
 ) -> Walk
     requires { ⌜ (Prepared (now sheet) (now classes)) × (kind (now sheet) row ≡ 2) ⌝ }
-    ensures { λ x. ⌜ stateOf x (now (entries .exit)) (now (results .exit)) (now (nodes .exit)) ≡ walked (over (now (outside .entry))) left (now (sheet .entry)) row (stateOf walk (now (entries .entry)) (now (results .entry)) (now (nodes .entry))) ⌝ }
+    ensures { λ x. ⌜ stateOf x (now (entries .exit)) (now (results .exit)) (now (nodes .exit))
+        ≡ walked (over (now (outside .entry))) left (now (sheet .entry)) row
+        (stateOf walk (now (entries .entry)) (now (results .entry)) (now (nodes .entry))) ⌝ }
 {
     if left == 0 {
         return walk;
@@ -79,7 +81,9 @@ fn resolve_fun(
     nodes: &mut [u32],
 ) -> Walk
     requires { ⌜ (Prepared (now sheet) (now classes)) × (kind (now sheet) row ≡ 6) ⌝ }
-    ensures { λ x. ⌜ stateOf x (now (entries .exit)) (now (results .exit)) (now (nodes .exit)) ≡ walked (over (now (outside .entry))) left (now (sheet .entry)) row (stateOf walk (now (entries .entry)) (now (results .entry)) (now (nodes .entry))) ⌝ }
+    ensures { λ x. ⌜ stateOf x (now (entries .exit)) (now (results .exit)) (now (nodes .exit))
+        ≡ walked (over (now (outside .entry))) left (now (sheet .entry)) row
+        (stateOf walk (now (entries .entry)) (now (results .entry)) (now (nodes .entry))) ⌝ }
 {
     if left == 0 {
         return walk;
@@ -112,7 +116,9 @@ fn resolve_stmt(
     nodes: &mut [u32],
 ) -> Walk
     requires { ⌜ (Prepared (now sheet) (now classes)) × (7 < kind (now sheet) row) × (kind (now sheet) row < 40) ⌝ }
-    ensures { λ x. ⌜ stateOf x (now (entries .exit)) (now (results .exit)) (now (nodes .exit)) ≡ walked (over (now (outside .entry))) left (now (sheet .entry)) row (stateOf walk (now (entries .entry)) (now (results .entry)) (now (nodes .entry))) ⌝ }
+    ensures { λ x. ⌜ stateOf x (now (entries .exit)) (now (results .exit)) (now (nodes .exit))
+        ≡ walked (over (now (outside .entry))) left (now (sheet .entry)) row
+        (stateOf walk (now (entries .entry)) (now (results .entry)) (now (nodes .entry))) ⌝ }
 {
     if left == 0 {
         return walk;
@@ -145,7 +151,9 @@ fn resolve_expr(
     nodes: &mut [u32],
 ) -> Walk
     requires { ⌜ (Prepared (now sheet) (now classes)) × (39 < kind (now sheet) row) ⌝ }
-    ensures { λ x. ⌜ stateOf x (now (entries .exit)) (now (results .exit)) (now (nodes .exit)) ≡ walked (over (now (outside .entry))) left (now (sheet .entry)) row (stateOf walk (now (entries .entry)) (now (results .entry)) (now (nodes .entry))) ⌝ }
+    ensures { λ x. ⌜ stateOf x (now (entries .exit)) (now (results .exit)) (now (nodes .exit))
+        ≡ walked (over (now (outside .entry))) left (now (sheet .entry)) row
+        (stateOf walk (now (entries .entry)) (now (results .entry)) (now (nodes .entry))) ⌝ }
 {
     if left == 0 {
         return walk;
@@ -177,7 +185,9 @@ fn resolve_any(
     nodes: &mut [u32],
 ) -> Walk
     requires { ⌜ (Prepared (now sheet) (now classes)) × (isPart (now sheet) row ≡ true) ⌝ }
-    ensures { λ x. ⌜ stateOf x (now (entries .exit)) (now (results .exit)) (now (nodes .exit)) ≡ walked (over (now (outside .entry))) left (now (sheet .entry)) row (stateOf walk (now (entries .entry)) (now (results .entry)) (now (nodes .entry))) ⌝ }
+    ensures { λ x. ⌜ stateOf x (now (entries .exit)) (now (results .exit)) (now (nodes .exit))
+        ≡ walked (over (now (outside .entry))) left (now (sheet .entry)) row
+        (stateOf walk (now (entries .entry)) (now (results .entry)) (now (nodes .entry))) ⌝ }
 {
     let kind = word(sheet, row, column::KIND);
     if kind == kind::UNIT {
@@ -247,7 +257,9 @@ fn resolve_part(
     nodes: &mut [u32],
 ) -> Walk
     requires { ⌜ Prepared (now sheet) (now classes) ⌝ }
-    ensures { λ x. ⌜ stateOf x (now (entries .exit)) (now (results .exit)) (now (nodes .exit)) ≡ partWalked (over (now (outside .entry))) left (now (sheet .entry)) row i k (stateOf walk (now (entries .entry)) (now (results .entry)) (now (nodes .entry))) ⌝ }
+    ensures { λ x. ⌜ stateOf x (now (entries .exit)) (now (results .exit)) (now (nodes .exit))
+        ≡ partWalked (over (now (outside .entry))) left (now (sheet .entry)) row i k
+        (stateOf walk (now (entries .entry)) (now (results .entry)) (now (nodes .entry))) ⌝ }
 {
     if !is_part(sheet, k) {
         return walk;
@@ -279,7 +291,9 @@ pub fn resolve_parts(
     nodes: &mut [u32],
 ) -> Walk
     requires { ⌜ Prepared (now sheet) (now classes) ⌝ }
-    ensures { λ x. ⌜ stateOf x (now (entries .exit)) (now (results .exit)) (now (nodes .exit)) ≡ partsWalked (over (now (outside .entry))) left (now (sheet .entry)) row (stateOf walk (now (entries .entry)) (now (results .entry)) (now (nodes .entry))) ⌝ }
+    ensures { λ x. ⌜ stateOf x (now (entries .exit)) (now (results .exit)) (now (nodes .exit))
+        ≡ partsWalked (over (now (outside .entry))) left (now (sheet .entry)) row
+        (stateOf walk (now (entries .entry)) (now (results .entry)) (now (nodes .entry))) ⌝ }
 {
     let mut n = sheet.len() / 8;
     let mut k = part_list(sheet, row);

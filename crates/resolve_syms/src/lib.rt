@@ -55,7 +55,8 @@ fn visible_at(outside: &[u32], i: u32, env: Env) -> OpenDecl
 
 // The outermost scope: the names from outside, the first of them innermost. Their rows are those before the first record.
 fn open_names(sheet: &[u32], outside: &[u32], entries: &mut [u32]) -> Env
-    ensures { λ x. ⌜ scopesOf x (now (entries .exit)) ≡ openNames (now (sheet .entry)) (over (now (outside .entry)) .names) (noScopes (now (sheet .entry)) (now (entries .entry))) ⌝ }
+    ensures { λ x. ⌜ scopesOf x (now (entries .exit))
+        ≡ openNames (now (sheet .entry)) (over (now (outside .entry)) .names) (noScopes (now (sheet .entry)) (now (entries .entry))) ⌝ }
 {
     let globals = word(sheet, 0, column::A);
     let mut e = Env {
@@ -88,8 +89,10 @@ pub fn resolve_units(
     results: &mut [u32],
     nodes: &mut [u32],
 ) -> Walk
-    requires { ⌜ (PastFour (over (now outside)) (now sheet)) × (Lent (over (now outside)) (now sheet) (now classes) (now entries) (now results) (now nodes)) ⌝ }
-    ensures { λ x. ⌜ Walked (over (now (outside .entry))) (now (sheet .entry)) (stateOf x (now (entries .exit)) (now (results .exit)) (now (nodes .exit))) ⌝ }
+    requires { ⌜ (PastFour (over (now outside)) (now sheet))
+        × (Lent (over (now outside)) (now sheet) (now classes) (now entries) (now results) (now nodes)) ⌝ }
+    ensures { λ x. ⌜ Walked (over (now (outside .entry))) (now (sheet .entry))
+        (stateOf x (now (entries .exit)) (now (results .exit)) (now (nodes .exit))) ⌝ }
 {
     class_table(sheet, classes);
     let env = open_names(sheet, outside, entries);

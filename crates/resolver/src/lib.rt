@@ -25,7 +25,8 @@ fn resolve_in(
     nodes: &mut [u32],
     out: &mut [u32],
 ) -> Answer
-    requires { ⌜ (PastFour (over (now outside)) (now sheet)) × (Lent (over (now outside)) (now sheet) (now classes) (now entries) (now results) (now nodes)) ⌝ }
+    requires { ⌜ (PastFour (over (now outside)) (now sheet))
+        × (Lent (over (now outside)) (now sheet) (now classes) (now entries) (now results) (now nodes)) ⌝ }
     ensures { λ x. ⌜ Settled (over (now (outside .entry))) (now (sheet .entry)) (length (now (out .entry))) x (now (out .exit)) ⌝ }
 {
     let walk = resolve_units(sheet, outside, classes, entries, results, nodes);

@@ -42,7 +42,9 @@ pub fn before_unit(
     results: &mut [u32],
 ) -> Walk
     requires { ⌜ (length (now sheet) ≤ 16384) × (kind (now sheet) row ≡ 2) ⌝ }
-    ensures { λ x. ⌜ ((O : Outside) (nodes : List ℕ) → stateOf x (now (entries .exit)) (now (results .exit)) nodes ≡ runState O (now (sheet .entry)) (before (now (sheet .entry)) row) (stateOf walk (now (entries .entry)) (now (results .entry)) nodes)) ⌝ }
+    ensures { λ x. ⌜ ((O : Outside) (nodes : List ℕ) → stateOf x (now (entries .exit)) (now (results .exit)) nodes
+        ≡ runState O (now (sheet .entry)) (before (now (sheet .entry)) row)
+        (stateOf walk (now (entries .entry)) (now (results .entry)) nodes)) ⌝ }
 {
     let a = open_scope(sheet, row, walk, entries);
     let b = define_imports(sheet, row, a, entries);
@@ -58,7 +60,9 @@ pub fn before_fun(
     results: &mut [u32],
 ) -> Walk
     requires { ⌜ (length (now sheet) ≤ 16384) × (kind (now sheet) row ≡ 6) ⌝ }
-    ensures { λ x. ⌜ ((O : Outside) (nodes : List ℕ) → stateOf x (now (entries .exit)) (now (results .exit)) nodes ≡ runState O (now (sheet .entry)) (before (now (sheet .entry)) row) (stateOf walk (now (entries .entry)) (now (results .entry)) nodes)) ⌝ }
+    ensures { λ x. ⌜ ((O : Outside) (nodes : List ℕ) → stateOf x (now (entries .exit)) (now (results .exit)) nodes
+        ≡ runState O (now (sheet .entry)) (before (now (sheet .entry)) row)
+        (stateOf walk (now (entries .entry)) (now (results .entry)) nodes)) ⌝ }
 {
     let a = open_scope(sheet, row, walk, entries);
     declare_kind(sheet, row, kind::PARAMETER, a, entries, results)
@@ -73,7 +77,9 @@ fn before_block(
     results: &mut [u32],
 ) -> Walk
     requires { ⌜ (length (now sheet) ≤ 16384) × (kind (now sheet) row ≡ 25) ⌝ }
-    ensures { λ x. ⌜ ((O : Outside) (nodes : List ℕ) → stateOf x (now (entries .exit)) (now (results .exit)) nodes ≡ runState O (now (sheet .entry)) (before (now (sheet .entry)) row) (stateOf walk (now (entries .entry)) (now (results .entry)) nodes)) ⌝ }
+    ensures { λ x. ⌜ ((O : Outside) (nodes : List ℕ) → stateOf x (now (entries .exit)) (now (results .exit)) nodes
+        ≡ runState O (now (sheet .entry)) (before (now (sheet .entry)) row)
+        (stateOf walk (now (entries .entry)) (now (results .entry)) nodes)) ⌝ }
 {
     let a = open_scope(sheet, row, walk, entries);
     hoist_literals(sheet, row, a, entries, results)
@@ -88,7 +94,9 @@ pub fn before_stmt(
     results: &mut [u32],
 ) -> Walk
     requires { ⌜ (length (now sheet) ≤ 16384) × (7 < kind (now sheet) row) ⌝ }
-    ensures { λ x. ⌜ ((O : Outside) (nodes : List ℕ) → stateOf x (now (entries .exit)) (now (results .exit)) nodes ≡ runState O (now (sheet .entry)) (before (now (sheet .entry)) row) (stateOf walk (now (entries .entry)) (now (results .entry)) nodes)) ⌝ }
+    ensures { λ x. ⌜ ((O : Outside) (nodes : List ℕ) → stateOf x (now (entries .exit)) (now (results .exit)) nodes
+        ≡ runState O (now (sheet .entry)) (before (now (sheet .entry)) row)
+        (stateOf walk (now (entries .entry)) (now (results .entry)) nodes)) ⌝ }
 {
     let kind = word(sheet, row, column::KIND);
     match kind {
@@ -102,7 +110,9 @@ pub fn before_stmt(
 // A let declares its name, unless its value is a literal: then the block has done so, or nothing does.
 fn after_let(sheet: &[u32], row: u32, walk: Walk, entries: &mut [u32], results: &mut [u32]) -> Walk
     requires { ⌜ (length (now sheet) ≤ 16384) × (kind (now sheet) row ≡ 29) ⌝ }
-    ensures { λ x. ⌜ ((O : Outside) (nodes : List ℕ) → stateOf x (now (entries .exit)) (now (results .exit)) nodes ≡ runState O (now (sheet .entry)) (after (now (sheet .entry)) row) (stateOf walk (now (entries .entry)) (now (results .entry)) nodes)) ⌝ }
+    ensures { λ x. ⌜ ((O : Outside) (nodes : List ℕ) → stateOf x (now (entries .exit)) (now (results .exit)) nodes
+        ≡ runState O (now (sheet .entry)) (after (now (sheet .entry)) row)
+        (stateOf walk (now (entries .entry)) (now (results .entry)) nodes)) ⌝ }
 {
     if word(sheet, word(sheet, row, column::CHILD), column::KIND) == kind::LITERAL {
         return walk;
@@ -121,7 +131,9 @@ pub fn after_stmt(
     nodes: &mut [u32],
 ) -> Walk
     requires { ⌜ (Prepared (now sheet) (now classes)) × (7 < kind (now sheet) row) × (kind (now sheet) row < 40) ⌝ }
-    ensures { λ x. ⌜ ((O : Outside) → stateOf x (now (entries .exit)) (now (results .exit)) (now (nodes .exit)) ≡ runState O (now (sheet .entry)) (after (now (sheet .entry)) row) (stateOf walk (now (entries .entry)) (now (results .entry)) (now (nodes .entry)))) ⌝ }
+    ensures { λ x. ⌜ ((O : Outside) → stateOf x (now (entries .exit)) (now (results .exit)) (now (nodes .exit))
+        ≡ runState O (now (sheet .entry)) (after (now (sheet .entry)) row)
+        (stateOf walk (now (entries .entry)) (now (results .entry)) (now (nodes .entry)))) ⌝ }
 {
     let kind = word(sheet, row, column::KIND);
     match kind {
@@ -145,7 +157,9 @@ pub fn after_expr(
     nodes: &mut [u32],
 ) -> Walk
     requires { ⌜ (length (now sheet) ≤ 16384) × (39 < kind (now sheet) row) ⌝ }
-    ensures { λ x. ⌜ ((O : Outside) → stateOf x (now (entries .entry)) (now (results .exit)) (now (nodes .exit)) ≡ runState O (now (sheet .entry)) (after (now (sheet .entry)) row) (stateOf walk (now (entries .entry)) (now (results .entry)) (now (nodes .entry)))) ⌝ }
+    ensures { λ x. ⌜ ((O : Outside) → stateOf x (now (entries .entry)) (now (results .exit)) (now (nodes .exit))
+        ≡ runState O (now (sheet .entry)) (after (now (sheet .entry)) row)
+        (stateOf walk (now (entries .entry)) (now (results .entry)) (now (nodes .entry)))) ⌝ }
 {
     let kind = word(sheet, row, column::KIND);
     match kind {
@@ -168,7 +182,9 @@ pub fn after_part(
     results: &mut [u32],
     nodes: &mut [u32],
 ) -> Walk
-    ensures { λ x. ⌜ stateOf x (now (entries .exit)) (now (results .exit)) (now (nodes .exit)) ≡ runState (over (now (outside .entry))) (now (sheet .entry)) (afterPart (now (sheet .entry)) row i) (stateOf walk (now (entries .entry)) (now (results .entry)) (now (nodes .entry))) ⌝ }
+    ensures { λ x. ⌜ stateOf x (now (entries .exit)) (now (results .exit)) (now (nodes .exit))
+        ≡ runState (over (now (outside .entry))) (now (sheet .entry)) (afterPart (now (sheet .entry)) row i)
+        (stateOf walk (now (entries .entry)) (now (results .entry)) (now (nodes .entry))) ⌝ }
 {
     let kind = word(sheet, row, column::KIND);
     match kind {
@@ -189,7 +205,9 @@ fn after_callee(
     nodes: &mut [u32],
 ) -> Walk
     requires { ⌜ kind (now sheet) row ≡ 59 ⌝ }
-    ensures { λ x. ⌜ stateOf x (now (entries .entry)) (now (results .exit)) (now (nodes .exit)) ≡ runState (over (now (outside .entry))) (now (sheet .entry)) (afterPart (now (sheet .entry)) row i) (stateOf walk (now (entries .entry)) (now (results .entry)) (now (nodes .entry))) ⌝ }
+    ensures { λ x. ⌜ stateOf x (now (entries .entry)) (now (results .exit)) (now (nodes .exit))
+        ≡ runState (over (now (outside .entry))) (now (sheet .entry)) (afterPart (now (sheet .entry)) row i)
+        (stateOf walk (now (entries .entry)) (now (results .entry)) (now (nodes .entry))) ⌝ }
 {
     if i == 0 {
         return check_callee(sheet, outside, row, walk, entries, results, nodes);
@@ -199,7 +217,8 @@ fn after_callee(
 
 fn after_test(sheet: &[u32], row: u32, i: usize, walk: Walk, entries: &mut [u32]) -> Walk
     requires { ⌜ kind (now sheet) row ≡ 27 ⌝ }
-    ensures { λ x. ⌜ ((O : Outside) (results nodes : List ℕ) → stateOf x (now (entries .exit)) results nodes ≡ runState O (now (sheet .entry)) (afterPart (now (sheet .entry)) row i) (stateOf walk (now (entries .entry)) results nodes)) ⌝ }
+    ensures { λ x. ⌜ ((O : Outside) (results nodes : List ℕ) → stateOf x (now (entries .exit)) results nodes
+        ≡ runState O (now (sheet .entry)) (afterPart (now (sheet .entry)) row i) (stateOf walk (now (entries .entry)) results nodes)) ⌝ }
 {
     if i == 1 {
         return begin_loop(walk, entries);

@@ -15,7 +15,8 @@ pub struct AnswerRow {
 
 // One row more after `n` rows; the number of rows then, or one more than fit.
 pub fn emit(out: &mut [u32], n: usize, x: AnswerRow) -> usize
-    ensures { λ k. ⌜ sink k (now (out .exit)) ≡ emitted (x .row ∷ x .code ∷ x .one ∷ x .two ∷ x .three ∷ x .four ∷ 0 ∷ 0 ∷ []) (sink n (now (out .entry))) ⌝ }
+    ensures { λ k. ⌜ sink k (now (out .exit))
+        ≡ emitted (x .row ∷ x .code ∷ x .one ∷ x .two ∷ x .three ∷ x .four ∷ 0 ∷ 0 ∷ []) (sink n (now (out .entry))) ⌝ }
 {
     let room = out.len() / 8;
     if n < room {

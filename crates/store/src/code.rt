@@ -70,7 +70,9 @@ pub fn code_of(sheet: &[u32], d: OpenDecl) -> Decl
 // A declaration, seen from function `fun`: the index of a capture, if it is a local or argument of another.
 pub fn seen_in(sheet: &[u32], d: OpenDecl, fun: FunId, results: &[u32], nodes: &[u32]) -> Decl
     requires { ⌜ (length (now sheet) ≤ 16384) × (isDeclared (means d) ≡ true) ⌝ }
-    ensures { λ x. ⌜ ((o : Store) → codeAndValues x ≡ fourWords (seenIn (now (sheet .entry)) (means d) (d .slot) (d .second) (fun .0) (storeOf o (now (results .entry)) (now (nodes .entry))))) ⌝ }
+    ensures { λ x. ⌜ ((o : Store) → codeAndValues x
+        ≡ fourWords (seenIn (now (sheet .entry)) (means d) (d .slot) (d .second) (fun .0)
+        (storeOf o (now (results .entry)) (now (nodes .entry))))) ⌝ }
 {
     if d.tag != tag::VARIABLE {
         return code_of(sheet, d);

@@ -99,7 +99,8 @@ pub fn count_nodes(nodes: &[u32], p: u32) -> u32
 
 // One node more after `used` nodes, if there is room; the number of nodes then.
 fn push_node(nodes: &mut [u32], used: u32, before: u32, n: Node) -> u32
-    ensures { λ r. ⌜ (r ≡ usedPushed (now (nodes .entry)) used) × (now (nodes .exit) ≡ nodesPushed (now (nodes .entry)) used (before ∷ n .key ∷ n .one ∷ n .two ∷ [])) ⌝ }
+    ensures { λ r. ⌜ (r ≡ usedPushed (now (nodes .entry)) used)
+        × (now (nodes .exit) ≡ nodesPushed (now (nodes .entry)) used (before ∷ n .key ∷ n .one ∷ n .two ∷ [])) ⌝ }
 {
     let i = used as usize;
     if i < nodes.len() / 4 {
@@ -123,7 +124,8 @@ fn append_node(
     c: u32,
     n: Node,
 ) -> Store
-    ensures { λ x. ⌜ storeOf x (now (results .exit)) (now (nodes .exit)) ≡ appendNode (8 * row + c) (nodeOf n) (storeOf store (now (results .entry)) (now (nodes .entry))) ⌝ }
+    ensures { λ x. ⌜ storeOf x (now (results .exit)) (now (nodes .exit))
+        ≡ appendNode (8 * row + c) (nodeOf n) (storeOf store (now (results .entry)) (now (nodes .entry))) ⌝ }
 {
     let last = word(results, row, c);
     let used = push_node(nodes, store.used, last, n);
@@ -139,7 +141,8 @@ fn append_node(
 
 // A constructor call appended, if there is room.
 pub fn append_call(store: Store, nodes: &mut [u32], n: Node) -> Store
-    ensures { λ x. ⌜ ((results : List ℕ) → storeOf x results (now (nodes .exit)) ≡ appendCall (nodeOf n) (storeOf store results (now (nodes .entry)))) ⌝ }
+    ensures { λ x. ⌜ ((results : List ℕ) → storeOf x results (now (nodes .exit))
+        ≡ appendCall (nodeOf n) (storeOf store results (now (nodes .entry)))) ⌝ }
 {
     let used = push_node(nodes, store.used, store.calls, n);
     if used == store.used {
@@ -153,7 +156,8 @@ pub fn append_call(store: Store, nodes: &mut [u32], n: Node) -> Store
 
 // A node appended to the list of word `c` of `row`, unless its key is in that list.
 fn add_new(store: Store, results: &mut [u32], nodes: &mut [u32], row: u32, c: u32, n: Node) -> Store
-    ensures { λ x. ⌜ storeOf x (now (results .exit)) (now (nodes .exit)) ≡ addNew (8 * row + c) (nodeOf n) (storeOf store (now (results .entry)) (now (nodes .entry))) ⌝ }
+    ensures { λ x. ⌜ storeOf x (now (results .exit)) (now (nodes .exit))
+        ≡ addNew (8 * row + c) (nodeOf n) (storeOf store (now (results .entry)) (now (nodes .entry))) ⌝ }
 {
     let last = word(results, row, c);
     if has_key(nodes, last, n.key) {
@@ -183,7 +187,9 @@ pub fn reg_captured(
     results: &mut [u32],
     nodes: &mut [u32],
 ) -> Store
-    ensures { λ r. ⌜ storeOf r (now (results .exit)) (now (nodes .exit)) ≡ addCapture (functionMarks (now (sheet .entry)) (now (entries .entry)) n) (nodeOf x) (storeOf store (now (results .entry)) (now (nodes .entry))) ⌝ }
+    ensures { λ r. ⌜ storeOf r (now (results .exit)) (now (nodes .exit))
+        ≡ addCapture (functionMarks (now (sheet .entry)) (now (entries .entry)) n) (nodeOf x)
+        (storeOf store (now (results .entry)) (now (nodes .entry))) ⌝ }
 {
     let mut w = store;
     let mut i = n;
@@ -212,7 +218,8 @@ pub fn reg_field(
     class: u32,
     name: u32,
 ) -> Store
-    ensures { λ x. ⌜ storeOf x (now (results .exit)) (now (nodes .exit)) ≡ addNew (8 * class + 7) (fieldNode name) (storeOf store (now (results .entry)) (now (nodes .entry))) ⌝ }
+    ensures { λ x. ⌜ storeOf x (now (results .exit)) (now (nodes .exit))
+        ≡ addNew (8 * class + 7) (fieldNode name) (storeOf store (now (results .entry)) (now (nodes .entry))) ⌝ }
 {
     let field = Node {
         key: name,

@@ -111,7 +111,8 @@ pub fn push_entry(
     y: u32,
     slot: u32,
 ) -> u32
-    ensures { λ r. ⌜ (r ≡ countPushed (now (entries .entry)) n) × (now (entries .exit) ≡ wordsPushed (now (entries .entry)) n (tag ∷ name ∷ x ∷ y ∷ slot ∷ [])) ⌝ }
+    ensures { λ r. ⌜ (r ≡ countPushed (now (entries .entry)) n)
+        × (now (entries .exit) ≡ wordsPushed (now (entries .entry)) n (tag ∷ name ∷ x ∷ y ∷ slot ∷ [])) ⌝ }
 {
     let i = n as usize;
     if i < entries.len() / 5 {

@@ -23,7 +23,8 @@ use words::word;
 // Question 6: is an assigned identifier mutable?
 fn assign_name(sheet: &[u32], row: u32, walk: Walk, entries: &[u32]) -> Walk
     requires { ⌜ (kind (now sheet) row ≡ 21) × (kind (now sheet) (child (now sheet) row) ≡ 50) ⌝ }
-    ensures { λ x. ⌜ ((O : Outside) (results nodes : List ℕ) → stateOf x (now (entries .entry)) results nodes ≡ stepState O (now (sheet .entry)) (visit row) (stateOf walk (now (entries .entry)) results nodes)) ⌝ }
+    ensures { λ x. ⌜ ((O : Outside) (results nodes : List ℕ) → stateOf x (now (entries .entry)) results nodes
+        ≡ stepState O (now (sheet .entry)) (visit row) (stateOf walk (now (entries .entry)) results nodes)) ⌝ }
 {
     if walk.number != 0 {
         return walk;
@@ -46,7 +47,8 @@ fn assign_member(
     nodes: &mut [u32],
 ) -> Walk
     requires { ⌜ (ClassTable (now sheet) (now classes)) × (kind (now sheet) row ≡ 21) × (kind (now sheet) (child (now sheet) row) ≡ 54) ⌝ }
-    ensures { λ x. ⌜ ((O : Outside) (entries : List ℕ) → stateOf x entries (now (results .exit)) (now (nodes .exit)) ≡ stepState O (now (sheet .entry)) (visit row) (stateOf walk entries (now (results .entry)) (now (nodes .entry)))) ⌝ }
+    ensures { λ x. ⌜ ((O : Outside) (entries : List ℕ) → stateOf x entries (now (results .exit)) (now (nodes .exit))
+        ≡ stepState O (now (sheet .entry)) (visit row) (stateOf walk entries (now (results .entry)) (now (nodes .entry)))) ⌝ }
 {
     if walk.number != 0 {
         return walk;
@@ -82,7 +84,9 @@ pub fn check_assign(
     nodes: &mut [u32],
 ) -> Walk
     requires { ⌜ (ClassTable (now sheet) (now classes)) × (kind (now sheet) row ≡ 21) ⌝ }
-    ensures { λ x. ⌜ ((O : Outside) → stateOf x (now (entries .entry)) (now (results .exit)) (now (nodes .exit)) ≡ stepState O (now (sheet .entry)) (visit row) (stateOf walk (now (entries .entry)) (now (results .entry)) (now (nodes .entry)))) ⌝ }
+    ensures { λ x. ⌜ ((O : Outside) → stateOf x (now (entries .entry)) (now (results .exit)) (now (nodes .exit))
+        ≡ stepState O (now (sheet .entry)) (visit row)
+        (stateOf walk (now (entries .entry)) (now (results .entry)) (now (nodes .entry)))) ⌝ }
 {
     let kind = word(sheet, word(sheet, row, column::CHILD), column::KIND);
     match kind {

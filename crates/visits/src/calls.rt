@@ -68,7 +68,8 @@ fn construct(
 ) -> Walk
     requires { ⌜ (kind (now sheet) row ≡ 59) × (class .0 ≡ 0 → ⊥) ⌝ }
     ensures { λ x. ⌜ ((entries results : List ℕ) → class .0 ≡ constructedClass (now (sheet .entry)) row (scopesOf (walk .env) entries)
-        → stateOf x entries results (now (nodes .exit)) ≡ stepState (over (now (outside .entry))) (now (sheet .entry)) (visit row) (stateOf walk entries results (now (nodes .entry)))) ⌝ }
+        → stateOf x entries results (now (nodes .exit))
+        ≡ stepState (over (now (outside .entry))) (now (sheet .entry)) (visit row) (stateOf walk entries results (now (nodes .entry)))) ⌝ }
 {
     if walk.number != 0 {
         return walk;
@@ -127,7 +128,8 @@ fn call_method(
 ) -> Walk
     requires { ⌜ (kind (now sheet) row ≡ 59) × (class .0 ≡ 0 → ⊥) ⌝ }
     ensures { λ x. ⌜ ((entries nodes : List ℕ) → class .0 ≡ receiverClass (now (sheet .entry)) row (scopesOf (walk .env) entries)
-        → stateOf x entries (now (results .exit)) nodes ≡ stepState (over (now (outside .entry))) (now (sheet .entry)) (visit row) (stateOf walk entries (now (results .entry)) nodes)) ⌝ }
+        → stateOf x entries (now (results .exit)) nodes
+        ≡ stepState (over (now (outside .entry))) (now (sheet .entry)) (visit row) (stateOf walk entries (now (results .entry)) nodes)) ⌝ }
 {
     if walk.number != 0 {
         return walk;
@@ -156,7 +158,9 @@ pub fn check_callee(
     nodes: &mut [u32],
 ) -> Walk
     requires { ⌜ kind (now sheet) row ≡ 59 ⌝ }
-    ensures { λ x. ⌜ stateOf x (now (entries .entry)) (now (results .exit)) (now (nodes .exit)) ≡ stepState (over (now (outside .entry))) (now (sheet .entry)) (visit row) (stateOf walk (now (entries .entry)) (now (results .entry)) (now (nodes .entry))) ⌝ }
+    ensures { λ x. ⌜ stateOf x (now (entries .entry)) (now (results .exit)) (now (nodes .exit))
+        ≡ stepState (over (now (outside .entry))) (now (sheet .entry)) (visit row)
+        (stateOf walk (now (entries .entry)) (now (results .entry)) (now (nodes .entry))) ⌝ }
 {
     let e = walk.env;
     let class = constructed_class(sheet, row, e, entries);

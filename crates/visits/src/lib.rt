@@ -47,7 +47,8 @@ use words::word;
 // Question 5: does a break or continue stand in a loop?
 pub fn check_jump(sheet: &[u32], row: u32, walk: Walk, entries: &[u32]) -> Walk
     requires { ⌜ (is (now sheet) 23 row || is (now sheet) 24 row) ≡ true ⌝ }
-    ensures { λ x. ⌜ ((O : Outside) (results nodes : List ℕ) → stateOf x (now (entries .entry)) results nodes ≡ stepState O (now (sheet .entry)) (visit row) (stateOf walk (now (entries .entry)) results nodes)) ⌝ }
+    ensures { λ x. ⌜ ((O : Outside) (results nodes : List ℕ) → stateOf x (now (entries .entry)) results nodes
+        ≡ stepState O (now (sheet .entry)) (visit row) (stateOf walk (now (entries .entry)) results nodes)) ⌝ }
 {
     if walk.number != 0 {
         return walk;
@@ -83,7 +84,9 @@ fn capture(
 ) -> Store
     ensures { λ x. ⌜ storeOf x (now (results .exit)) (now (nodes .exit))
         ≡ (if isOuterVariable (means d) (env .fun .0)
-        then addCapture (openFunctions (now (sheet .entry)) (scopesOf env (now (entries .entry)))) (record { key = rowOf (means d); one = ownerOf (means d); two = d .slot }) (storeOf store (now (results .entry)) (now (nodes .entry)))
+        then addCapture (openFunctions (now (sheet .entry)) (scopesOf env (now (entries .entry))))
+        (record { key = rowOf (means d); one = ownerOf (means d); two = d .slot })
+        (storeOf store (now (results .entry)) (now (nodes .entry)))
         else storeOf store (now (results .entry)) (now (nodes .entry))) ⌝ }
 {
     if d.tag != tag::VARIABLE {
@@ -111,7 +114,9 @@ pub fn resolve_ident(
     nodes: &mut [u32],
 ) -> Walk
     requires { ⌜ (length (now sheet) ≤ 16384) × (kind (now sheet) row ≡ 50) ⌝ }
-    ensures { λ x. ⌜ ((O : Outside) → stateOf x (now (entries .entry)) (now (results .exit)) (now (nodes .exit)) ≡ stepState O (now (sheet .entry)) (visit row) (stateOf walk (now (entries .entry)) (now (results .entry)) (now (nodes .entry)))) ⌝ }
+    ensures { λ x. ⌜ ((O : Outside) → stateOf x (now (entries .entry)) (now (results .exit)) (now (nodes .exit))
+        ≡ stepState O (now (sheet .entry)) (visit row)
+        (stateOf walk (now (entries .entry)) (now (results .entry)) (now (nodes .entry)))) ⌝ }
 {
     if walk.number != 0 {
         return walk;
@@ -145,7 +150,8 @@ pub fn check_instanceof(
     results: &mut [u32],
 ) -> Walk
     requires { ⌜ kind (now sheet) row ≡ 55 ⌝ }
-    ensures { λ x. ⌜ ((O : Outside) (nodes : List ℕ) → stateOf x (now (entries .entry)) (now (results .exit)) nodes ≡ stepState O (now (sheet .entry)) (visit row) (stateOf walk (now (entries .entry)) (now (results .entry)) nodes)) ⌝ }
+    ensures { λ x. ⌜ ((O : Outside) (nodes : List ℕ) → stateOf x (now (entries .entry)) (now (results .exit)) nodes
+        ≡ stepState O (now (sheet .entry)) (visit row) (stateOf walk (now (entries .entry)) (now (results .entry)) nodes)) ⌝ }
 {
     if walk.number != 0 {
         return walk;
@@ -173,7 +179,8 @@ fn main_unit_code(sheet: &[u32], fun: FunId) -> u32
 // Question 17: is a host constant MAIN_UNIT?
 pub fn resolve_host_const(sheet: &[u32], row: u32, walk: Walk, results: &mut [u32]) -> Walk
     requires { ⌜ kind (now sheet) row ≡ 51 ⌝ }
-    ensures { λ x. ⌜ ((O : Outside) (entries nodes : List ℕ) → stateOf x entries (now (results .exit)) nodes ≡ stepState O (now (sheet .entry)) (visit row) (stateOf walk entries (now (results .entry)) nodes)) ⌝ }
+    ensures { λ x. ⌜ ((O : Outside) (entries nodes : List ℕ) → stateOf x entries (now (results .exit)) nodes
+        ≡ stepState O (now (sheet .entry)) (visit row) (stateOf walk entries (now (results .entry)) nodes)) ⌝ }
 {
     if walk.number != 0 {
         return walk;
@@ -191,7 +198,8 @@ pub fn resolve_host_const(sheet: &[u32], row: u32, walk: Walk, results: &mut [u3
 // A literal notes the function in which it stands.
 pub fn note_literal(sheet: &[u32], row: u32, walk: Walk, results: &mut [u32]) -> Walk
     requires { ⌜ kind (now sheet) row ≡ 52 ⌝ }
-    ensures { λ x. ⌜ ((O : Outside) (entries nodes : List ℕ) → stateOf x entries (now (results .exit)) nodes ≡ stepState O (now (sheet .entry)) (visit row) (stateOf walk entries (now (results .entry)) nodes)) ⌝ }
+    ensures { λ x. ⌜ ((O : Outside) (entries nodes : List ℕ) → stateOf x entries (now (results .exit)) nodes
+        ≡ stepState O (now (sheet .entry)) (visit row) (stateOf walk entries (now (results .entry)) nodes)) ⌝ }
 {
     if walk.number != 0 {
         return walk;
@@ -215,7 +223,8 @@ fn names_class(m: u32, class: ClassId) -> bool
 // The parent of class row `c`, stored with it.
 fn write_parent(sheet: &[u32], c: u32, class: ClassId, results: &mut [u32])
     ensures { λ _. ⌜ ((o : Store) (nodes : List ℕ) → storeOf o (now (results .exit)) nodes
-        ≡ (if is (now (sheet .entry)) 4 c then writeRowAt c (2 ∷ class .0 ∷ []) (storeOf o (now (results .entry)) nodes) else storeOf o (now (results .entry)) nodes)) ⌝ }
+        ≡ (if is (now (sheet .entry)) 4 c then writeRowAt c (2 ∷ class .0 ∷ []) (storeOf o (now (results .entry)) nodes) else storeOf o
+        (now (results .entry)) nodes)) ⌝ }
 {
     if word(sheet, c, column::KIND) == kind::CLASS {
         write_decl(results, c, Decl::Class { id: class });
@@ -231,7 +240,8 @@ pub fn resolve_parent(
     results: &mut [u32],
 ) -> Walk
     requires { ⌜ kind (now sheet) row ≡ 30 ⌝ }
-    ensures { λ x. ⌜ ((O : Outside) (nodes : List ℕ) → stateOf x (now (entries .entry)) (now (results .exit)) nodes ≡ stepState O (now (sheet .entry)) (visit row) (stateOf walk (now (entries .entry)) (now (results .entry)) nodes)) ⌝ }
+    ensures { λ x. ⌜ ((O : Outside) (nodes : List ℕ) → stateOf x (now (entries .entry)) (now (results .exit)) nodes
+        ≡ stepState O (now (sheet .entry)) (visit row) (stateOf walk (now (entries .entry)) (now (results .entry)) nodes)) ⌝ }
 {
     if walk.number != 0 {
         return walk;

@@ -60,7 +60,8 @@ fn declare_question(sheet: &[u32], row: u32) -> u32
 // A local is counted in the innermost function.
 fn count_local(sheet: &[u32], env: Env, d: OpenDecl, results: &mut [u32])
     ensures { λ _. ⌜ ((o : Store) (nodes : List ℕ) → storeOf o (now (results .exit)) nodes
-        ≡ (if isLocal (now (sheet .entry)) (means d) then raiseLocals (env .fun .0) (oneMore (env .slot)) (storeOf o (now (results .entry)) nodes) else storeOf o (now (results .entry)) nodes)) ⌝ }
+        ≡ (if isLocal (now (sheet .entry)) (means d) then raiseLocals (env .fun .0) (oneMore (env .slot))
+        (storeOf o (now (results .entry)) nodes) else storeOf o (now (results .entry)) nodes)) ⌝ }
 {
     if is_local(sheet, d) {
         let fun = env.fun;
@@ -71,8 +72,10 @@ fn count_local(sheet: &[u32], env: Env, d: OpenDecl, results: &mut [u32])
 // What a let stores when it is declared as `d`: its local, and its code and values. Any other row stores nothing.
 fn store_let(sheet: &[u32], row: u32, env: Env, d: OpenDecl, results: &mut [u32])
     requires { ⌜ (length (now sheet) ≤ 16384) × (isDeclared (means d) ≡ true) ⌝ }
-    ensures { λ _. ⌜ ((O : Outside) (o : Store) (entries nodes : List ℕ) → d ≡ entryFor (newMeaning (now (sheet .entry)) row (scopesOf env entries)) (scopesOf env entries)
-        → storeOf o (now (results .exit)) nodes ≡ stepStore O (now (sheet .entry)) (declare row) (scopesOf env entries) (storeOf o (now (results .entry)) nodes)) ⌝ }
+    ensures { λ _. ⌜ ((O : Outside) (o : Store) (entries nodes : List ℕ) → d
+        ≡ entryFor (newMeaning (now (sheet .entry)) row (scopesOf env entries)) (scopesOf env entries)
+        → storeOf o (now (results .exit)) nodes
+        ≡ stepStore O (now (sheet .entry)) (declare row) (scopesOf env entries) (storeOf o (now (results .entry)) nodes)) ⌝ }
 {
     if word(sheet, row, column::KIND) != kind::LET {
         return;
@@ -90,7 +93,8 @@ pub fn declare(
     results: &mut [u32],
 ) -> Walk
     requires { ⌜ length (now sheet) ≤ 16384 ⌝ }
-    ensures { λ x. ⌜ ((O : Outside) (nodes : List ℕ) → stateOf x (now (entries .exit)) (now (results .exit)) nodes ≡ stepState O (now (sheet .entry)) (declare row) (stateOf walk (now (entries .entry)) (now (results .entry)) nodes)) ⌝ }
+    ensures { λ x. ⌜ ((O : Outside) (nodes : List ℕ) → stateOf x (now (entries .exit)) (now (results .exit)) nodes
+        ≡ stepState O (now (sheet .entry)) (declare row) (stateOf walk (now (entries .entry)) (now (results .entry)) nodes)) ⌝ }
 {
     if walk.number != 0 {
         return walk;
@@ -124,7 +128,8 @@ fn declare_if(
 ) -> Walk
     requires { ⌜ length (now sheet) ≤ 16384 ⌝ }
     ensures { λ x. ⌜ ((O : Outside) (nodes : List ℕ) → stateOf x (now (entries .exit)) (now (results .exit)) nodes
-        ≡ runState O (now (sheet .entry)) (if is (now (sheet .entry)) kind k then declare k ∷ [] else []) (stateOf walk (now (entries .entry)) (now (results .entry)) nodes)) ⌝ }
+        ≡ runState O (now (sheet .entry)) (if is (now (sheet .entry)) kind k then declare k ∷ [] else [])
+        (stateOf walk (now (entries .entry)) (now (results .entry)) nodes)) ⌝ }
 {
     if word(sheet, k, column::KIND) != kind {
         return walk;
@@ -143,7 +148,8 @@ pub fn declare_kind(
 ) -> Walk
     requires { ⌜ length (now sheet) ≤ 16384 ⌝ }
     ensures { λ x. ⌜ ((O : Outside) (nodes : List ℕ) → stateOf x (now (entries .exit)) (now (results .exit)) nodes
-        ≡ runState O (now (sheet .entry)) (map declare (kidsOf (now (sheet .entry)) kind row)) (stateOf walk (now (entries .entry)) (now (results .entry)) nodes)) ⌝ }
+        ≡ runState O (now (sheet .entry)) (map declare (kidsOf (now (sheet .entry)) kind row))
+        (stateOf walk (now (entries .entry)) (now (results .entry)) nodes)) ⌝ }
 {
     let mut n = sheet.len() / 8;
     let mut k = word(sheet, row, column::CHILD);
@@ -169,7 +175,8 @@ fn declare_literal(
 ) -> Walk
     requires { ⌜ length (now sheet) ≤ 16384 ⌝ }
     ensures { λ x. ⌜ ((O : Outside) (nodes : List ℕ) → stateOf x (now (entries .exit)) (now (results .exit)) nodes
-        ≡ runState O (now (sheet .entry)) (if literalLet (now (sheet .entry)) k then declare k ∷ [] else []) (stateOf walk (now (entries .entry)) (now (results .entry)) nodes)) ⌝ }
+        ≡ runState O (now (sheet .entry)) (if literalLet (now (sheet .entry)) k then declare k ∷ [] else [])
+        (stateOf walk (now (entries .entry)) (now (results .entry)) nodes)) ⌝ }
 {
     if !is_literal_let(sheet, k) {
         return walk;
@@ -187,7 +194,8 @@ pub fn hoist_literals(
 ) -> Walk
     requires { ⌜ length (now sheet) ≤ 16384 ⌝ }
     ensures { λ x. ⌜ ((O : Outside) (nodes : List ℕ) → stateOf x (now (entries .exit)) (now (results .exit)) nodes
-        ≡ runState O (now (sheet .entry)) (map declare (filter (literalLet (now (sheet .entry))) (kids (now (sheet .entry)) row))) (stateOf walk (now (entries .entry)) (now (results .entry)) nodes)) ⌝ }
+        ≡ runState O (now (sheet .entry)) (map declare (filter (literalLet (now (sheet .entry))) (kids (now (sheet .entry)) row)))
+        (stateOf walk (now (entries .entry)) (now (results .entry)) nodes)) ⌝ }
 {
     let mut n = sheet.len() / 8;
     let mut k = word(sheet, row, column::CHILD);

@@ -14,7 +14,8 @@ use symbols::env::push_scope;
 
 // The scope of `row` opens.
 pub fn open_scope(sheet: &[u32], row: u32, walk: Walk, entries: &mut [u32]) -> Walk
-    ensures { λ x. ⌜ ((O : Outside) (results nodes : List ℕ) → stateOf x (now (entries .exit)) results nodes ≡ stepState O (now (sheet .entry)) (enter row) (stateOf walk (now (entries .entry)) results nodes)) ⌝ }
+    ensures { λ x. ⌜ ((O : Outside) (results nodes : List ℕ) → stateOf x (now (entries .exit)) results nodes
+        ≡ stepState O (now (sheet .entry)) (enter row) (stateOf walk (now (entries .entry)) results nodes)) ⌝ }
 {
     if walk.number != 0 {
         return walk;
@@ -32,7 +33,8 @@ pub fn open_scope(sheet: &[u32], row: u32, walk: Walk, entries: &mut [u32]) -> W
 
 // The innermost scope closes.
 pub fn close_scope(walk: Walk, entries: &[u32]) -> Walk
-    ensures { λ x. ⌜ ((O : Outside) (s : Sheet) (results nodes : List ℕ) → stateOf x (now (entries .entry)) results nodes ≡ stepState O s leave (stateOf walk (now (entries .entry)) results nodes)) ⌝ }
+    ensures { λ x. ⌜ ((O : Outside) (s : Sheet) (results nodes : List ℕ) → stateOf x (now (entries .entry)) results nodes
+        ≡ stepState O s leave (stateOf walk (now (entries .entry)) results nodes)) ⌝ }
 {
     if walk.number != 0 {
         return walk;
@@ -50,7 +52,8 @@ pub fn close_scope(walk: Walk, entries: &[u32]) -> Walk
 
 // The rest of the innermost scope is in a loop.
 pub fn begin_loop(walk: Walk, entries: &mut [u32]) -> Walk
-    ensures { λ x. ⌜ ((O : Outside) (s : Sheet) (results nodes : List ℕ) → stateOf x (now (entries .exit)) results nodes ≡ stepState O s loop (stateOf walk (now (entries .entry)) results nodes)) ⌝ }
+    ensures { λ x. ⌜ ((O : Outside) (s : Sheet) (results nodes : List ℕ) → stateOf x (now (entries .exit)) results nodes
+        ≡ stepState O s loop (stateOf walk (now (entries .entry)) results nodes)) ⌝ }
 {
     if walk.number != 0 {
         return walk;

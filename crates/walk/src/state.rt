@@ -17,7 +17,8 @@ pub struct Walk {
 
 // The walk refused by a question.
 pub fn refuse(walk: Walk, number: u32, at: u32, name: u32) -> Walk
-    ensures { λ x. ⌜ ((entries results nodes : List ℕ) → stateOf x entries results nodes ≡ refusedBy number at name (stateOf walk entries results nodes)) ⌝ }
+    ensures { λ x. ⌜ ((entries results nodes : List ℕ) → stateOf x entries results nodes
+        ≡ refusedBy number at name (stateOf walk entries results nodes)) ⌝ }
 {
     let env = walk.env;
     let store = walk.store;
