@@ -24,7 +24,9 @@ pub distinct-unlike : (xs : List ℕ) → T (unlike eqb xs) → distinct eqb xs 
 distinct-unlike [] h = refl
 distinct-unlike (x ∷ xs) h =
     ap (λ (l : List ℕ). x ∷ filter (λ y. not (eqb x y)) l) (distinct-unlike xs (and-right (not (any (eqb x) xs)) (unlike eqb xs) h))
-    ∙ ap (λ (l : List ℕ). x ∷ l) (all-pass (λ y. not (eqb x y)) xs (λ y m. not-T (eqb x y) (λ t. T-not (any (eqb x) xs) (and-left (not (any (eqb x) xs)) (unlike eqb xs) h) (mem-any (eqb x) y xs t m))))
+    ∙ ap (λ (l : List ℕ). x ∷ l) (all-pass (λ y. not (eqb x y)) xs
+    (λ y m. not-T (eqb x y)
+    (λ t. T-not (any (eqb x) xs) (and-left (not (any (eqb x) xs)) (unlike eqb xs) h) (mem-any (eqb x) y xs t m))))
 
 any-same : (p q : ℕ → Bool) (xs : List ℕ) → ((x : ℕ) → p x ≡ q x) → any p xs ≡ any q xs
 any-same p q [] f = refl

@@ -51,7 +51,10 @@ new-names up (x ∷ own) = go (any (λ m. eqb (m .name) (x .name)) up) (x .name 
         → namesOf (if not t then x ∷ rest else rest) ≡ (if not u then x .name ∷ filter (λ n. not (n ∈? namesOf up)) (namesOf own) else filter (λ n. not (n ∈? namesOf up)) (namesOf own))
     go t u e i = ap (λ (v : Bool). namesOf (if not v then x ∷ rest else rest)) e ∙ by u
       where
-        by : (v : Bool) → namesOf (if not v then x ∷ rest else rest) ≡ (if not v then x .name ∷ filter (λ n. not (n ∈? namesOf up)) (namesOf own) else filter (λ n. not (n ∈? namesOf up)) (namesOf own))
+        by : (v : Bool)
+            → namesOf (if not v then x ∷ rest else rest)
+            ≡ (if not v then x .name ∷ filter (λ n. not (n ∈? namesOf up)) (namesOf own)
+            else filter (λ n. not (n ∈? namesOf up)) (namesOf own))
         by true = i
         by false = ap (λ (ns : List ℕ). x .name ∷ ns) i
 
@@ -125,7 +128,9 @@ module _ {O : Outside} {s : Sheet} (ok : PastFour O s) where
   names-nodup o zero c = nodup-none
   names-nodup o (suc n) c = go (eqb (parentIn s o c) 0) (names-nodup o n (parentIn s o c))
     where
-      go : (t : Bool) → Nodup (methodNamesIn O s o n (parentIn s o c)) → Nodup (if t then namesOf (ownMethods O s c) else mergeFields (methodNamesIn O s o n (parentIn s o c)) (namesOf (ownMethods O s c)))
+      go : (t : Bool) → Nodup (methodNamesIn O s o n (parentIn s o c))
+          → Nodup (if t then namesOf (ownMethods O s c)
+          else mergeFields (methodNamesIn O s o n (parentIn s o c)) (namesOf (ownMethods O s c)))
       go true p = own-nodup c
       go false p = merged-nodup p (own-nodup c)
 

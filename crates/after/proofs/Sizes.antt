@@ -65,7 +65,13 @@ module _ {O : Outside} {s : Sheet} (ok : PastFour O s) where
 
   registered-length : (c : ℕ) → length (registered s (history O s) c) ≤ rows s
   registered-length c =
-      omega (arith, length-map ms (λ m. a s (child s (visited (m .event)))), filter-length (λ m. is s 54 (child s (visited (m .event))) && eqb (classOf s (within s m)) c) (visits s (history O s) 21), visited-length)
+      omega (
+        arith,
+        length-map ms (λ m. a s (child s (visited (m .event)))),
+        filter-length (λ m. is s 54 (child s (visited (m .event))) && eqb (classOf s (within s m)) c)
+            (visits s (history O s) 21),
+        visited-length,
+      )
     where
       ms : List Moment
       ms = filter (λ m. is s 54 (child s (visited (m .event))) && eqb (classOf s (within s m)) c) (visits s (history O s) 21)

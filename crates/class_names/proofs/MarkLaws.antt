@@ -96,7 +96,14 @@ marked-next s t marks i {after} l b e h j g =
 
 pub marked-end : (s : Sheet) (t marks : List ℕ) (i : ℕ) → rows s ≤ i → rows s ≤ length marks → MarkedTo s t marks i → ParentMarks s t marks
 unfolding hasChildrenIn
-marked-end s t marks i l b h = record { room = b; told = λ o q j g. sym (or-false (not (eqb (getD marks j 0) 0))) ∙ ap (λ (n : ℕ). not (eqb (getD marks j 0) 0) || parentOfSome s t j i n) (sym none) ∙ h j g }
+marked-end s t marks i l b h =
+    record {
+      room = b;
+      told =
+          λ o q j g. sym (or-false (not (eqb (getD marks j 0) 0)))
+          ∙ ap (λ (n : ℕ). not (eqb (getD marks j 0) 0) || parentOfSome s t j i n) (sym none)
+          ∙ h j g;
+    }
   where
     none : rows s - i ≡ 0
     none = omega arith

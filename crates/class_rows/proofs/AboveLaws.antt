@@ -51,7 +51,9 @@ module _ (w : List ℕ) (at j : ℕ) where
   above-methods f g = rw (ne-eqb at 0 f, ne-eqb j 10 g)
 
 -- The parent p of the class of row r, and its entry.
-module _ {O : Outside} {s t q places w : List ℕ} {r k : ℕ} (h : Placed O s t q places w r k) (l : r < rows s) {p at : ℕ} (e : (o : Store) → p ≡ parentIn s (storeOf o t q) (256 + r)) (f : at ≡ placeOf places p) where
+module _ {O : Outside} {s t q places w : List ℕ} {r k : ℕ} (h : Placed O s t q places w r k)
+    (l : r < rows s) {p at : ℕ} (e : (o : Store) → p ≡ parentIn s (storeOf o t q) (256 + r))
+    (f : at ≡ placeOf places p) where
   found : (i : ℕ) → at ≡ suc i → (256 ≤ p) × (getD places (p - 256) 0 ≡ suc i)
   unfolding placeOf
   found i z = go (leb 256 p) refl (sym f ∙ z)
@@ -64,7 +66,9 @@ module _ {O : Outside} {s t q places w : List ℕ} {r k : ℕ} (h : Placed O s t
   parent-stands i z o = h .told (p - 256) i (found i z .1) .1 o
 
   -- the names of the parent, with one class less to climb
-  parent-names : (i : ℕ) → at ≡ suc i → (o : Store) (j : ℕ) → namesIn O s (storeOf o t q) j (rows s) (256 + (p - 256)) ≡ namesIn O s (storeOf o t q) j (rows s - 1) (parentIn s (storeOf o t q) (256 + r))
+  parent-names : (i : ℕ) → at ≡ suc i → (o : Store) (j : ℕ)
+      → namesIn O s (storeOf o t q) j (rows s) (256 + (p - 256))
+      ≡ namesIn O s (storeOf o t q) j (rows s - 1) (parentIn s (storeOf o t q) (256 + r))
   parent-names i z o j =
       let b : 256 + (p - 256) ≡ p = omega (arith, found i z .0) in
       sym (parent-stands i z o .stable j (rows s - 1) (omega (arith, h .told (p - 256) i (found i z .1) .0)))
@@ -152,7 +156,8 @@ module _ {O : Outside} {s t q places w : List ℕ} {r k : ℕ} (h : Placed O s t
       )
 
 -- The names above stay, and are as many as told.
-pub shown-kept : {O : Outside} {s t q : List ℕ} {j c : ℕ} {w y : List ℕ} {k n : ℕ} {a : Above} (rs : List (List ℕ)) → sink n y ≡ emitAll rs (sink k w) → Shown O s t q j c w k a → Shown O s t q j c y n a
+pub shown-kept : {O : Outside} {s t q : List ℕ} {j c : ℕ} {w y : List ℕ} {k n : ℕ} {a : Above} (rs : List (List ℕ))
+    → sink n y ≡ emitAll rs (sink k w) → Shown O s t q j c w k a → Shown O s t q j c y n a
 shown-kept {s} {t} {q} {j} {c} {w} {y} {k} {n} {a} rs e h f o =
     record {
       below = m .below;

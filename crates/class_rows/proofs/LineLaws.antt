@@ -58,7 +58,9 @@ module _ (O : Outside) (s : Sheet) (w : Wanted) where
       copied-next =
           let c : i + 1 ≡ suc i = omega arith in
           let d : n ≡ suc (n - 1) = omega arith in
-          let g : copiedRow O s w (k .done .words) i (k .slot) ≡ copiedRow O s w v i (k .slot) = copied-same (k .done .words) v i (k .slot) (h .same (8 * i + 2) (omega arith)) (h .same (8 * i + 3) (omega arith)) in
+          let g : copiedRow O s w (k .done .words) i (k .slot) ≡ copiedRow O s w v i (k .slot) =
+          copied-same (k .done .words) v i (k .slot) (h .same (8 * i + 2) (omega arith))
+          (h .same (8 * i + 3) (omega arith)) in
           ap (λ (a : ℕ). putAll (copiedRow O s w v) (from a (n - 1)) x) c
           ∙ ap (putAll (copiedRow O s w v) (from (suc i) (n - 1))) (e ∙ rw g)
           ∙ sym (ap (λ (a : ℕ). putAll (copiedRow O s w v) (from i a) k) d)

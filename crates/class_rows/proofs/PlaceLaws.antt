@@ -79,7 +79,9 @@ module _ (r : ℕ) where
       ∙ ap (λ (i : ℕ). i + length (map (λ n. 24 ∷ n ∷ g n ∷ []) ns)) (numbered-length 0 fs) ∙ ap (λ (i : ℕ). length fs + i) (length-map ns (λ n. 24 ∷ n ∷ g n ∷ [])))
 
 -- The class of row r, written after k rows, where all its rows fit.
-module _ (O : Outside) (s : Sheet) (o : Stored) (w : List ℕ) (k r n : ℕ) {y : List ℕ} (e : sink n y ≡ emitAll (map (λ vs. eight (r ∷ vs)) (classRowsNamed O s o r)) (sink k w)) (b : n ≤ length w / 8) where
+module _ (O : Outside) (s : Sheet) (o : Stored) (w : List ℕ) (k r n : ℕ) {y : List ℕ}
+    (e : sink n y ≡ emitAll (map (λ vs. eight (r ∷ vs)) (classRowsNamed O s o r)) (sink k w))
+    (b : n ≤ length w / 8) where
   abbrev fs : List ℕ
   fs = fieldsIn O s o (rows s) (256 + r)
 

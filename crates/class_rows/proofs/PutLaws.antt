@@ -124,7 +124,8 @@ module _ (f : ℕ → ℕ → List ℕ) (up : List ℕ) (s : Sheet) (j : ℕ) wh
     step : putAll f (newOf up (namesFrom s j n x)) k ≡ putAll f (newOf up (ofKind (x ∷ chain (n - 1) s y))) k
     step = ap (λ (ks : List ℕ). putAll f (newOf up (ofKind ks)) k) (chain-step s n x l g ∙ ap (λ (i : ℕ). x ∷ chain (n - 1) s i) (sym to))
 
-    pub listed-here : {z m : ℕ} {d : Filled} → z ≡ kind s x → z ≡ j → m ≡ a s x → d ≡ putAll f (newOf up (m ∷ [])) k → putAll f (newOf up (namesFrom s j (n - 1) y)) d ≡ putAll f (newOf up (namesFrom s j n x)) k
+    pub listed-here : {z m : ℕ} {d : Filled} → z ≡ kind s x → z ≡ j → m ≡ a s x → d ≡ putAll f (newOf up (m ∷ [])) k
+        → putAll f (newOf up (namesFrom s j (n - 1) y)) d ≡ putAll f (newOf up (namesFrom s j n x)) k
     listed-here {m = m} w e h q =
         new-first f up m (namesFrom s j (n - 1) y) k q
         ∙ sym (step ∙ rw (eq-eqb (kind s x) j (sym w ∙ e), sym h))
@@ -198,7 +199,8 @@ module _ (O : Outside) (f : ℕ → ℕ → List ℕ) (s : Sheet) (o : Store) (j
   unfolding inherited
   names-first z h = both (rw (eq-eqb p 0 z) (put-none f k)) h
 
-  pub names-after : {x y : Filled} → (p ≡ 0 → ⊥) → x ≡ putAll f (namesIn O s o j (n - 1) p) k → y ≡ putAll f (newOf (inherited O s o j (n - 1) p) (ownIn O s o j c)) x → y ≡ putAll f (namesIn O s o j n c) k
+  pub names-after : {x y : Filled} → (p ≡ 0 → ⊥) → x ≡ putAll f (namesIn O s o j (n - 1) p) k
+      → y ≡ putAll f (newOf (inherited O s o j (n - 1) p) (ownIn O s o j c)) x → y ≡ putAll f (namesIn O s o j n c) k
   unfolding inherited
   names-after z g h = both (rw (ne-eqb p 0 z) g) h
 

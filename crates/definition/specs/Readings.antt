@@ -380,7 +380,8 @@ depth-65 = record { sheet = nested 65; head = 4 ∷ []; rows = [] }
 
 abbrev pub readings : List Sample
 readings =
-    branch-let ∷ both-branches ∷ shadowed ∷ first-use ∷ walk-order ∷ immutable ∷ itself ∷ hoisted ∷ main-unit ∷ inherited-init ∷ core-parent ∷ core-method ∷ core-init ∷ import-twice ∷ depth-63 ∷ depth-64 ∷ depth-65 ∷ []
+    branch-let ∷ both-branches ∷ shadowed ∷ first-use ∷ walk-order ∷ immutable ∷ itself ∷ hoisted ∷ main-unit
+    ∷ inherited-init ∷ core-parent ∷ core-method ∷ core-init ∷ import-twice ∷ depth-63 ∷ depth-64 ∷ depth-65 ∷ []
 
 pub results : map printedOf readings ≡ map expected readings
 results = refl

@@ -4,7 +4,9 @@ use mathlib.Core.List.{List, [], _∷_, _++_, map}
 use Prim.Native.Nat.{ℕ, zero, suc, _+_}
 use lib.Dec.{eqb, leb}
 use Rattle.definition.specs.Basics.{if_then_else_, filter, first, concatMap}
-use Rattle.definition.specs.Kind.{UNIT, IMPORT, CLASS, FUNCTION, FUNCTION-EXPORT, CONSTANT-EXPORT, PARAMETER, ASSIGN, BREAK, CONTINUE, BLOCK, FOR, LET, CLASS-DECLARATION, IDENTIFIER, HOST-CONSTANT, LITERAL, INSTANCEOF, CALL}
+use Rattle.definition.specs.Kind.{UNIT, IMPORT, CLASS, FUNCTION, FUNCTION-EXPORT, CONSTANT-EXPORT, PARAMETER}
+use Rattle.definition.specs.Kind.{ASSIGN, BREAK, CONTINUE, BLOCK, FOR, LET, CLASS-DECLARATION, IDENTIFIER}
+use Rattle.definition.specs.Kind.{HOST-CONSTANT, LITERAL, INSTANCEOF, CALL}
 use Rattle.definition.specs.Sheet.{Sheet, kind, child, a, b, rows, kids, is, kidsOf}
 use Rattle.definition.specs.Meaning.{Meaning, Named, named, nothing, function, class, global}
 

@@ -121,7 +121,9 @@ module _ (s : Sheet) (ok : LinkFacts s) (top : kind s 0 ≡ 0) (r : ℕ) (l : r 
           last : (next s c ≡ 0) ⊎ (next s c ≡ 0 → ⊥) → map (kind s) (chain (rows s) s (next s c)) ≡ [] → next s c ≡ 0
           last (inl e) g = e
           last (inr y) g =
-              let q : kind s (next s c) ∷ map (kind s) (chain (rows s) s (next s (next s c))) ≡ [] = sym (list-of (next s c) y (in-range c (next s c) (ok .nexts c (in-range r c (ok .children r l) z)) y)) ∙ g in
+              let q : kind s (next s c) ∷ map (kind s) (chain (rows s) s (next s (next s c))) ≡ [] =
+              sym (list-of (next s c) y (in-range c (next s c) (ok .nexts c (in-range r c (ok .children r l) z)) y))
+              ∙ g in
               let o : _≡_ {A = ℕ} 0 1 = cc in
               absurd (omega arith)
 
@@ -181,7 +183,10 @@ module _ (s : Sheet) (ok : LinkFacts s) (top : kind s 0 ≡ 0) (r : ℕ) (l : r 
     function-gives h =
         let q = by-tests (is s 6 r) (is s 2 p) (is s 4 p) (b s r) (eqb (kind s (child s r)) 25 && eqb (next s (child s r)) 0) (not (eqb (a s r) 0)) apart h in (
           subst (λ (t : Bool). T (is s 6 r ⇒ eqb (b s r) (bit (is s 6 r && t)))) (sym two) (q .0),
-          imp-of (is s 6 r && is s 2 (parent (tables s) r)) block (λ w. block-gives-back (T-imp (is s 6 r && is s 2 p) (eqb (kind s (child s r)) 25 && eqb (next s (child s r)) 0) (q .1) (subst (λ (t : Bool). T (is s 6 r && t)) two w))),
+          imp-of (is s 6 r && is s 2 (parent (tables s) r)) block
+              (λ w. block-gives-back (T-imp (is s 6 r && is s 2 p)
+              (eqb (kind s (child s r)) 25 && eqb (next s (child s r)) 0) (q .1)
+              (subst (λ (t : Bool). T (is s 6 r && t)) two w))),
           subst (λ (t : Bool). T (is s 6 r && t ⇒ not (eqb (a s r) 0))) (sym four) (q .2),
         )
       where

@@ -13,13 +13,17 @@ use Rattle.definition.specs.Sheet.{Sheet, word, kind, next, child, rows, chain,
 use Rattle.definition.specs.Shape.{Part, fits}
 use Rattle.definition.specs.Format.{tables, at, parentTable, unitEntry, functionEntry, classEntry, unit, function, class, childrenFit}
 use Rattle.definition.proofs.Lists.Tests.{ℕ-trichotomy}
-use Rattle.definition.proofs.Format.Links.{Rises, LinkFacts, next-one, child-one, next-not-child, linker, held, header-held, parent-is, depth-header, depth-step, unit-step, function-step, class-step, child-held, next-held}
+use Rattle.definition.proofs.Format.Links.{Rises, LinkFacts, next-one, child-one, next-not-child, linker, held}
+use Rattle.definition.proofs.Format.Links.{header-held, parent-is, depth-header, depth-step, unit-step, function-step}
+use Rattle.definition.proofs.Format.Links.{class-step, child-held, next-held}
 use Rattle.definition.proofs.Format.Tables.{table-at}
 use Rattle.definition.proofs.Format.Passes.{chain-on}
 use Rattle.row_fits.specs.States.{entryOf, kindTable, stateAt}
 use Rattle.row_fits.specs.Pass.{stateAfter, noteRow, unitHere, classHere, entryIn}
 use Rattle.first_four.proofs.StateLaws.{kind-is, after-is}
-use Rattle.first_four.proofs.Noting.{NotLinked, length-noted, stays-row, stays-column, own-unit, own-class, child-parent, child-depth, child-unit, child-fun, child-class, child-state, next-parent, next-depth, next-unit, next-fun, next-class, next-state}
+use Rattle.first_four.proofs.Noting.{NotLinked, length-noted, stays-row, stays-column, own-unit, own-class}
+use Rattle.first_four.proofs.Noting.{child-parent, child-depth, child-unit, child-fun, child-class, child-state}
+use Rattle.first_four.proofs.Noting.{next-parent, next-depth, next-unit, next-fun, next-class, next-state}
 
 -- what is left of row k's child list from k on, in state q, fits
 abbrev pub leftFits : Sheet → ℕ → ℕ → Bool
@@ -351,7 +355,8 @@ module _ (s : Sheet) (ok : LinkFacts s) (some : 0 < rows s) (few : rows s ≤ 20
           listed = λ k p h q. by-link (Listed s u) k (inr q) (λ e. absurd (omega arith))
               (λ b y. listed-stays k (not-linked k b h p) (f .listed k p h b)) (λ e w. subst (Listed s u) e (next-listed w)) (λ e w. subst (Listed s u) e (child-listed w));
           waiting = λ k h g q. by-link (Waiting s u) k q (λ e. absurd (omega arith))
-              (λ b p. waiting-stays k (not-linked k b h p) (λ e. omega arith) (f .waiting k h (omega arith) (inr b))) (λ e w. subst (Waiting s u) e (next-waiting w)) (λ e w. subst (Waiting s u) e (child-waiting w));
+              (λ b p. waiting-stays k (not-linked k b h p) (λ e. omega arith) (f .waiting k h (omega arith) (inr b)))
+              (λ e w. subst (Waiting s u) e (next-waiting w)) (λ e w. subst (Waiting s u) e (child-waiting w));
           reached = λ k h g. by-order k h g (ℕ-trichotomy k r);
         }
       where

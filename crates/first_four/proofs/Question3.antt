@@ -10,7 +10,10 @@ use lib.ListN.{length, getD}
 use Rattle.definition.specs.Basics.{if_then_else_, _⇒_, all, count, from}
 use Rattle.definition.specs.Sheet.{Sheet, word, kind, next, child, a, b, rows, kids, is, holder}
 use Rattle.definition.specs.Shape.{holds, shapeOf}
-use Rattle.definition.specs.Format.{tables, at, parent, unit, function, class, depthEntry, parentTable, headerFirst, mainMarked, linksRise, linkRises, linkedOnce, links, columnsFit, fileFits, constantFits, childrenFit, unitApart, classApart, unitMarked, unitBody, methodNamed, literalClass, declaredOnce, declaredInUnit, declaredAfter, sheetFits, depthsFit}
+use Rattle.definition.specs.Format.{tables, at, parent, unit, function, class, depthEntry, parentTable, headerFirst}
+use Rattle.definition.specs.Format.{mainMarked, linksRise, linkRises, linkedOnce, links, columnsFit, fileFits}
+use Rattle.definition.specs.Format.{constantFits, childrenFit, unitApart, classApart, unitMarked, unitBody, methodNamed}
+use Rattle.definition.specs.Format.{literalClass, declaredOnce, declaredInUnit, declaredAfter, sheetFits, depthsFit}
 use Rattle.definition.proofs.Lists.Tests.{T-and, and-both, or-cases, or-left, or-right, decide, eqb-of, T-imp, T-true, ℕ-trichotomy}
 use Rattle.definition.proofs.Lists.Counts.{all-below}
 use Rattle.definition.proofs.Lists.Members.{mem-test}
@@ -116,7 +119,9 @@ module _ (s : Sheet) (t : List ℕ) (ok : LinkFacts s) (top : kind s 0 ≡ 0) (s
       Is : ℕ → Type 0
       Is c = (c ≡ 0) ⊎ ((c < rows s) × T (is s 4 c))
 
-      pick : (x y : Bool) (p q : ℕ) → p < rows s → (T y → T (is s 4 p)) → (q ≡ 0) ⊎ ((q < rows s) × T (is s 4 q)) → ((if x && y then p else q) ≡ 0) ⊎ (((if x && y then p else q) < rows s) × T (is s 4 (if x && y then p else q)))
+      pick : (x y : Bool) (p q : ℕ) → p < rows s → (T y → T (is s 4 p)) → (q ≡ 0) ⊎ ((q < rows s) × T (is s 4 q))
+          → ((if x && y then p else q) ≡ 0)
+          ⊎ (((if x && y then p else q) < rows s) × T (is s 4 (if x && y then p else q)))
       pick true true p q u f v = inr (u, f tt)
       pick true false p q u f v = v
       pick false y p q u f v = v
@@ -280,7 +285,9 @@ module _ (s : Sheet) (t : List ℕ) (ok : LinkFacts s) (top : kind s 0 ≡ 0) (s
       go (inr x) y = or-left (not (is s 52 r)) (eqb (a s r) 0 || eqb (word F (a s r) 2) (word F r 2)) x
       go (inl x) (inl y) = or-right (not (is s 52 r)) (eqb (a s r) 0 || eqb (word F (a s r) 2) (word F r 2)) (or-left (eqb (a s r) 0) (eqb (word F (a s r) 2) (word F r 2)) y)
       go (inl x) (inr y) =
-          let e : unit (tables s) (a s r) ≡ unit (tables s) r = eqb→eq _ _ (T-imp (is s 52 r && not (eqb (a s r) 0)) (eqb (unit (tables s) (a s r)) (unit (tables s) r)) g (and-both (is s 52 r) (not (eqb (a s r) 0)) x y)) in
+          let e : unit (tables s) (a s r) ≡ unit (tables s) r =
+          eqb→eq _ _ (T-imp (is s 52 r && not (eqb (a s r) 0)) (eqb (unit (tables s) (a s r)) (unit (tables s) r)) g
+          (and-both (is s 52 r) (not (eqb (a s r) 0)) x y)) in
           or-right (not (is s 52 r)) (eqb (a s r) 0 || eqb (word F (a s r) 2) (word F r 2)) (or-right (eqb (a s r) 0) (eqb (word F (a s r) 2) (word F r 2))
           (eqb-of (word F (a s r) 2) (word F r 2) (reached (a s r) (literal-row last r h x (λ q. T-not (eqb (a s r) 0) y (eqb-of (a s r) 0 q))) .of-unit ∙ e ∙ sym (reached r l .of-unit))))
 
@@ -341,7 +348,9 @@ module _ (s : Sheet) (t : List ℕ) (ok : LinkFacts s) (top : kind s 0 ≡ 0) (s
 
       names : (r : ℕ) → r < rows s → T (unitApart s r) × T (classApart s r)
       names r l =
-          rows-give s (rows s) 0 m (λ i. omega (arith, fresh i)) (λ i p q j c n e w. omega (arith, ranges last (λ x y. parts x y .columns) i (omega arith) j c n e w)) apart r (omega arith) (omega arith)
+          rows-give s (rows s) 0 m (λ i. omega (arith, fresh i))
+          (λ i p q j c n e w. omega (arith, ranges last (λ x y. parts x y .columns) i (omega arith) j c n e w)) apart r
+          (omega arith) (omega arith)
 
       one-declaration : (r : ℕ) → r < rows s → T (declaredOnce s r)
       unfolding classOk
@@ -367,7 +376,9 @@ module _ (s : Sheet) (t : List ℕ) (ok : LinkFacts s) (top : kind s 0 ≡ 0) (s
       unfolding methodOk
       after-methods r l =
           imp-of (is s 30 r) (all (λ i. eqb (class (tables s) i) (a s r) ⇒ ltb i r) (from 0 (rows s)))
-          (λ k. all-of (λ i. eqb (class (tables s) i) (a s r) ⇒ ltb i r) 0 (rows s) (λ i p q. imp-of (eqb (class (tables s) i) (a s r)) (ltb i r) (λ e. one k i (omega arith) (eqb→eq (class (tables s) i) (a s r) e))))
+          (λ k. all-of (λ i. eqb (class (tables s) i) (a s r) ⇒ ltb i r) 0 (rows s)
+          (λ i p q. imp-of (eqb (class (tables s) i) (a s r)) (ltb i r)
+          (λ e. one k i (omega arith) (eqb→eq (class (tables s) i) (a s r) e))))
         where
           one : T (is s 30 r) → (i : ℕ) → i < rows s → class (tables s) i ≡ a s r → T (ltb i r)
           one k i h e = pick (or-cases (eqb (word F i 4) 0) (ltb i (word F (word F i 4) 7)) (cross i h .methods))
@@ -467,7 +478,9 @@ module _ (s : Sheet) (t : List ℕ) (ok : LinkFacts s) (top : kind s 0 ≡ 0) (s
               let q = word-of (class (tables s) r) (w .0) (w .1) in
               let e : word F (word F r 4) 7 ≡ q .0 = ap (λ (x : ℕ). word F x 7) (reached r l .of-class) ∙ q .4 in
               let h : T (ltb r (q .0)) = T-imp (eqb (class (tables s) r) (a s (q .0))) (ltb r (q .0))
-              (all-below (λ i. eqb (class (tables s) i) (a s (q .0)) ⇒ ltb i (q .0)) (rows s) (T-imp (is s 30 (q .0)) _ (row (q .0) (q .1) .after) (q .2)) r l) (eqb-of (class (tables s) r) (a s (q .0)) (sym (q .3))) in
+              (all-below (λ i. eqb (class (tables s) i) (a s (q .0)) ⇒ ltb i (q .0)) (rows s)
+              (T-imp (is s 30 (q .0)) _ (row (q .0) (q .1) .after) (q .2)) r l)
+              (eqb-of (class (tables s) r) (a s (q .0)) (sym (q .3))) in
               or-right (eqb (word F r 4) 0) (ltb r (word F (word F r 4) 7)) (subst (λ (x : ℕ). T (ltb r x)) (sym e) h)
 
       pub cross-yes : T (all (crossOk s F) (from 0 (rows s)))
@@ -579,7 +592,14 @@ module _ (last : ℕ) (s : Sheet) (t m : List ℕ) (some : 0 < rows s) (few : ro
       let f : SheetFacts last s = sheet-facts last s (T-true (sheetFits last s) h) in
       let ok : LinkFacts s = link-facts last s f in
       let top : kind s 0 ≡ 0 = eqb→eq (kind s 0) 0 (T-and (is s 0 0) (eqb (next s 0) 0) (f .header) .0) in
-      let e : (i : ℕ) → i < rows s → word (rowsNoted s (rows s) 0 t) i 1 ≡ at (tables s .depths) i = λ i l. ap (λ (u : List ℕ). word u i 1) (noted-whole s t (rows s)) ∙ entered s t ok top some few long zeros i l .depth in
+      let e : (i : ℕ) → i < rows s → word (rowsNoted s (rows s) 0 t) i 1 ≡ at (tables s .depths) i =
+      λ i l. ap (λ (u : List ℕ). word u i 1) (noted-whole s t (rows s))
+      ∙ entered s t ok top some few long zeros i l .depth in
       same-test (all (depthOk (rowsNoted s (rows s) 0 t)) (from 0 (rows s))) (depthsFit s)
-      (λ g. all-places (λ d. leb d 64) (tables s .depths) (λ i l. let b : i < rows s = omega (arith, depths-long) in subst (λ (d : ℕ). T (leb d 64)) (e i b) (all-below (depthOk (rowsNoted s (rows s) 0 t)) (rows s) g i b)))
-      (λ g. all-of (depthOk (rowsNoted s (rows s) 0 t)) 0 (rows s) (λ i p q. let b : i < rows s = omega arith in subst (λ (d : ℕ). T (leb d 64)) (sym (e i b)) (places-all (λ d. leb d 64) (tables s .depths) g i (omega (arith, depths-long)))))
+      (λ g. all-places (λ d. leb d 64) (tables s .depths)
+      (λ i l. let b : i < rows s = omega (arith, depths-long) in
+      subst (λ (d : ℕ). T (leb d 64)) (e i b) (all-below (depthOk (rowsNoted s (rows s) 0 t)) (rows s) g i b)))
+      (λ g. all-of (depthOk (rowsNoted s (rows s) 0 t)) 0 (rows s)
+      (λ i p q. let b : i < rows s = omega arith in
+      subst (λ (d : ℕ). T (leb d 64)) (sym (e i b))
+      (places-all (λ d. leb d 64) (tables s .depths) g i (omega (arith, depths-long)))))

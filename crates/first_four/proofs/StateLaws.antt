@@ -207,7 +207,9 @@ none-after = tt
 after-above : (q k : ℕ) → q < 26 → 60 ≤ k → AfterIs q k
 unfolding stateAfter
 after-above q k hq hk =
-    let e : stateAfter q k ≡ 0 = ap (λ (x : ℕ). entryOf stateTable q (x + 1)) (no-row kindTable k 0 hk) ∙ eqb→eq (entryOf stateTable q 1) 0 (all-below (λ i. eqb (entryOf stateTable i 1) 0) 26 none-after q hq) in
+    let e : stateAfter q k ≡ 0 =
+    ap (λ (x : ℕ). entryOf stateTable q (x + 1)) (no-row kindTable k 0 hk)
+    ∙ eqb→eq (entryOf stateTable q 1) 0 (all-below (λ i. eqb (entryOf stateTable i 1) 0) 26 none-after q hq) in
     record {
       low = subst (λ (x : ℕ). x < 26) (sym e) (omega arith);
       state = ap stateAt e ∙ sym (rest-high k (stateAt q) (all-below (λ i. all low (stateAt i)) 26 low-all q hq) hk);

@@ -43,8 +43,13 @@ module _ (s : Sheet) (k v : ℕ) where
 
   cons-apart : (m : List ℕ) (x : ℕ) (xs : List ℕ) → x < length m → (getD m x 0 ≡ v → ⊥) → Apart (set m x v) xs → Apart m (x ∷ xs)
   unfolding Apart
-  cons-apart m x xs l f q =
-      (and-both (not (any (eqb x) xs)) (unlike eqb xs) (not-T (any (eqb x) xs) (λ t. let w = any-mem (eqb x) xs t in q .1 (w .0) (w .1) (marked-there (w .0) (sym (eqb→eq x (w .0) (w .2)))))) (q .0), go)
+  cons-apart m x xs l f q = (
+    and-both (not (any (eqb x) xs)) (unlike eqb xs) (not-T (any (eqb x) xs)
+        (λ t. let w = any-mem (eqb x) xs t in
+        q .1 (w .0) (w .1) (marked-there (w .0) (sym (eqb→eq x (w .0) (w .2))))))
+        (q .0),
+    go,
+  )
     where
       marked-there : (y : ℕ) → y ≡ x → getD (set m x v) y 0 ≡ v
       marked-there y e = ap (λ (z : ℕ). getD (set m x v) z 0) e ∙ getD-set-same m x v 0 l
@@ -70,7 +75,9 @@ module _ (s : Sheet) (k v : ℕ) where
       go (decide (is s k c)) (T-and (childUnmarked s k v m c) (unmarked s k v (childMarked s k v m c) cs) h) (unmarked-gives cs (set m (a s c) v)) (unmarked-gives cs m)
     where
       go : T (is s k c) ⊎ T (not (is s k c)) → T (childUnmarked s k v m c) × T (unmarked s k v (childMarked s k v m c) cs)
-          → (InRange (length (set m (a s c) v)) cs → T (unmarked s k v (set m (a s c) v) cs) → Apart (set m (a s c) v) (names cs)) → (InRange (length m) cs → T (unmarked s k v m cs) → Apart m (names cs))
+          → (InRange (length (set m (a s c) v)) cs → T (unmarked s k v (set m (a s c) v) cs)
+          → Apart (set m (a s c) v) (names cs))
+          → (InRange (length m) cs → T (unmarked s k v m cs) → Apart m (names cs))
           → Apart m (names (c ∷ cs))
       go (inl t) q on off =
           let f : getD m (a s c) 0 ≡ v → ⊥ = λ e. T-not (eqb (getD m (a s c) 0) v) (subst T (if-true (is s k c) (not (eqb (getD m (a s c) 0) v)) true t) (q .0)) (eqb-of (getD m (a s c) 0) v e) in
@@ -185,7 +192,8 @@ module _ (s : Sheet) (r : ℕ) (m : List ℕ) (u : Under m (4 * r + 1)) where
       let q = T-and (namesApart s 4 r && namesApart s 7 r) (namesApart s 8 r) h in
       let w = T-and (namesApart s 4 r) (namesApart s 7 r) (q .0) in
       and-both (unmarked s 4 (stamp r 1) m (kids s r)) (unmarked s 7 (stamp r 2) (m1 4) (kids s r) && unmarked s 8 (stamp r 3) m2 (kids s r)) (of-apart s 4 (4 * r + 1) r m u (w .0))
-      (and-both (unmarked s 7 (stamp r 2) (m1 4) (kids s r)) (unmarked s 8 (stamp r 3) m2 (kids s r)) (of-apart s 7 (4 * r + 2) r (m1 4) (under1 4) (w .1)) (of-apart s 8 (4 * r + 3) r m2 under2 (q .1)))
+      (and-both (unmarked s 7 (stamp r 2) (m1 4) (kids s r)) (unmarked s 8 (stamp r 3) m2 (kids s r))
+      (of-apart s 7 (4 * r + 2) r (m1 4) (under1 4) (w .1)) (of-apart s 8 (4 * r + 3) r m2 under2 (q .1)))
 
   class-gives : Ranges → T (classUnmarked s r m) → T (namesApart s 10 r && namesApart s 6 r)
   unfolding classUnmarked m1
@@ -210,7 +218,9 @@ module _ (s : Sheet) (r : ℕ) (m : List ℕ) (u : Under m (4 * r + 1)) where
 
       go : T (is s 2 r) ⊎ T (not (is s 2 r)) → T (is s 4 r) ⊎ T (not (is s 4 r)) → T (unitApart s r) × T (classApart s r)
       go (inl t) w = (
-        imp-of (is s 2 r) (namesApart s 4 r && namesApart s 7 r && namesApart s 8 r) (λ x. unit-gives g (subst T (if-true (is s 2 r) (unitUnmarked s r m) (if is s 4 r then classUnmarked s r m else true) t) h)),
+        imp-of (is s 2 r) (namesApart s 4 r && namesApart s 7 r && namesApart s 8 r)
+            (λ x. unit-gives g
+            (subst T (if-true (is s 2 r) (unitUnmarked s r m) (if is s 4 r then classUnmarked s r m else true) t) h)),
         imp-of (is s 4 r) (namesApart s 10 r && namesApart s 6 r) (λ x. absurd (kind-apart (kind s r) 2 4 tt t x)),
       )
       go (inr t) (inl w) = (
@@ -225,7 +235,9 @@ module _ (s : Sheet) (r : ℕ) (m : List ℕ) (u : Under m (4 * r + 1)) where
   gives-row x y = go (decide (is s 2 r)) (decide (is s 4 r))
     where
       go : T (is s 2 r) ⊎ T (not (is s 2 r)) → T (is s 4 r) ⊎ T (not (is s 4 r)) → T (rowUnmarked s r m)
-      go (inl t) w = subst T (sym (if-true (is s 2 r) (unitUnmarked s r m) (if is s 4 r then classUnmarked s r m else true) t)) (gives-unit (T-imp (is s 2 r) (namesApart s 4 r && namesApart s 7 r && namesApart s 8 r) x t))
+      go (inl t) w =
+          subst T (sym (if-true (is s 2 r) (unitUnmarked s r m) (if is s 4 r then classUnmarked s r m else true) t))
+          (gives-unit (T-imp (is s 2 r) (namesApart s 4 r && namesApart s 7 r && namesApart s 8 r) x t))
       go (inr t) (inl w) =
           subst T (sym (if-false (is s 2 r) (unitUnmarked s r m) (if is s 4 r then classUnmarked s r m else true) t ∙ if-true (is s 4 r) (classUnmarked s r m) true w))
           (gives-class (T-imp (is s 4 r) (namesApart s 10 r && namesApart s 6 r) y w))
@@ -262,7 +274,9 @@ unfolding allUnmarked
 rows-give s zero r m u g h i p q = absurd (omega arith)
 rows-give s (suc k) r m u g h i p q =
     let w = T-and (rowUnmarked s r m) (allUnmarked s k (suc r) (rowMarked s r m)) h in
-    go w (ℕ-trichotomy r i) (rows-give s k (suc r) (rowMarked s r m) (row-under s r m u) (λ x y z j c n t o. subst (λ (l : ℕ). a s c < l) (sym (row-length s r m u)) (g x (omega arith) (omega arith) j c n t o)))
+    go w (ℕ-trichotomy r i) (rows-give s k (suc r) (rowMarked s r m) (row-under s r m u)
+    (λ x y z j c n t o. subst (λ (l : ℕ). a s c < l) (sym (row-length s r m u))
+    (g x (omega arith) (omega arith) j c n t o)))
   where
     go : T (rowUnmarked s r m) × T (allUnmarked s k (suc r) (rowMarked s r m)) → (r < i) ⊎ ((r ≡ i) ⊎ (i < r))
         → (T (allUnmarked s k (suc r) (rowMarked s r m)) → (x : ℕ) → suc r ≤ x → x < suc r + k → T (unitApart s x) × T (classApart s x)) → T (unitApart s i) × T (classApart s i)

@@ -212,7 +212,9 @@ unfolding functionRowsIn listAt
 function-rows s o f a b e l k {x} hl ha hb he hx hy hz =
     emit-first (answerRow f (20 ∷ a ∷ b ∷ e ∷ [])) (map (capturedRow s f) (chainTo (o .nodes) l) ++ map (slotRow f) (escapingSlots s o f)) k hx
     (emit-both (map (capturedRow s f) (chainTo (o .nodes) l)) (map (slotRow f) (escapingSlots s o f)) x hy hz)
-    ∙ ap (λ (v : List (List ℕ)). emitAll v k) (counts ∙ sym (rows-split (λ vs. eight (f ∷ vs)) (λ u. codeOf s (meaningOfNode u) (u .two) 0) (λ j. 5 ∷ j ∷ f ∷ 1 ∷ []) whole (chainTo (o .nodes) (cell (o .table) f 6)) (escapingSlots s o f)))
+    ∙ ap (λ (v : List (List ℕ)). emitAll v k) (counts
+    ∙ sym (rows-split (λ vs. eight (f ∷ vs)) (λ u. codeOf s (meaningOfNode u) (u .two) 0) (λ j. 5 ∷ j ∷ f ∷ 1 ∷ [])
+    whole (chainTo (o .nodes) (cell (o .table) f 6)) (escapingSlots s o f)))
   where
     whole : List ℕ
     whole = 20 ∷ cell (o .table) f 5 ∷ length (chainTo (o .nodes) (cell (o .table) f 6)) ∷ length (escapingSlots s o f) ∷ []

@@ -99,4 +99,8 @@ module _ (row : Node → List ℕ) (q : List ℕ) where
 pub literal-rows : (s : Sheet) (o : Store) (r f g l : ℕ) (k : Sink) {x : Sink} → f ≡ cell (o .table) r 1 → g ≡ child s r → l ≡ cell (o .table) g 6
     → x ≡ emitAll (map (λ y. eight (r ∷ seenIn s (meaningOfNode y) (y .two) 0 f o)) (chainTo (o .nodes) l)) k → x ≡ emitAll (map (λ vs. eight (r ∷ vs)) (literalRowsIn s o r)) k
 unfolding literalRowsIn listAt
-literal-rows s o r f g l k e h i j = j ∙ rw (i, h, e) (ap (λ (z : List (List ℕ)). emitAll z k) (sym (map-map (λ vs. eight (r ∷ vs)) (λ y. seenIn s (meaningOfNode y) (y .two) 0 (cell (o .table) r 1) o) (chainTo (o .nodes) (cell (o .table) (child s r) 6)))))
+literal-rows s o r f g l k e h i j =
+    j
+    ∙ rw (i, h, e) (ap (λ (z : List (List ℕ)). emitAll z k) (sym
+    (map-map (λ vs. eight (r ∷ vs)) (λ y. seenIn s (meaningOfNode y) (y .two) 0 (cell (o .table) r 1) o)
+    (chainTo (o .nodes) (cell (o .table) (child s r) 6)))))

@@ -193,7 +193,8 @@ module _ (O : Outside) (s : Sheet) (i : ℕ) where
 abbrev ofSeen : Sheet → ℕ → ℕ → List Event
 ofSeen s u i = if eqb (b s i) 1 then map (brought i) (seen s u i) else []
 
-pub seen-listed : (O : Outside) (s : Sheet) (u i : ℕ) (x : State) {y z : State} → y ≡ runState O s (ofSeen s u i) x → z ≡ runState O s (map (broughtListed s u i) (kids s i)) y → z ≡ runState O s (imports s u i) x
+pub seen-listed : (O : Outside) (s : Sheet) (u i : ℕ) (x : State) {y z : State} → y ≡ runState O s (ofSeen s u i) x
+    → z ≡ runState O s (map (broughtListed s u i) (kids s i)) y → z ≡ runState O s (imports s u i) x
 seen-listed O s u i x e f = run-both O s (ofSeen s u i) (map (broughtListed s u i) (kids s i)) x e f
 
 -- what it sees; m is its column b, n the unit that it names

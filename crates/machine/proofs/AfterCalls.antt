@@ -31,7 +31,9 @@ calls-asked O s h (m ∷ ms) = go (eqb (constructed s (visited (m .event)) (open
 pub refused-in-walk : (O : Outside) (s : Sheet) → (walkRefusal O s .number ≡ 0 → ⊥) → refusal O s (history O s) ≡ walkRefusal O s
 refused-in-walk O s e = rw (ne-eqb (walkRefusal O s .number) 0 e)
 
-pub refused-later : (O : Outside) (s : Sheet) (o : Store) → chainTo (o .nodes) (o .calls) ≡ map (callNode s) (callsOf s (history O s)) → walkRefusal O s .number ≡ 0 → refusal O s (history O s) ≡ laterRefusal O s o
+pub refused-later : (O : Outside) (s : Sheet) (o : Store)
+    → chainTo (o .nodes) (o .calls) ≡ map (callNode s) (callsOf s (history O s)) → walkRefusal O s .number ≡ 0
+    → refusal O s (history O s) ≡ laterRefusal O s o
 refused-later O s o c e =
     rw (eq-eqb (walkRefusal O s .number) 0 e)
     (ap (λ (x : Refusal). firstNo (firstOfClasses s (askClimb O s (parentOf s (history O s)) (suc (rows s)) []) ∷ x ∷ []))

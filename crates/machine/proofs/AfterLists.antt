@@ -159,7 +159,10 @@ module _ (O : Outside) (s : Sheet) (hd : kind s 0 ≡ 0) (h : List Moment) (o : 
   hands-all f j al-none = refl
   hands-all f j (al-one {x = g} {xs = gs} e h′) =
       any-append (λ u. isMutable s (u .means) && eqb (ownerOf (u .means)) f && eqb (u .slot) j) (captures s h g) (concatMap (captures s h) gs)
-      ∙ ap (λ (t : Bool). t || any (λ u. isMutable s (u .means) && eqb (ownerOf (u .means)) f && eqb (u .slot) j) (concatMap (captures s h) gs)) (hands-one f j g (leb-true (suc g) (length (o .table) / 8) e))
+      ∙ ap (λ (t : Bool). t
+      || any (λ u. isMutable s (u .means) && eqb (ownerOf (u .means)) f && eqb (u .slot) j)
+      (concatMap (captures s h) gs))
+      (hands-one f j g (leb-true (suc g) (length (o .table) / 8) e))
       ∙ ap (λ (t : Bool). handsOn s f j (listAt o (8 * g + 6)) || t) (hands-all f j h′)
       ∙ sym (any-append (λ y. isMutable s (meaningOfNode y) && eqb (y .one) f && eqb (y .two) j) (listAt o (8 * g + 6)) (concatMap (λ g. listAt o (8 * g + 6)) gs))
 

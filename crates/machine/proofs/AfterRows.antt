@@ -438,11 +438,15 @@ module _ (O : Outside) (s : Sheet) (hd : kind s 0 ≡ 0) (h : List Moment) (o : 
   pub member-words : is s 54 r ≡ true
       → map (λ m. fourWords (memberValues O s r m)) (final (filter (isMemberCall s r) h)) ≡ map (λ m. rowWords (o .table) r) (final (filter (isMemberCall s r) h))
   member-words hr =
-      conclude O s h (rowWords (o .table) r) r (isMemberCall s r) (λ m. target-member s hd r hr nz (m .event) (m .stack)) (memberValues O s r) (λ m q. member-writes (m .event) (m .stack) q) (k .words-is r l nz)
+      conclude O s h (rowWords (o .table) r) r (isMemberCall s r)
+      (λ m. target-member s hd r hr nz (m .event) (m .stack)) (memberValues O s r)
+      (λ m q. member-writes (m .event) (m .stack) q) (k .words-is r l nz)
 
   pub member-none : is s 54 r ≡ true → final (filter (isMemberCall s r) h) ≡ [] → rowWords (o .table) r ≡ 0 ∷ 0 ∷ 0 ∷ 0 ∷ []
   member-none hr =
-      conclude-none O s h (rowWords (o .table) r) r (isMemberCall s r) (λ m. target-member s hd r hr nz (m .event) (m .stack)) (memberValues O s r) (λ m q. member-writes (m .event) (m .stack) q) (k .words-is r l nz)
+      conclude-none O s h (rowWords (o .table) r) r (isMemberCall s r)
+      (λ m. target-member s hd r hr nz (m .event) (m .stack)) (memberValues O s r)
+      (λ m q. member-writes (m .event) (m .stack) q) (k .words-is r l nz)
 
   -- the definition's row of a member
   pub member-row : memberRow O s h r ≡ map (memberValues O s r) (filter (isMemberCall s r) h)

@@ -87,7 +87,8 @@ module _ (O : Outside) (s : Sheet) (h : List Moment) (o : Store) (k : StoreAgree
           ∙ ap (map (answerRow r)) (once (λ m. seenFrom s h (within s m) (useAt s m)) (rowWords (o .table) r) (visitOf h r) m e (identifier-words O s h o k r nz l hr))
 
       go : (t : Bool) → cell (o .table) r 4 ≡ bit t
-          → map (λ vs. eight (r ∷ vs)) (map (λ m. seenFrom s h (within s m) (useAt s m)) (if not t then m ∷ [] else [])) ≡ (if eqb (cell (o .table) r 4) 0 then answerRow r (rowWords (o .table) r) ∷ [] else [])
+          → map (λ vs. eight (r ∷ vs)) (map (λ m. seenFrom s h (within s m) (useAt s m)) (if not t then m ∷ [] else []))
+          ≡ (if eqb (cell (o .table) r 4) 0 then answerRow r (rowWords (o .table) r) ∷ [] else [])
       go true c = rw c
       go false c = rw c (subst (λ (ms : List Moment). map (λ vs. eight (r ∷ vs)) (map (λ m. seenFrom s h (within s m) (useAt s m)) ms) ≡ answerRow r (rowWords (o .table) r) ∷ []) e one)
 

@@ -13,7 +13,12 @@ use Rattle.definition.specs.Meaning.{Meaning, rowOf, ownerOf, classNumber}
 use Rattle.definition.specs.Walk.{enter, leave, loop, declare, bring, visit}
 use Rattle.definition.specs.Slots.{isLocal}
 use Rattle.definition.specs.Classes.{classOf, methodNamed, ownMethods}
-use Rattle.machine.specs.Machine.{oneMore, nodeWord, Node, nodeAt, previous, chainBack, reversed, chainTo, hasKey, Store, Scopes, openFunctions, currentFunction, lookupMeaning, lookupSlot, lookupGlobal, newMeaning, codeOf, appendCall, addNew, addCapture, writeRow, writeRowAt, markHidden, raiseLocals, seenIn, receiverClass, fieldNode, isOuterVariable, storeCall, storeField, storeCapture, storeLocal, storeHidden, storeRow, stepStore}
+use Rattle.machine.specs.Machine.{oneMore, nodeWord, Node, nodeAt, previous, chainBack, reversed, chainTo, hasKey}
+use Rattle.machine.specs.Machine.{Store, Scopes, openFunctions, currentFunction, lookupMeaning, lookupSlot}
+use Rattle.machine.specs.Machine.{lookupGlobal, newMeaning, codeOf, appendCall, addNew, addCapture, writeRow}
+use Rattle.machine.specs.Machine.{writeRowAt, markHidden, raiseLocals, seenIn, receiverClass, fieldNode}
+use Rattle.machine.specs.Machine.{isOuterVariable, storeCall, storeField, storeCapture, storeLocal, storeHidden}
+use Rattle.machine.specs.Machine.{storeRow, stepStore}
 use Rattle.machine.proofs.Lists.{any-append}
 use Rattle.machine.proofs.Nodes.{chainBack-hit, chainBack-down}
 
@@ -36,7 +41,9 @@ module _ (O : Outside) (s : Sheet) (p : Scopes) (o : Store) where
 
   -- a let
   pub store-let : (r : ℕ) → kind s r ≡ 29
-      → stepStore O s (declare r) p o ≡ writeRowAt r (codeOf s (newMeaning s r p) (p .slot) (p .nextGlobal)) (if isLocal s (newMeaning s r p) then raiseLocals (currentFunction p) (oneMore (p .slot)) o else o)
+      → stepStore O s (declare r) p o
+      ≡ writeRowAt r (codeOf s (newMeaning s r p) (p .slot) (p .nextGlobal))
+      (if isLocal s (newMeaning s r p) then raiseLocals (currentFunction p) (oneMore (p .slot)) o else o)
   unfolding stepStore storeRow storeHidden storeLocal storeCapture storeField storeCall
   store-let r e = rw e
 
@@ -48,7 +55,15 @@ module _ (O : Outside) (s : Sheet) (p : Scopes) (o : Store) where
   -- an identifier
   pub store-identifier : (r : ℕ) → kind s r ≡ 50
       → (x : Store)
-      → x ≡ (if isOuterVariable (lookupMeaning p (a s r)) (currentFunction p) then addCapture (openFunctions s p) (record { key = rowOf (lookupMeaning p (a s r)); one = ownerOf (lookupMeaning p (a s r)); two = lookupSlot p (a s r) }) o else o)
+      → x
+      ≡ (if isOuterVariable (lookupMeaning p (a s r)) (currentFunction p)
+      then addCapture (openFunctions s p) (record {
+        key = rowOf (lookupMeaning p (a s r));
+        one = ownerOf (lookupMeaning p (a s r));
+        two = lookupSlot p (a s r);
+      })
+      o
+      else o)
       → stepStore O s (visit r) p o ≡ writeRowAt r (seenIn s (lookupMeaning p (a s r)) (lookupSlot p (a s r)) (lookupGlobal p (a s r)) (currentFunction p) x) x
   unfolding stepStore storeRow storeHidden storeLocal storeCapture storeField storeCall
   store-identifier r e x q = rw (e, q)
@@ -86,7 +101,10 @@ module _ (O : Outside) (s : Sheet) (p : Scopes) (o : Store) where
 
   -- a call: of a class, as its constructor; of a method on a class; any other
   pub store-construct : (r : ℕ) → kind s r ≡ 59 → kind s (child s r) ≡ 50
-      → stepStore O s (visit r) p o ≡ (if not (eqb (classNumber (lookupMeaning p (a s (child s r)))) 0) then appendCall (record { key = r; one = classNumber (lookupMeaning p (a s (child s r))); two = 0 }) o else o)
+      → stepStore O s (visit r) p o
+      ≡ (if not (eqb (classNumber (lookupMeaning p (a s (child s r)))) 0)
+      then appendCall (record { key = r; one = classNumber (lookupMeaning p (a s (child s r))); two = 0 }) o
+      else o)
   unfolding stepStore storeRow storeHidden storeLocal storeCapture storeField storeCall
   store-construct r e f = rw (e, f)
 
@@ -100,7 +118,9 @@ module _ (O : Outside) (s : Sheet) (p : Scopes) (o : Store) where
       vs : List ℕ
       vs = 1 ∷ methodNamed (a s (child s r)) (ownMethods O s (if is s 50 (child s (child s r)) then classNumber (lookupMeaning p (a s (child s (child s r)))) else 0)) ∷ []
 
-      go : (t : Bool) → (if eqb (if t then child s r else 0) 0 then (if t then markHidden (child s (child s r)) o else o) else writeRow (if t then child s r else 0) vs (if t then markHidden (child s (child s r)) o else o))
+      go : (t : Bool)
+          → (if eqb (if t then child s r else 0) 0 then (if t then markHidden (child s (child s r)) o else o)
+          else writeRow (if t then child s r else 0) vs (if t then markHidden (child s (child s r)) o else o))
           ≡ (if t then writeRowAt (child s r) vs (markHidden (child s (child s r)) o) else o)
       go true = refl
       go false = refl

@@ -65,7 +65,9 @@ follows-two s c r z m (here q) e = here (ap (λ (x : Moment). record { event = v
 follows-two s c r z m (there (here q)) e = here (ap (λ (x : Moment). record { event = visit r; stack = x .stack }) q)
 follows-two s c r z m (there (there q)) e = absurd (List·Memᴰ·not-nil q)
 
-follows-each : (s : Sheet) (c r : ℕ) (go : ℕ → List Event) (x i : ℕ) (ks : List ℕ) → count (of c) (each (λ k. []) s x i ks) ≡ 0 → ((k : ℕ) → Mem k ks → Follows s c r (go k)) → Follows s c r (each go s x i ks)
+follows-each : (s : Sheet) (c r : ℕ) (go : ℕ → List Event) (x i : ℕ) (ks : List ℕ)
+    → count (of c) (each (λ k. []) s x i ks) ≡ 0 → ((k : ℕ) → Mem k ks → Follows s c r (go k))
+    → Follows s c r (each go s x i ks)
 follows-each s c r go x i [] h f = follows-none s c r [] refl
 follows-each s c r go x i (k ∷ ks) h f =
     let e : count (of c) (afterPart s x i) + count (of c) (each (λ k. []) s x (suc i) ks) ≡ 0 = sym (count-append (of c) (afterPart s x i) (each (λ k. []) s x (suc i) ks)) ∙ h in
@@ -171,7 +173,9 @@ module _ {O : Outside} {s : Sheet} (ok : Fits O s) (c e r : ℕ) (y : Callee s c
   later-none : count (of c) (each (λ k. []) s c 1 rest-c) ≡ 0
   later-none =
       let p0 : count (of c) (each (λ k. []) s c 0 (parts s c)) ≡ count (of c) (each (λ k. []) s c 0 (e ∷ rest-c)) = ap (λ (ks : List ℕ). count (of c) (each (λ k. []) s c 0 ks)) parts-of in
-      let p1 : count (of c) (each (λ k. []) s c 0 (e ∷ rest-c)) ≡ count (of c) (afterPart s c 0) + count (of c) (each (λ k. []) s c 1 rest-c) = count-append (of c) (afterPart s c 0) (each (λ k. []) s c 1 rest-c) in
+      let p1 : count (of c) (each (λ k. []) s c 0 (e ∷ rest-c))
+      ≡ count (of c) (afterPart s c 0) + count (of c) (each (λ k. []) s c 1 rest-c) =
+      count-append (of c) (afterPart s c 0) (each (λ k. []) s c 1 rest-c) in
       let p2 : count (of c) (afterPart s c 0) ≡ count (of c) (visit c ∷ []) = ap (count (of c)) part-c in
       omega (arith, p0, p1, p2, on (eqb c c) (eqb-refl c), split-own c, visit-own s (of c) (only-of c zc) c)
 

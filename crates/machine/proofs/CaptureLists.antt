@@ -85,7 +85,9 @@ addCapture-list (g ∷ gs) x o f (a-one out d) room h low k =
   where
     go : (t u v : Bool) → eqb g (x .one) ≡ t → hasKey (x .key) (listAt o (8 * g + 6)) ≡ u → eqb g f ≡ v
         → (HasFurther gs x (appendNode (8 * g + 6) x o) f
-        → listAt (addCapture gs x (appendNode (8 * g + 6) x o)) (8 * f + 6) ≡ (if isBefore (x .one) gs f then addKey x (listAt (appendNode (8 * g + 6) x o) (8 * f + 6)) else listAt (appendNode (8 * g + 6) x o) (8 * f + 6)))
+        → listAt (addCapture gs x (appendNode (8 * g + 6) x o)) (8 * f + 6)
+        ≡ (if isBefore (x .one) gs f then addKey x (listAt (appendNode (8 * g + 6) x o) (8 * f + 6))
+        else listAt (appendNode (8 * g + 6) x o) (8 * f + 6)))
         → o .used < nodeRoom (o .nodes)
         → listAt (if t || u then o else addCapture gs x (appendNode (8 * g + 6) x o)) (8 * f + 6)
         ≡ (if (if t then false else (v || isBefore (x .one) gs f)) then addKey x (listAt o (8 * f + 6)) else listAt o (8 * f + 6))

@@ -29,11 +29,16 @@ module _ (s : Sheet) (v : List ℕ) (n : ℕ) (x : Node) (o : Store) where
   unfolding functionMarks
   capture-name h = rw h
 
-  pub capture-mark : leb (entryWord v n 0) 1 ≡ true → (eqb (entryWord v n 0) 0 || not (is s 6 (entryWord v n 1))) ≡ true → addCapture (functionMarks s v (suc n)) x o ≡ addCapture (functionMarks s v n) x o
+  pub capture-mark : leb (entryWord v n 0) 1 ≡ true → (eqb (entryWord v n 0) 0 || not (is s 6 (entryWord v n 1))) ≡ true
+      → addCapture (functionMarks s v (suc n)) x o ≡ addCapture (functionMarks s v n) x o
   unfolding functionMarks
   capture-mark h g = rw h (by (eqb (entryWord v n 0) 0) (is s 6 (entryWord v n 1)) g)
     where
-      by : (t u : Bool) → (t || not u) ≡ true → addCapture (if t then functionMarks s v n else if u then entryWord v n 1 ∷ functionMarks s v n else functionMarks s v n) x o ≡ addCapture (functionMarks s v n) x o
+      by : (t u : Bool) → (t || not u) ≡ true
+          → addCapture
+          (if t then functionMarks s v n else if u then entryWord v n 1 ∷ functionMarks s v n else functionMarks s v n)
+          x o
+          ≡ addCapture (functionMarks s v n) x o
       by true u g = refl
       by false true g = absurd (true≢false (sym g))
       by false false g = refl
@@ -108,7 +113,10 @@ place-since k (y ∷ ys) c h = by (hit k ys) refl (eqb k (y .key)) refl h (λ d 
 
 -- the count, one node back
 pub since-back : (q : List ℕ) (i k c : ℕ) → since k (chainBack q (suc i) (suc i)) c ≡ since k (chainBack q (previous q i) (previous q i)) (if eqb k (nodeWord q i 1) then 0 else suc c)
-since-back q i k c = ap (λ (l : List Node). since k l c) (chainBack-hit q i) ∙ ap (λ (l : List Node). since k l (if eqb k (nodeWord q i 1) then 0 else suc c)) (chainBack-down q i (previous q i) (omega arith))
+since-back q i k c =
+    ap (λ (l : List Node). since k l c) (chainBack-hit q i)
+    ∙ ap (λ (l : List Node). since k l (if eqb k (nodeWord q i 1) then 0 else suc c))
+    (chainBack-down q i (previous q i) (omega arith))
 
 -- one turn of the loop: from i > 0 to i′, with the count c′
 pub since-reversed : (q : List ℕ) (i k c x : ℕ) {c′ i′ : ℕ} → 0 < i → x ≡ nodeWord q (i - 1) 1 → c′ ≡ (if eqb k x then 0 else suc c) → i′ ≡ previous q (i - 1)

@@ -15,7 +15,12 @@ use Rattle.definition.specs.Outside.{Outside}
 use Rattle.definition.specs.Walk.{Event}
 use Rattle.definition.specs.Slots.{isLocal}
 use Rattle.definition.specs.Classes.{classOf}
-use Rattle.machine.specs.Machine.{nodeRoom, oneMore, cell, Node, Store, Scopes, openFunctions, currentFunction, lookupMeaning, newMeaning, appendedCall, appendCall, addNew, addCapture, fourWords, withTable, writeRow, markHidden, raiseLocals, visitsKind, declaresLet, eventRow, constructedClass, receiverClass, newField, fieldNode, isOuterVariable, writtenRow, writtenWords, storeCall, storeField, storeCapture, storeLocal, storeHidden, storeRow}
+use Rattle.machine.specs.Machine.{nodeRoom, oneMore, cell, Node, Store, Scopes, openFunctions, currentFunction}
+use Rattle.machine.specs.Machine.{lookupMeaning, newMeaning, appendedCall, appendCall, addNew, addCapture}
+use Rattle.machine.specs.Machine.{fourWords, withTable, writeRow, markHidden, raiseLocals, visitsKind}
+use Rattle.machine.specs.Machine.{declaresLet, eventRow, constructedClass, receiverClass, newField, fieldNode}
+use Rattle.machine.specs.Machine.{isOuterVariable, writtenRow, writtenWords, storeCall, storeField, storeCapture}
+use Rattle.machine.specs.Machine.{storeLocal, storeHidden, storeRow}
 use Rattle.machine.proofs.Words.{sets-in, sets-out}
 use Rattle.machine.specs.Reads.{rowWords}
 use Rattle.machine.proofs.Nodes.{Extends, extends-refl, call-extends, addNew-extends, addNew-word, addCapture-extends, addCapture-word}
@@ -136,7 +141,10 @@ module _ (O : Outside) (s : Sheet) (e : Event) (p : Scopes) (o : Store) where
 
   pub storeCapture-unchanged : Unchanged (λ d. not (eqb d 6)) o (storeCapture s e p o)
   unfolding storeCapture
-  storeCapture-unchanged = unchanged-if (λ d. not (eqb d 6)) (visitsKind s 50 e && isOuterVariable (lookupMeaning p (a s (eventRow e))) (currentFunction p)) o _ (addCapture-unchanged (openFunctions s p) _ o)
+  storeCapture-unchanged =
+      unchanged-if (λ d. not (eqb d 6))
+      (visitsKind s 50 e && isOuterVariable (lookupMeaning p (a s (eventRow e))) (currentFunction p)) o _
+      (addCapture-unchanged (openFunctions s p) _ o)
 
   pub storeLocal-unchanged : Unchanged (λ d. not (eqb d 5)) o (storeLocal s e p o)
   unfolding storeLocal

@@ -212,7 +212,9 @@ module _ (n : ℕ) {O : Outside} {s : Sheet} (ok : Fits O s) (fa : SheetFacts n 
       let w : ℕ = q .whole in
       let k : Mem x (kids s w) = part-kid ok w x h (q .part) in
       let y = kid-bounds s (ok .links) w x (q .range) (mem-test x (kids s w) k) in
-      deep-kid w x (q .range) (q .walks) (q .not-class) k (up w (omega (arith, y .0)) (q .walks)) (deeper x w (omega (arith, y .0)) (y .1) (holder-is ok w x (q .range) k)) (ap length (q .around) ∙ inner-length s w)
+      deep-kid w x (q .range) (q .walks) (q .not-class) k (up w (omega (arith, y .0)) (q .walks))
+      (deeper x w (omega (arith, y .0)) (y .1) (holder-is ok w x (q .range) k))
+      (ap length (q .around) ∙ inner-length s w)
       (decide (is s 6 w)) (decide (is s 6 x))
 
   functions-deep : (m x : ℕ) → x ≤ m → Walks s x → Deep-enough x

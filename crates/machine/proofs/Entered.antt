@@ -74,7 +74,9 @@ enter-own x s r =
     let e : count (entersOf x) (before s r) ≤ bit (eqb r x) =
     enter-before x r (is s 2 r) (is s 6 r) (is s 25 r) (is s 27 r) (is s 30 r)
     (concatMap (imports s r) (kidsOf s 3 r) ++ map declare (kidsOf s 4 r)) (map declare (kidsOf s 11 r)) (map declare (filter (literalLet s) (kids s r)))
-    (count-none (entersOf x) (concatMap (imports s r) (kidsOf s 3 r)) (map declare (kidsOf s 4 r)) (count-brings (entersOf x) (λ i n d. tt) (brings-imports s r (kidsOf s 3 r))) (count-map (entersOf x) declare (kidsOf s 4 r) (λ k. tt)))
+    (count-none (entersOf x) (concatMap (imports s r) (kidsOf s 3 r)) (map declare (kidsOf s 4 r))
+    (count-brings (entersOf x) (λ i n d. tt) (brings-imports s r (kidsOf s 3 r)))
+    (count-map (entersOf x) declare (kidsOf s 4 r) (λ k. tt)))
     (count-map (entersOf x) declare (kidsOf s 11 r) (λ k. tt)) (count-map (entersOf x) declare (filter (literalLet s) (kids s r)) (λ k. tt)) in
     omega (
       arith,
@@ -146,7 +148,9 @@ loop-own s r =
     let e : count isLoop (before s r) ≡ 0 =
     loop-before r (is s 2 r) (is s 6 r) (is s 25 r) (is s 27 r) (is s 30 r)
     (concatMap (imports s r) (kidsOf s 3 r) ++ map declare (kidsOf s 4 r)) (map declare (kidsOf s 11 r)) (map declare (filter (literalLet s) (kids s r)))
-    (count-none isLoop (concatMap (imports s r) (kidsOf s 3 r)) (map declare (kidsOf s 4 r)) (count-brings isLoop (λ i n d. tt) (brings-imports s r (kidsOf s 3 r))) (count-map isLoop declare (kidsOf s 4 r) (λ k. tt)))
+    (count-none isLoop (concatMap (imports s r) (kidsOf s 3 r)) (map declare (kidsOf s 4 r))
+    (count-brings isLoop (λ i n d. tt) (brings-imports s r (kidsOf s 3 r)))
+    (count-map isLoop declare (kidsOf s 4 r) (λ k. tt)))
     (count-map isLoop declare (kidsOf s 11 r) (λ k. tt)) (count-map isLoop declare (filter (literalLet s) (kids s r)) (λ k. tt)) in
     omega (
       arith,
@@ -185,7 +189,9 @@ entered-count : (s : Sheet) (x : ℕ) (es : List Event) → count (λ y. eqb y x
 entered-count s x [] = omega arith
 entered-count s x (enter r ∷ es) = go (is s 6 r) (entered-count s x es)
   where
-    go : (t : Bool) → count (λ y. eqb y x) (functionsEntered s es) ≤ count (entersOf x) es → count (λ y. eqb y x) (if t then r ∷ functionsEntered s es else functionsEntered s es) ≤ bit (eqb r x) + count (entersOf x) es
+    go : (t : Bool) → count (λ y. eqb y x) (functionsEntered s es) ≤ count (entersOf x) es
+        → count (λ y. eqb y x) (if t then r ∷ functionsEntered s es else functionsEntered s es)
+        ≤ bit (eqb r x) + count (entersOf x) es
     go true i = omega arith
     go false i = omega arith
 entered-count s x (leave ∷ es) = omega (arith, entered-count s x es)

@@ -43,7 +43,11 @@ find-is v m (suc n) = find-one (leb (entryWord v n 0) 1) (eqb (entryWord v n 0) 
 
 top-one : (b₁ b₀ b₃ b₄ b₅ b₆ b₇ : Bool) (r m x y : ℕ) (st : Stack)
     → (b₁ ≡ true → (b₃ ≡ false) × (b₄ ≡ false) × (b₅ ≡ false) × (b₆ ≡ false) × (b₇ ≡ false))
-    → top ((if b₁ then (if b₀ then looping else scope m) else bound m (if b₃ then function x else if b₄ then class x else if b₅ then global x y else if b₆ then variable x y else if b₇ then toplevel x else nothing)) ∷ st)
+    → top ((if b₁ then (if b₀ then looping else scope m)
+    else bound m (if b₃ then function x
+    else if b₄ then class x
+    else if b₅ then global x y else if b₆ then variable x y else if b₇ then toplevel x else nothing))
+    ∷ st)
     ≡ (if b₃ then function x else if b₄ then class x else if b₅ then global x y else if b₆ then variable x y else if b₇ then toplevel x else nothing)
 top-one true true b₃ b₄ b₅ b₆ b₇ r m x y st h = let g = h refl in rw (g .0, g .1, g .2, g .3, g .4)
 top-one true false b₃ b₄ b₅ b₆ b₇ r m x y st h = let g = h refl in rw (g .0, g .1, g .2, g .3, g .4)
@@ -53,9 +57,15 @@ pub top-is : (v : List ℕ) (k : ℕ) → top (entries v k) ≡ meaningAt v k
 unfolding entries meaningAt
 top-is v zero = refl
 top-is v (suc i) =
-    top-one (leb (entryWord v i 0) 1) (eqb (entryWord v i 0) 0) (eqb (entryWord v i 0) 3) (eqb (entryWord v i 0) 4) (eqb (entryWord v i 0) 5) (eqb (entryWord v i 0) 6) (eqb (entryWord v i 0) 7) 0 _ _ _ (entries v i)
-    (λ e. let l : entryWord v i 0 ≤ 1 = leb-true (entryWord v i 0) 1 e in
-    (ne-eqb (entryWord v i 0) 3 (λ q. omega arith), ne-eqb (entryWord v i 0) 4 (λ q. omega arith), ne-eqb (entryWord v i 0) 5 (λ q. omega arith), ne-eqb (entryWord v i 0) 6 (λ q. omega arith), ne-eqb (entryWord v i 0) 7 (λ q. omega arith)))
+    top-one (leb (entryWord v i 0) 1) (eqb (entryWord v i 0) 0) (eqb (entryWord v i 0) 3) (eqb (entryWord v i 0) 4)
+    (eqb (entryWord v i 0) 5) (eqb (entryWord v i 0) 6) (eqb (entryWord v i 0) 7) 0 _ _ _ (entries v i)
+    (λ e. let l : entryWord v i 0 ≤ 1 = leb-true (entryWord v i 0) 1 e in (
+      ne-eqb (entryWord v i 0) 3 (λ q. omega arith),
+      ne-eqb (entryWord v i 0) 4 (λ q. omega arith),
+      ne-eqb (entryWord v i 0) 5 (λ q. omega arith),
+      ne-eqb (entryWord v i 0) 6 (λ q. omega arith),
+      ne-eqb (entryWord v i 0) 7 (λ q. omega arith),
+    ))
 
 taken-one : (b₁ b₀ : Bool) (m x : ℕ) (d : Meaning) (st : Stack) (t : Bool) → taken m st ≡ t
     → taken m ((if b₁ then (if b₀ then looping else scope x) else bound x d) ∷ st) ≡ (if b₁ then (if b₀ then t else false) else (eqb x m || t))

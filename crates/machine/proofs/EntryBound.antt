@@ -114,7 +114,10 @@ names-step : (O : Outside) (s : Sheet) (z : Stack) (e : Event) → askEvent O s 
 names-step O s z (enter r) q p = n-scope p
 names-step O s z leave q p = names-closed p
 names-step O s z loop q p = n-loop p
-names-step O s z (declare r) q p = n-name (not-taken (taken (a s r) z) (asked (if is s 29 r && not (literalLet s r) then 7 else 16) r (a s r) (not (taken (a s r) z)) (by (is s 29 r && not (literalLet s r))) q)) p
+names-step O s z (declare r) q p =
+    n-name (not-taken (taken (a s r) z) (asked (if is s 29 r && not (literalLet s r) then 7 else 16) r (a s r)
+    (not (taken (a s r) z)) (by (is s 29 r && not (literalLet s r))) q))
+    p
   where
     by : (t : Bool) → _≡_ {A = ℕ} (if t then 7 else 16) 0 → ⊥
     by true e = omega arith

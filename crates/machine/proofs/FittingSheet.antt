@@ -35,7 +35,8 @@ pub record EnoughRoom (n K : ℕ) (O : Outside) (s : Sheet) (room : Room) : Type
   pub for-words : n + 2 + length (O .names) + 3 * rows s < 4294967295
   pub for-nodes : K * rows s ≤ room .nodes
 
-pub ready-within : (n K : ℕ) {O : Outside} → OutsideFits O → (s : Sheet) (room : Room) → 0 < rows s → sheetFits n s ≡ true → 1 ≤ K → ((x : ℕ) → Walks s x → T (is s 50 x) → length (functionsOf s x) ≤ K)
+pub ready-within : (n K : ℕ) {O : Outside} → OutsideFits O → (s : Sheet) (room : Room) → 0 < rows s
+    → sheetFits n s ≡ true → 1 ≤ K → ((x : ℕ) → Walks s x → T (is s 50 x) → length (functionsOf s x) ≤ K)
     → EnoughRoom n K O s room → WalkReady O s room (suc n)
 ready-within n K {O} known s room z h i f y =
     let ok : Fits O s = fits n s known z h in

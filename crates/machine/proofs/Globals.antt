@@ -13,7 +13,9 @@ use Rattle.definition.specs.Walk.{Event, enter, leave, loop, declare, bring, vi
 use Rattle.definition.specs.Scope.{Stack, Moment, inside, declared, newGlobal, declares, declarings, declaration}
 use Rattle.definition.specs.Slots.{globalLets, globalOf, finalGlobals, code}
 use Rattle.definition.proofs.Lists.Members.{filter-append, map-append}
-use Rattle.machine.specs.Machine.{entryRoom, entryWord, tagOf, firstOf, secondOf, meaningOf, findName, meaningAt, globalAt, Scopes, lookupMeaning, lookupGlobal, countPushed, wordsPushed, newMeaning, stepScopes, declaresLet, codeOf, oneMore}
+use Rattle.machine.specs.Machine.{entryRoom, entryWord, tagOf, firstOf, secondOf, meaningOf, findName, meaningAt}
+use Rattle.machine.specs.Machine.{globalAt, Scopes, lookupMeaning, lookupGlobal, countPushed, wordsPushed}
+use Rattle.machine.specs.Machine.{newMeaning, stepScopes, declaresLet, codeOf, oneMore}
 use Rattle.machine.proofs.Lists.{only, any-append, place-append, filter2-snoc, eqb-self, eqb-same}
 use Rattle.machine.proofs.Entries.{entries-length, mark-le}
 use Rattle.machine.proofs.ScopesAgree.{ScopesAgree, push-below, push-at, push-more, upto, oneMore-is, newMeaning-is}
@@ -260,7 +262,8 @@ module _ (s : Sheet) (hd : kind s 0 ≡ 0) (h : List Moment) (z : Stack) (p : Sc
   new-known (visit r) v u = absurd (true≢false (sym v))
 
   -- after an event, where there is room for one entry more
-  pub numbered-step : (e : Event) → length z < entryRoom (p .env) → p .nextGlobal < 4294967295 → Unlisted s h e → Proper s z e → Numbered s (h ++ record { event = e; stack = z } ∷ []) (stepScopes s e p)
+  pub numbered-step : (e : Event) → length z < entryRoom (p .env) → p .nextGlobal < 4294967295 → Unlisted s h e
+      → Proper s z e → Numbered s (h ++ record { event = e; stack = z } ∷ []) (stepScopes s e p)
   unfolding stepScopes
   numbered-step (enter r) room few u pr =
       record { next-is = next-same (enter r) refl; numbers = numbers-push s _ (p .env) (p .count) 1 r (p .fun) 0 (p .slot) (space room) (numbers-on (enter r)) (unnumbered refl) }
@@ -270,13 +273,20 @@ module _ (s : Sheet) (hd : kind s 0 ≡ 0) (h : List Moment) (z : Stack) (p : Sc
       record { next-is = next-same loop refl; numbers = numbers-push s _ (p .env) (p .count) 0 0 (p .fun) 0 (p .slot) (space room) (numbers-on loop) (unnumbered refl) }
   numbered-step (declare r) room few u pr =
       record {
-        next-is = ap (λ (d : Meaning). if isToplevel d then oneMore (p .nextGlobal) else p .nextGlobal) (sym (newMeaning-is s z p op r)) ∙ next-declare r (isToplevel (declared s r (inside s z))) refl few;
-        numbers = numbers-push s _ (p .env) (p .count) (tagOf (newMeaning s r p)) (a s r) (firstOf (newMeaning s r p)) (secondOf (newMeaning s r p) (p .nextGlobal)) (p .slot) (space room) (numbers-on (declare r))
+        next-is =
+            ap (λ (d : Meaning). if isToplevel d then oneMore (p .nextGlobal) else p .nextGlobal)
+            (sym (newMeaning-is s z p op r))
+            ∙ next-declare r (isToplevel (declared s r (inside s z))) refl few;
+        numbers =
+            numbers-push s _ (p .env) (p .count) (tagOf (newMeaning s r p)) (a s r) (firstOf (newMeaning s r p))
+            (secondOf (newMeaning s r p) (p .nextGlobal)) (p .slot) (space room) (numbers-on (declare r))
             (known-stored s _ (newMeaning s r p) (p .nextGlobal) (new-number r u (newMeaning s r p) (newMeaning-is s z p op r)));
       }
   numbered-step (bring r n d) room few u (p-bring v t) =
       record {
         next-is = ap (λ (x : Bool). if x then oneMore (p .nextGlobal) else p .nextGlobal) t ∙ next-same (bring r n d) refl;
-        numbers = numbers-push s _ (p .env) (p .count) (tagOf d) n (firstOf d) (secondOf d (p .nextGlobal)) (p .slot) (space room) (numbers-on (bring r n d)) (known-stored s _ d (p .nextGlobal) (unnumbered t));
+        numbers =
+            numbers-push s _ (p .env) (p .count) (tagOf d) n (firstOf d) (secondOf d (p .nextGlobal)) (p .slot)
+            (space room) (numbers-on (bring r n d)) (known-stored s _ d (p .nextGlobal) (unnumbered t));
       }
   numbered-step (visit r) room few u pr = record { next-is = next-same (visit r) refl; numbers = numbers-on (visit r) }

@@ -105,7 +105,8 @@ shallow-brings O s n (b-bring {r} {k} {d} h f) z o =
     every-one (shallow-one O n r k d z h o)
     (shallow-brings O s n f (step s z (bring r k d)) (o-name h o))
 
-shallow-append : (s : Sheet) (n c : ℕ) (z : Stack) (xs ys : List Event) → Every (ImportShallow n c) (moments s z xs) → Every (ImportShallow n c) (moments s (run s z xs) ys) → Every (ImportShallow n c) (moments s z (xs ++ ys))
+shallow-append : (s : Sheet) (n c : ℕ) (z : Stack) (xs ys : List Event) → Every (ImportShallow n c) (moments s z xs)
+    → Every (ImportShallow n c) (moments s (run s z xs) ys) → Every (ImportShallow n c) (moments s z (xs ++ ys))
 shallow-append s n c z xs ys f g = subst (λ (l : List Moment). Every (ImportShallow n c) l) (sym (moments-append s z xs ys)) (every-append f g)
 
 -- a unit's scope: imports, then none
@@ -283,7 +284,9 @@ module _ (n : ℕ) {O : Outside} {s : Sheet} (ok : Fits O s) (fa : SheetFacts n 
       let q = filter-mem (λ k. is s 2 k || is s 6 k || leb 20 (kind s k)) k (kids s p) m in (
         reached-part ok k (reached-root ok) m,
         part-lies ok k (reached-root ok) m .2,
-        T-imp (is s 0 0) (is s 2 k) (kid-edge n s fa (λ p k. eqb p 0 ⇒ eqb k 2) tt 0 k (ok .some-row) (mem-test k (kids s 0) (subst (λ (x : ℕ). Mem k (kids s x)) e (q .0)))) (eqb-of (kind s 0) 0 (ok .header)),
+        T-imp (is s 0 0) (is s 2 k) (kid-edge n s fa (λ p k. eqb p 0 ⇒ eqb k 2) tt 0 k (ok .some-row)
+            (mem-test k (kids s 0) (subst (λ (x : ℕ). Mem k (kids s x)) e (q .0))))
+            (eqb-of (kind s 0) 0 (ok .header)),
       )
 
   header-shallow : (d : ℕ) → Every (ImportShallow (suc n) (entriesBelow O)) (moments s (start O) (trace d s 0))

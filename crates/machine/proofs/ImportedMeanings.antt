@@ -56,7 +56,8 @@ imports-fixed s u [] = every-none
 imports-fixed s u (i ∷ js) =
     every-append
     (every-append (every-if (eqb (b s i) 1) (every-along (λ x. bring i (x .name) (x .means)) (λ x q. q) (seen-fixed s u i)) every-none)
-    (every-to (λ k. bring i (a s k) (first (λ x. eqb (x .name) (a s k)) (named 0 nothing) (seen s u i) .means)) (kids s i) (λ k. first-fixed (λ x. eqb (x .name) (a s k)) (named 0 nothing) refl (seen-fixed s u i))))
+    (every-to (λ k. bring i (a s k) (first (λ x. eqb (x .name) (a s k)) (named 0 nothing) (seen s u i) .means))
+    (kids s i) (λ k. first-fixed (λ x. eqb (x .name) (a s k)) (named 0 nothing) refl (seen-fixed s u i))))
     (imports-fixed s u js)
 
 declares-fixed : (rs : List ℕ) → Every NoLet (map declare rs)

@@ -10,7 +10,9 @@ use lib.Seq.{sets, getD-set-same, getD-set-other, length-sets}
 use lib.Dec.{eqb, ltb}
 use borrow.Author.Tests.{lt-ltb, ne-eqb, eqb-true, eqb-false, ltb-true}
 use Rattle.definition.specs.Basics.{if_then_else_}
-use Rattle.machine.specs.Machine.{nodeRoom, nodeWord, Node, nodeAt, previous, chainBack, reversed, chainTo, Store, listAt, hasKey, appended, appendedCall, appendNode, appendCall, addNew, addCapture}
+use Rattle.machine.specs.Machine.{nodeRoom, nodeWord, Node, nodeAt, previous, chainBack, reversed, chainTo, Store}
+use Rattle.machine.specs.Machine.{listAt, hasKey, appended, appendedCall, appendNode, appendCall, addNew}
+use Rattle.machine.specs.Machine.{addCapture}
 use Rattle.machine.proofs.Words.{sets-in, sets-out}
 use Rattle.machine.proofs.Lists.{eqb-self}
 

@@ -57,15 +57,27 @@ abbrev pub AllOutward : Sheet → List Moment → Type 0
 AllOutward s all = (h : List Moment) (m : Moment) (rest : List Moment) → all ≡ h ++ m ∷ rest → Outward s h m
 
 pub runs-reached : (O : Outside) (s : Sheet) (room : Room) (h : List Moment) (z : Stack) (es : List Event)
-    → ((m : Moment) → Reached O s z es m → StepReady s room m) → AllOutward s (h ++ moments s z es) → OnceMore s h es → finalGlobals s (h ++ moments s z es) < 4294967295 → nodesNeeded s (h ++ moments s z es) ≤ room .nodes → Runs O s room h z es
+    → ((m : Moment) → Reached O s z es m → StepReady s room m) → AllOutward s (h ++ moments s z es) → OnceMore s h es
+    → finalGlobals s (h ++ moments s z es) < 4294967295 → nodesNeeded s (h ++ moments s z es) ≤ room .nodes
+    → Runs O s room h z es
 runs-reached O s room h z [] f out u g l = over
 runs-reached O s room h z (e ∷ es) f out u g l =
     let m : Moment = record { event = e; stack = z } in
     let x : StepReady s room m = f m r-here in
-    let w : nodesNeeded s (h ++ m ∷ moments s (step s z e) es) ≡ nodesNeeded s ((h ++ m ∷ []) ++ moments s (step s z e) es) = ap (nodesNeeded s) (sym (append-assoc h (m ∷ []) (moments s (step s z e) es))) in
-    let v : nodesNeeded s ((h ++ m ∷ []) ++ moments s (step s z e) es) ≡ nodesNeeded s (h ++ m ∷ []) + nodesNeeded s (moments s (step s z e) es) = needed-append s (h ++ m ∷ []) (moments s (step s z e) es) in
-    next {h = h} (x .proper) (once-unlisted s h e es u) (x .entries-small) (omega (arith, g, globals-le s h (m ∷ moments s (step s z e) es))) (x .entries-left) (x .row-there) (x .rows-there) (out h m (moments s (step s z e) es) refl) (omega (arith, l, w, v))
-    (λ q. runs-reached O s room (h ++ m ∷ []) (step s z e) es (λ n r. f n (r-later q r)) (subst (AllOutward s) (sym (append-assoc h (m ∷ []) (moments s (step s z e) es))) out) (once-later s h z e es u) (subst (λ (l : List Moment). finalGlobals s l < 4294967295) (sym (append-assoc h (m ∷ []) (moments s (step s z e) es))) g) (subst (λ (k : ℕ). k ≤ room .nodes) w l))
+    let w : nodesNeeded s (h ++ m ∷ moments s (step s z e) es)
+    ≡ nodesNeeded s ((h ++ m ∷ []) ++ moments s (step s z e) es) =
+    ap (nodesNeeded s) (sym (append-assoc h (m ∷ []) (moments s (step s z e) es))) in
+    let v : nodesNeeded s ((h ++ m ∷ []) ++ moments s (step s z e) es)
+    ≡ nodesNeeded s (h ++ m ∷ []) + nodesNeeded s (moments s (step s z e) es) =
+    needed-append s (h ++ m ∷ []) (moments s (step s z e) es) in
+    next {h = h} (x .proper) (once-unlisted s h e es u) (x .entries-small)
+    (omega (arith, g, globals-le s h (m ∷ moments s (step s z e) es))) (x .entries-left) (x .row-there) (x .rows-there)
+    (out h m (moments s (step s z e) es) refl) (omega (arith, l, w, v))
+    (λ q. runs-reached O s room (h ++ m ∷ []) (step s z e) es (λ n r. f n (r-later q r))
+    (subst (AllOutward s) (sym (append-assoc h (m ∷ []) (moments s (step s z e) es))) out) (once-later s h z e es u)
+    (subst (λ (l : List Moment). finalGlobals s l < 4294967295)
+    (sym (append-assoc h (m ∷ []) (moments s (step s z e) es))) g)
+    (subst (λ (k : ℕ). k ≤ room .nodes) w l))
 
 -- The rows of functions that events enter.
 abbrev pub functionsEntered : Sheet → List Event → List ℕ
@@ -132,9 +144,13 @@ ahead-step s z (visit k) es p f = f
 pub enters-apart : (O : Outside) (s : Sheet) {z : Stack} {es : List Event} {m : Moment} → Reached O s z es m → Distinct (functionsEntered s es) → Ahead s z (functionsEntered s es)
     → (r : ℕ) → m .event ≡ enter r → is s 6 r ≡ true → (r ∈? around s (m .stack)) ≡ false
 enters-apart O s (r-here {z} {e} {es}) p f r q h =
-    f r (ap (λ (x : Event). r ∈? functionsEntered s (x ∷ es)) q ∙ ap (λ (t : Bool). r ∈? (if t then r ∷ functionsEntered s es else functionsEntered s es)) h ∙ ap (λ (t : Bool). t || r ∈? functionsEntered s es) (eqb-self r))
+    f r (ap (λ (x : Event). r ∈? functionsEntered s (x ∷ es)) q
+    ∙ ap (λ (t : Bool). r ∈? (if t then r ∷ functionsEntered s es else functionsEntered s es)) h
+    ∙ ap (λ (t : Bool). t || r ∈? functionsEntered s es) (eqb-self r))
 enters-apart O s (r-later {z} {e} {es} y w) p f r q h = enters-apart O s w (apart-tail s e es p) (ahead-step s z e es p f) r q h
 
 -- the whole walk: no function is open before it
-pub enters-fresh : (O : Outside) (s : Sheet) (m : Moment) → Distinct (functionsEntered s (walk s)) → Reached O s (start O) (walk s) m → (r : ℕ) → m .event ≡ enter r → is s 6 r ≡ true → (r ∈? around s (m .stack)) ≡ false
+pub enters-fresh : (O : Outside) (s : Sheet) (m : Moment) → Distinct (functionsEntered s (walk s))
+    → Reached O s (start O) (walk s) m → (r : ℕ) → m .event ≡ enter r → is s 6 r ≡ true
+    → (r ∈? around s (m .stack)) ≡ false
 enters-fresh O s m p w = enters-apart O s w p (λ r h. ap (λ (fs : List ℕ). r ∈? fs) (around-names s (O .names)))

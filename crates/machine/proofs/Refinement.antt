@@ -111,7 +111,9 @@ state-step O s hd room h z e x pr un w₁ w₂ r₁ r₂ rs out r₃ y g =
       numbered = numbered-step s hd h z (x .scopes) (g .opened) (g .numbered) e (omega (arith, g .entries-are, r₁)) (omega (arith, g .numbered .next-is)) un pr;
       sound = wellFormed-step s z e pr (g .sound);
       kept = store-step O s hd h z (x .scopes) (g .opened) (g .sound) e (x .store) (λ v. new-known s hd h z (x .scopes) (g .opened) (g .numbered) e v un)
-          (λ m. known-on s h (record { event = e; stack = z }) (number-look s h (x .scopes) (g .numbered) m)) (slot-small s z (x .scopes) (g .opened) w₁) (omega (arith, g .nodes-are, r₃)) (omega (arith, g .rows-are, r₂)) (λ k m. omega (arith, g .rows-are, rs k m)) out (g .kept);
+          (λ m. known-on s h (record { event = e; stack = z }) (number-look s h (x .scopes) (g .numbered) m))
+          (slot-small s z (x .scopes) (g .opened) w₁) (omega (arith, g .nodes-are, r₃)) (omega (arith, g .rows-are, r₂))
+          (λ k m. omega (arith, g .rows-are, rs k m)) out (g .kept);
       agreed = g .agreed;
       entries-are = ap (λ (n : ℕ). min (n / 5) 4294967295) (move-length s e (x .scopes)) ∙ g .entries-are;
       rows-are = ap (λ (n : ℕ). n / 8) (store-extends O s e (x .scopes) (x .store) .table-length) ∙ g .rows-are;
@@ -153,7 +155,9 @@ refine O s hd room h z (e ∷ es) x (next pr un w₁ w₂ r₁ r₂ rs out r₃ 
         → Ends O s room (h ++ record { event = e; stack = z } ∷ []) (step s z e) es (runState O s es (stepState O s e x)) → Ends O s room h z (e ∷ es) (runState O s es (stepState O s e x))
     pass q (accepted n i) =
         accepted (numbers (no-later O s z e es q) ∙ n)
-        (subst (λ (l : List Moment). StateAgrees O s room l (run s (step s z e) es) (runState O s es (stepState O s e x))) (append-assoc h (record { event = e; stack = z } ∷ []) (moments s (step s z e) es)) i)
+        (subst
+        (λ (l : List Moment). StateAgrees O s room l (run s (step s z e) es) (runState O s es (stepState O s e x)))
+        (append-assoc h (record { event = e; stack = z } ∷ []) (moments s (step s z e) es)) i)
     pass q (refused n i) = refused (λ k. n (sym (numbers (no-later O s z e es q)) ∙ k)) (i ∙ sym (no-later O s z e es q))
 
     by : (t : Bool) → eqb (askEvent O s e (openOn s z) .number) 0 ≡ t

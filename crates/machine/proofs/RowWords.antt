@@ -17,7 +17,9 @@ use Rattle.definition.specs.Capture.{Use, useAt, beyond, isOuter, same, capture
 use Rattle.definition.specs.Classes.{methodNamed, ownMethods}
 use Rattle.definition.specs.Question.{openOn, receiver}
 use Rattle.definition.proofs.Lists.Members.{filter-append}
-use Rattle.machine.specs.Machine.{Node, Store, listAt, Scopes, currentFunction, lookupMeaning, lookupSlot, lookupGlobal, newMeaning, codeOf, fourWords, writeRow, visitsKind, declaresLet, eventRow, receiverClass, writtenRow, writtenWords, seenIn, storeRow}
+use Rattle.machine.specs.Machine.{Node, Store, listAt, Scopes, currentFunction, lookupMeaning, lookupSlot}
+use Rattle.machine.specs.Machine.{lookupGlobal, newMeaning, codeOf, fourWords, writeRow, visitsKind, declaresLet}
+use Rattle.machine.specs.Machine.{eventRow, receiverClass, writtenRow, writtenWords, seenIn, storeRow}
 use Rattle.machine.specs.Reads.{rowWords}
 use Rattle.machine.proofs.Nodes.{isBefore}
 use Rattle.machine.proofs.Lists.{only, any-append, place-map, place-append, final-snoc, eqb-same, eqb-self}
@@ -90,7 +92,10 @@ seen-on : (s : Sheet) (h : List Moment) (m′ m : Moment) → (outside s m ≡ t
 seen-on s h m′ m q n = go (outside s m) q
   where
     go : (t : Bool) → (t ≡ true → any (same (useAt s m)) (captures s h (within s m)) ≡ true)
-        → (if t then 6 ∷ place (same (useAt s m)) (captures s (h ++ m′ ∷ []) (within s m)) ∷ 0 ∷ bit (isMutable s (useAt s m .means)) ∷ [] else code s (h ++ m′ ∷ []) (useAt s m .means) (useAt s m .slot))
+        → (if t
+        then 6 ∷ place (same (useAt s m)) (captures s (h ++ m′ ∷ []) (within s m)) ∷ 0
+        ∷ bit (isMutable s (useAt s m .means)) ∷ []
+        else code s (h ++ m′ ∷ []) (useAt s m .means) (useAt s m .slot))
         ≡ (if t then 6 ∷ place (same (useAt s m)) (captures s h (within s m)) ∷ 0 ∷ bit (isMutable s (useAt s m .means)) ∷ [] else code s h (useAt s m .means) (useAt s m .slot))
     go true q =
         let g = grown s h m′ (within s m) in
@@ -101,7 +106,9 @@ seen-on s h m′ m q n = go (outside s m) q
 -- what is written does not change later
 words-on : (O : Outside) (s : Sheet) (h : List Moment) (m′ m : Moment) → Stable s h m → wordsWritten O s (h ++ m′ ∷ []) m ≡ wordsWritten O s h m
 words-on O s h m′ m q =
-    go (declaresLet s (m .event)) (visitsKind s 50 (m .event)) (λ v. code-on s h m′ (declared s (eventRow (m .event)) (within s m)) (openLocals s (m .stack)) (q .let-listed v)) (λ v. seen-on s h m′ m (q .captured v) (q .use-listed v))
+    go (declaresLet s (m .event)) (visitsKind s 50 (m .event))
+    (λ v. code-on s h m′ (declared s (eventRow (m .event)) (within s m)) (openLocals s (m .stack)) (q .let-listed v))
+    (λ v. seen-on s h m′ m (q .captured v) (q .use-listed v))
   where
     rest : List ℕ
     rest =
@@ -112,7 +119,9 @@ words-on O s h m′ m q =
         else 1 ∷ methodNamed (a s (child s (eventRow (m .event)))) (ownMethods O s (receiver s (eventRow (m .event)) (openOn s (m .stack)))) ∷ []
 
     go : (t u : Bool)
-        → (t ≡ true → code s (h ++ m′ ∷ []) (declared s (eventRow (m .event)) (within s m)) (openLocals s (m .stack)) ≡ code s h (declared s (eventRow (m .event)) (within s m)) (openLocals s (m .stack)))
+        → (t ≡ true
+        → code s (h ++ m′ ∷ []) (declared s (eventRow (m .event)) (within s m)) (openLocals s (m .stack))
+        ≡ code s h (declared s (eventRow (m .event)) (within s m)) (openLocals s (m .stack)))
         → (u ≡ true → seenFrom s (h ++ m′ ∷ []) (within s m) (useAt s m) ≡ seenFrom s h (within s m) (useAt s m))
         → (if t then code s (h ++ m′ ∷ []) (declared s (eventRow (m .event)) (within s m)) (openLocals s (m .stack)) else if u then seenFrom s (h ++ m′ ∷ []) (within s m) (useAt s m) else rest)
         ≡ (if t then code s h (declared s (eventRow (m .event)) (within s m)) (openLocals s (m .stack)) else if u then seenFrom s h (within s m) (useAt s m) else rest)
@@ -196,7 +205,9 @@ stable-new s h z p op e snd kl ku =
     by-let (enter r) v k = absurd (true≢false (sym v))
     by-let leave v k = absurd (true≢false (sym v))
     by-let loop v k = absurd (true≢false (sym v))
-    by-let (declare r) v k = ap (listed s (h ++ record { event = e; stack = z } ∷ [])) (newMeaning-is s z p op r) ∙ known-listed s (h ++ record { event = e; stack = z } ∷ []) (p .nextGlobal) (newMeaning s r p) k
+    by-let (declare r) v k =
+        ap (listed s (h ++ record { event = e; stack = z } ∷ [])) (newMeaning-is s z p op r)
+        ∙ known-listed s (h ++ record { event = e; stack = z } ∷ []) (p .nextGlobal) (newMeaning s r p) k
     by-let (bring r n d) v k = absurd (true≢false (sym v))
     by-let (visit r) v k = absurd (true≢false (sym v))
 
@@ -205,9 +216,18 @@ pub seenIn-is : (s : Sheet) (h : List Moment) (u : Use) (g f : ℕ) (o : Store) 
     → seenIn s (u .means) (u .slot) g f o ≡ seenFrom s h f u
 unfolding seenIn
 seenIn-is s h u g f o e n =
-    ap (λ (l : List Node). if isVariable (u .means) && not (eqb (ownerOf (u .means)) f) then 6 ∷ place (λ y. eqb (rowOf (u .means)) (y .key)) l ∷ 0 ∷ bit (isMutable s (u .means)) ∷ [] else codeOf s (u .means) (u .slot) g) e
-    ∙ ap (λ (k : ℕ). if isVariable (u .means) && not (eqb (ownerOf (u .means)) f) then 6 ∷ k ∷ 0 ∷ bit (isMutable s (u .means)) ∷ [] else codeOf s (u .means) (u .slot) g) (place-map (λ y. eqb (rowOf (u .means)) (y .key)) nodeOf (captures s h f))
-    ∙ ap (λ (l : List ℕ). if isVariable (u .means) && not (eqb (ownerOf (u .means)) f) then 6 ∷ place (same u) (captures s h f) ∷ 0 ∷ bit (isMutable s (u .means)) ∷ [] else l) (code-is s h (u .means) (u .slot) g n)
+    ap (λ (l : List Node). if isVariable (u .means) && not (eqb (ownerOf (u .means)) f)
+    then 6 ∷ place (λ y. eqb (rowOf (u .means)) (y .key)) l ∷ 0 ∷ bit (isMutable s (u .means)) ∷ []
+    else codeOf s (u .means) (u .slot) g)
+    e
+    ∙ ap (λ (k : ℕ). if isVariable (u .means) && not (eqb (ownerOf (u .means)) f)
+    then 6 ∷ k ∷ 0 ∷ bit (isMutable s (u .means)) ∷ []
+    else codeOf s (u .means) (u .slot) g)
+    (place-map (λ y. eqb (rowOf (u .means)) (y .key)) nodeOf (captures s h f))
+    ∙ ap (λ (l : List ℕ). if isVariable (u .means) && not (eqb (ownerOf (u .means)) f)
+    then 6 ∷ place (same u) (captures s h f) ∷ 0 ∷ bit (isMutable s (u .means)) ∷ []
+    else l)
+    (code-is s h (u .means) (u .slot) g n)
 
 module _ (O : Outside) (s : Sheet) (h : List Moment) (z : Stack) (p : Scopes) (op : ScopesAgree s z p) where
   writtenRow-is : (e : Event) → writtenRow s e p ≡ rowWritten s e z

@@ -14,7 +14,9 @@ use Rattle.definition.specs.Meaning.{Meaning, nothing, function, class, global,
 use Rattle.definition.specs.Walk.{Event, enter, leave, loop, declare, bring, visit}
 use Rattle.definition.specs.Scope.{Entry, scope, looping, bound, Stack, lookup, around, closed, declared, step, inside}
 use Rattle.definition.specs.Slots.{isLocal, openLocals}
-use Rattle.machine.specs.Machine.{entryRoom, entryWord, tagOf, firstOf, secondOf, lastMark, Scopes, lookupMeaning, openFunctions, currentFunction, countPushed, wordsPushed, oneMore, pushName, newMeaning, stepScopes}
+use Rattle.machine.specs.Machine.{entryRoom, entryWord, tagOf, firstOf, secondOf, lastMark, Scopes, lookupMeaning}
+use Rattle.machine.specs.Machine.{openFunctions, currentFunction, countPushed, wordsPushed, oneMore, pushName}
+use Rattle.machine.specs.Machine.{newMeaning, stepScopes}
 use Rattle.machine.proofs.Words.{sets-in, sets-out}
 use Rattle.machine.proofs.Entries.{entryOf, entries, entries-length, find-is, top-is, around-is, closed-is, mark-le, mark-lt, entries-same}
 
@@ -123,7 +125,9 @@ pub scopes-name : (s : Sheet) (m : ℕ) (d : Meaning) (z : Stack) (p : Scopes) �
     → ScopesAgree s z p → ScopesAgree s (bound m d ∷ z) (pushName s m d p)
 scopes-name s m d z p room small o =
     scopes-push s z p (bound m d) (tagOf d) m (firstOf d) (secondOf d (p .nextGlobal)) _ _ (p .fun) o room (coded m (p .nextGlobal) d)
-    (ap (λ (k : ℕ). if isLocal s d then k else p .slot) (oneMore-is (p .slot) (slot-small s z p o small)) ∙ ap (λ (k : ℕ). if isLocal s d then suc k else k) (o .slot-is)) (o .fun-is) (no-mark d (p .fun))
+    (ap (λ (k : ℕ). if isLocal s d then k else p .slot) (oneMore-is (p .slot) (slot-small s z p o small))
+    ∙ ap (λ (k : ℕ). if isLocal s d then suc k else k) (o .slot-is))
+    (o .fun-is) (no-mark d (p .fun))
 
 -- what is looked up
 module _ (s : Sheet) (z : Stack) (p : Scopes) (o : ScopesAgree s z p) where
@@ -149,7 +153,9 @@ slot-at : (s : Sheet) (v : List ℕ) (n : ℕ) → ((i : ℕ) → i < n → entr
 unfolding entries
 slot-at s v n h = go (eqb (lastMark v n) 0) refl (mark-lt v n)
   where
-    go : (t : Bool) → eqb (lastMark v n) 0 ≡ t → (lastMark v n ≡ 0) ⊎ ((lastMark v n < n) × (leb (entryWord v (lastMark v n) 0) 1 ≡ true)) → (if t then 0 else entryWord v (lastMark v n) 4) ≡ openLocals s (entries v (lastMark v n))
+    go : (t : Bool) → eqb (lastMark v n) 0 ≡ t
+        → (lastMark v n ≡ 0) ⊎ ((lastMark v n < n) × (leb (entryWord v (lastMark v n) 0) 1 ≡ true))
+        → (if t then 0 else entryWord v (lastMark v n) 4) ≡ openLocals s (entries v (lastMark v n))
     go true e m = rw (eqb-true (lastMark v n) 0 e)
     go false e (inl m) = absurd (eqb-false (lastMark v n) 0 e m)
     go false e (inr l) = h (lastMark v n) (l .0)
@@ -160,7 +166,9 @@ fun-at : (s : Sheet) (v : List ℕ) (n : ℕ) → ((i : ℕ) → i < n → leb (
 unfolding entries
 fun-at s v n h = go (eqb (lastMark v n) 0) refl (mark-lt v n)
   where
-    go : (t : Bool) → eqb (lastMark v n) 0 ≡ t → (lastMark v n ≡ 0) ⊎ ((lastMark v n < n) × (leb (entryWord v (lastMark v n) 0) 1 ≡ true)) → (if t then 0 else entryWord v (lastMark v n) 2) ≡ head (around s (entries v (lastMark v n)))
+    go : (t : Bool) → eqb (lastMark v n) 0 ≡ t
+        → (lastMark v n ≡ 0) ⊎ ((lastMark v n < n) × (leb (entryWord v (lastMark v n) 0) 1 ≡ true))
+        → (if t then 0 else entryWord v (lastMark v n) 2) ≡ head (around s (entries v (lastMark v n)))
     go true e m = rw (eqb-true (lastMark v n) 0 e)
     go false e (inl m) = absurd (eqb-false (lastMark v n) 0 e m)
     go false e (inr l) = h (lastMark v n) (l .0) (l .1)
@@ -168,7 +176,9 @@ fun-at s v n h = go (eqb (lastMark v n) 0) refl (mark-lt v n)
 -- the entries agree after an event, if there is room for one more
 pub scopes-step : (s : Sheet) (e : Event) (z : Stack) (p : Scopes) → length z < entryRoom (p .env) → length z < 4294967295 → ScopesAgree s z p → ScopesAgree s (step s z e) (stepScopes s e p)
 unfolding stepScopes
-scopes-step s (enter r) z p room small o = scopes-push s z p (scope r) 1 r (p .fun) 0 (p .slot) (p .nextGlobal) (if is s 6 r then r else p .fun) o room refl (o .slot-is) (enter-fun (is s 6 r)) (λ e. refl)
+scopes-step s (enter r) z p room small o =
+    scopes-push s z p (scope r) 1 r (p .fun) 0 (p .slot) (p .nextGlobal) (if is s 6 r then r else p .fun) o room refl
+    (o .slot-is) (enter-fun (is s 6 r)) (λ e. refl)
   where
     enter-fun : (t : Bool) → (if t then r else p .fun) ≡ head (if t then r ∷ around s z else around s z)
     enter-fun true = refl

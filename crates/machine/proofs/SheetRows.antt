@@ -43,7 +43,8 @@ module _ (n : ℕ) {O : Outside} {s : Sheet} (ok : Fits O s) (fa : SheetFacts n 
   in-table r l = omega arith
 
   -- a row that is visited after its parts is visited once
-  visit-once : (K r : ℕ) → r < rows s → T (leb 20 K) → T (not (eqb 0 K)) → T (is s K r) → after s r ≡ visit r ∷ [] → (m : Moment) × (visitOf (history O s) r ≡ m ∷ []) × Mem m (history O s) × (m .event ≡ visit r)
+  visit-once : (K r : ℕ) → r < rows s → T (leb 20 K) → T (not (eqb 0 K)) → T (is s K r) → after s r ≡ visit r ∷ []
+      → (m : Moment) × (visitOf (history O s) r ≡ m ∷ []) × Mem m (history O s) × (m .event ≡ visit r)
   visit-once K r lr hK nK t e =
       let nz : r ≡ 0 → ⊥ = kind-not-zero ok K r nK t in
       let w = walked-visited ok r (statement-walked ok K r lr hK t) e in (
@@ -102,7 +103,8 @@ module _ (n : ℕ) {O : Outside} {s : Sheet} (ok : Fits O s) (fa : SheetFacts n 
       let v = visit-once 52 r lr tt tt t (rw q) in
       let nz : r ≡ 0 → ⊥ = kind-not-zero ok 52 r tt t in
       let u : fourWords (1 ∷ within s (v .0) ∷ []) ∷ [] ≡ rowWords (o .table) r ∷ [] =
-      subst (λ (ms : List Moment). map (λ m. fourWords (1 ∷ within s m ∷ [])) ms ≡ map (λ m. rowWords (o .table) r) ms) (v .1) (literal-words O s (history O s) o k r nz (in-table r lr) (true-of (is s 52 r) t)) in
+      subst (λ (ms : List Moment). map (λ m. fourWords (1 ∷ within s m ∷ [])) ms ≡ map (λ m. rowWords (o .table) r) ms)
+      (v .1) (literal-words O s (history O s) o k r nz (in-table r lr) (true-of (is s 52 r) t)) in
       let c : within s (v .0) ≡ cell (o .table) r 1 = ap (λ (x : List (List ℕ)). getD (getD x 0 []) 1 0) u in
       literal-written O s (history O s) o k r nz (in-table r lr) (true-of (is s 52 r) t) (v .0) (v .1)
       (in-table (cell (o .table) r 1) (subst (λ (f : ℕ). f < rows s) c (within-below (v .0) r (v .2) (v .3)))) (in-table (child s r) (child-below r lr))
@@ -114,10 +116,17 @@ module _ (n : ℕ) {O : Outside} {s : Sheet} (ok : Fits O s) (fa : SheetFacts n 
       ≡ (20 ∷ cell (o .table) r 5 ∷ length (listAt o (8 * r + 6)) ∷ length ks ∷ []) ∷ map (λ y. codeOf s (meaningOfNode y) (y .two) 0) (listAt o (8 * r + 6)) ++ map (λ j. 5 ∷ j ∷ r ∷ 1 ∷ []) ks
   function-rows r lr t ks e =
       function-written O s (history O s) o k r (kind-not-zero ok 6 r tt t) (in-table r lr) (ok .header) enough
-      (all-of (λ g. leb (suc g) (length (o .table) / 8)) (literalsIn s (o .table) r) (λ g m. below g (map-mem (child s) g (filter (λ l. is s 52 l && (eqb (cell (o .table) l 0) 1 && eqb (cell (o .table) l 1) r)) (from 0 (rows s))) m)))
+      (all-of (λ g. leb (suc g) (length (o .table) / 8)) (literalsIn s (o .table) r)
+      (λ g m. below g (map-mem (child s) g
+      (filter (λ l. is s 52 l && (eqb (cell (o .table) l 0) 1 && eqb (cell (o .table) l 1) r)) (from 0 (rows s))) m)))
       ks e
     where
-      below : (g : ℕ) → (l : ℕ) × Mem l (filter (λ l. is s 52 l && (eqb (cell (o .table) l 0) 1 && eqb (cell (o .table) l 1) r)) (from 0 (rows s))) × (g ≡ child s l) → leb (suc g) (length (o .table) / 8) ≡ true
+      below : (g : ℕ)
+          → (l : ℕ)
+          × Mem l
+          (filter (λ l. is s 52 l && (eqb (cell (o .table) l 0) 1 && eqb (cell (o .table) l 1) r)) (from 0 (rows s)))
+          × (g ≡ child s l)
+          → leb (suc g) (length (o .table) / 8) ≡ true
       below g q =
           let f = filter-mem (λ l. is s 52 l && (eqb (cell (o .table) l 0) 1 && eqb (cell (o .table) l 1) r)) (q .0) (from 0 (rows s)) (q .1) in
           let lt : q .0 < rows s = omega (arith, from-mem (q .0) 0 (rows s) (f .0) .1) in
@@ -178,7 +187,10 @@ module _ (n : ℕ) {O : Outside} {s : Sheet} (ok : Fits O s) (fa : SheetFacts n 
       none e = member-none O s (ok .header) (history O s) o k r nz (in-table r lr) (true-of (is s 54 r) t) (ap final e)
 
       one : (m : Moment) → filter (isMemberCall s r) (history O s) ≡ m ∷ [] → fourWords (memberValues O s r m) ∷ [] ≡ rowWords (o .table) r ∷ []
-      one m e = subst (λ (ms : List Moment). map (λ m. fourWords (memberValues O s r m)) (final ms) ≡ map (λ m. rowWords (o .table) r) (final ms)) e (member-words O s (ok .header) (history O s) o k r nz (in-table r lr) (true-of (is s 54 r) t))
+      one m e =
+          subst (λ (ms : List Moment). map (λ m. fourWords (memberValues O s r m)) (final ms)
+          ≡ map (λ m. rowWords (o .table) r) (final ms))
+          e (member-words O s (ok .header) (history O s) o k r nz (in-table r lr) (true-of (is s 54 r) t))
 
       by : (ms : List Moment) → filter (isMemberCall s r) (history O s) ≡ ms
           → map (λ vs. eight (r ∷ vs)) (map (memberValues O s r) (filter (isMemberCall s r) (history O s))) ≡ (if eqb (cell (o .table) r 0) 0 then [] else answerRow r (rowWords (o .table) r) ∷ [])

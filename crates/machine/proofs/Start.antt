@@ -13,7 +13,9 @@ use Rattle.definition.specs.Outside.{Outside, OutsideFits, isOutward}
 use Rattle.definition.specs.Walk.{walk}
 use Rattle.definition.specs.Scope.{Stack, bound, start}
 use Rattle.definition.proofs.Lists.Tests.{and-left, and-right}
-use Rattle.machine.specs.Machine.{nodeRoom, entryRoom, oneMore, chainTo, chainBack, reversed, listAt, Scopes, globalAt, meaningAt, tagOf, firstOf, secondOf, noScopes, openNames, startState, runState}
+use Rattle.machine.specs.Machine.{nodeRoom, entryRoom, oneMore, chainTo, chainBack, reversed, listAt, Scopes}
+use Rattle.machine.specs.Machine.{globalAt, meaningAt, tagOf, firstOf, secondOf, noScopes, openNames, startState}
+use Rattle.machine.specs.Machine.{runState}
 use Rattle.machine.specs.Reads.{listedFields, rowWords}
 use Rattle.machine.proofs.Entries.{entries, entries-length}
 use Rattle.machine.proofs.ScopesAgree.{ScopesAgree, scopes-name}
@@ -47,7 +49,9 @@ kept-none O s t q z =
 openNames-length : (s : Sheet) (xs : List Named) (p : Scopes) → length (openNames s xs p .env) ≡ length (p .env)
 openNames-length s [] p = refl
 openNames-length s (x ∷ xs) p =
-    pushed-length (openNames s xs p .env) _ (tagOf (x .means) ∷ x .name ∷ firstOf (x .means) ∷ secondOf (x .means) (openNames s xs p .nextGlobal) ∷ openNames s xs p .slot ∷ []) ∙ openNames-length s xs p
+    pushed-length (openNames s xs p .env) _ (tagOf (x .means) ∷ x .name ∷ firstOf (x .means)
+    ∷ secondOf (x .means) (openNames s xs p .nextGlobal) ∷ openNames s xs p .slot ∷ [])
+    ∙ openNames-length s xs p
 
 abbrev stackOf : List Named → Stack
 stackOf xs = map (λ x. bound (x .name) (x .means)) xs
@@ -59,7 +63,9 @@ stack-length (x ∷ xs) = ap suc (stack-length xs)
 opened : (s : Sheet) (v : List ℕ) (xs : List Named) → length xs ≤ entryRoom v → length xs < 4294967295 → ScopesAgree s (stackOf xs) (openNames s xs (noScopes s v))
 opened s v [] h w = noScopes-agree s v
 opened s v (x ∷ xs) h w =
-    scopes-name s (x .name) (x .means) (stackOf xs) (openNames s xs (noScopes s v)) (omega (arith, h, stack-length xs, ap (λ (n : ℕ). min (n / 5) 4294967295) (openNames-length s xs (noScopes s v)))) (omega (arith, w, stack-length xs)) (opened s v xs (omega arith) (omega arith))
+    scopes-name s (x .name) (x .means) (stackOf xs) (openNames s xs (noScopes s v))
+    (omega (arith, h, stack-length xs, ap (λ (n : ℕ). min (n / 5) 4294967295) (openNames-length s xs (noScopes s v))))
+    (omega (arith, w, stack-length xs)) (opened s v xs (omega arith) (omega arith))
 
 -- names none of which is a let of a unit
 data Fixed : List Named → Type 0 where

@@ -14,7 +14,12 @@ use Rattle.definition.specs.Scope.{Stack, Moment, around, inside, declares}
 use Rattle.definition.specs.Slots.{isLocal, localCount}
 use Rattle.definition.specs.Capture.{captures}
 use Rattle.definition.specs.Classes.{classOf, registered}
-use Rattle.machine.specs.Machine.{nodeRoom, cell, Node, chainTo, Store, listAt, Scopes, openFunctions, currentFunction, lookupMeaning, lookupGlobal, newMeaning, appendedCall, appendCall, addNew, addCapture, withTable, writeRow, markHidden, raiseLocals, visitsKind, declaresLet, eventRow, constructedClass, receiverClass, newField, fieldNode, isOuterVariable, writtenRow, storeCall, storeField, storeCapture, storeLocal, storeHidden, storeRow, stepStore}
+use Rattle.machine.specs.Machine.{nodeRoom, cell, Node, chainTo, Store, listAt, Scopes, openFunctions}
+use Rattle.machine.specs.Machine.{currentFunction, lookupMeaning, lookupGlobal, newMeaning, appendedCall}
+use Rattle.machine.specs.Machine.{appendCall, addNew, addCapture, withTable, writeRow, markHidden, raiseLocals}
+use Rattle.machine.specs.Machine.{visitsKind, declaresLet, eventRow, constructedClass, receiverClass, newField}
+use Rattle.machine.specs.Machine.{fieldNode, isOuterVariable, writtenRow, storeCall, storeField, storeCapture}
+use Rattle.machine.specs.Machine.{storeLocal, storeHidden, storeRow, stepStore}
 use Rattle.machine.specs.Reads.{callNode, callsOf, listedFields, rowWords}
 use Rattle.machine.proofs.Nodes.{Extends, extends-trans, addNew-calls, addNew-low, addNew-used, addCapture-calls, addCapture-low, addCapture-used, list-kept}
 use Rattle.machine.proofs.ScopesAgree.{ScopesAgree, functions-is}
@@ -45,7 +50,12 @@ module _ (s : Sheet) (e : Event) (p : Scopes) (o : Store) where
   unfolding storeCall appendCall
   call-used room = go (visitsKind s 59 e) (not (eqb (constructedClass s (eventRow e) p) 0)) (ltb (o .used) (nodeRoom (o .nodes)))
     where
-      go : (t u v : Bool) → (if t && u then (if v then appendedCall (record { key = eventRow e; one = constructedClass s (eventRow e) p; two = 0 }) o else o) else o) .used ≤ o .used + (if t then 1 else 0)
+      go : (t u v : Bool)
+          → (if t && u
+          then (if v then appendedCall (record { key = eventRow e; one = constructedClass s (eventRow e) p; two = 0 }) o
+          else o)
+          else o) .used
+          ≤ o .used + (if t then 1 else 0)
       go true true true = omega arith
       go true true false = omega arith
       go true false v = omega arith
@@ -90,7 +100,8 @@ module _ (s : Sheet) (e : Event) (p : Scopes) (o : Store) where
       go true = addNew-low (8 * classOf s (currentFunction p) + 7) (fieldNode (a s (child s (eventRow e)))) o i l
       go false = l
 
-  capture-used : o .used + (if visitsKind s 50 e then length (openFunctions s p) else 0) ≤ nodeRoom (o .nodes) → storeCapture s e p o .used ≤ o .used + (if visitsKind s 50 e then length (openFunctions s p) else 0)
+  capture-used : o .used + (if visitsKind s 50 e then length (openFunctions s p) else 0) ≤ nodeRoom (o .nodes)
+      → storeCapture s e p o .used ≤ o .used + (if visitsKind s 50 e then length (openFunctions s p) else 0)
   unfolding storeCapture
   capture-used room = go (visitsKind s 50 e) (isOuterVariable (lookupMeaning p (a s (eventRow e))) (currentFunction p)) _ room
     where
@@ -192,7 +203,9 @@ assemble O s h h′ i o o₁ o₂ o₃ o₄ o₅ o₆ s₁ s₂ s₃ s₄ s₅ s
           (s₄ .words r 4 (omega arith) refl ∙ s₃ .words r 4 (omega arith) refl ∙ s₂ .words r 4 (omega arith) refl ∙ s₁ .words r 4 (omega arith) refl ∙ k .hidden-is r (rows-on g₆ r l));
       words-is = λ r l nz.
           told r (rows-on (s₆ .grows) r l) nz
-          (list-kept o₃ o₅ (8 * i + 6) (extends-trans (s₄ .grows) (s₅ .grows)) (s₅ .words i 6 (omega arith) refl ∙ s₄ .words i 6 (omega arith) refl) (l₃ i) ∙ caps₃ i (omega (arith, within-table, ap (λ (j : ℕ). j / 8) (g₃ .table-length))))
+          (list-kept o₃ o₅ (8 * i + 6) (extends-trans (s₄ .grows) (s₅ .grows))
+          (s₅ .words i 6 (omega arith) refl ∙ s₄ .words i 6 (omega arith) refl) (l₃ i)
+          ∙ caps₃ i (omega (arith, within-table, ap (λ (j : ℕ). j / 8) (g₃ .table-length))))
           (subst (λ (ws : List ℕ). WrittenBy O s h ws (final (filter (λ m. eqb (rowWritten s (m .event) (m .stack)) r) h))) (sym (w4 r)) (k .words-is r (rows-on g₆ r l) nz));
       used-le = used;
     }
@@ -256,7 +269,8 @@ pub store-step : (O : Outside) (s : Sheet) → kind s 0 ≡ 0 → (h : List Mome
 unfolding stepStore
 store-step O s hd h z p op snd e o kl ku few room within-table rows out k =
     assemble O s h (h ++ record { event = e; stack = z } ∷ []) (inside s z) o o₁ o₂ o₃ o₄ o₅ o₆
-    (storeCall-unchanged O s e p o) (storeField-unchanged O s e p o₁) (storeCapture-unchanged O s e p o₂) (storeLocal-unchanged O s e p o₃) (storeHidden-unchanged O s e p o₄) (storeRow-unchanged O s e p o₅)
+    (storeCall-unchanged O s e p o) (storeField-unchanged O s e p o₁) (storeCapture-unchanged O s e p o₂)
+    (storeLocal-unchanged O s e p o₃) (storeHidden-unchanged O s e p o₄) (storeRow-unchanged O s e p o₅)
     (call-part O s hd h z p op e o r₁ (k .calls-low) (k .calls-is)) (call-low s e p o (k .calls-low))
     (row-same O s e p o₅ .calls-is ∙ hidden-same s e p o₄ .calls-is ∙ local-same s e p o₃ .calls-is ∙ capture-calls s e p o₂ ∙ field-calls s e p o₁)
     (λ c l nz lo i. field-part O s hd h z p op e o₁ c r₂ l nz lo i) (λ c l. field-low s e p o₁ (8 * c + 7) l)
@@ -286,7 +300,10 @@ store-step O s hd h z p op snd e o kl ku few room within-table rows out k =
     g₂ : Extends o o₂
     g₂ = extends-trans (storeCall-unchanged O s e p o .grows) (storeField-unchanged O s e p o₁ .grows)
 
-    all : nodesNeeded s h + ((if visitsKind s 59 e then 1 else 0) + (if visitsKind s 21 e then 1 else 0) + (if visitsKind s 50 e then length (around s z) else 0)) ≡ nodesNeeded s (h ++ record { event = e; stack = z } ∷ [])
+    all : nodesNeeded s h
+        + ((if visitsKind s 59 e then 1 else 0) + (if visitsKind s 21 e then 1 else 0)
+        + (if visitsKind s 50 e then length (around s z) else 0))
+        ≡ nodesNeeded s (h ++ record { event = e; stack = z } ∷ [])
     all = ap (λ (c : ℕ). nodesNeeded s h + c) (sym (nodeCost-is s hd e z)) ∙ sym (needed-snoc s h (record { event = e; stack = z }))
 
     r₁ : o .used + (if visitsKind s 59 e then 1 else 0) ≤ nodeRoom (o .nodes)

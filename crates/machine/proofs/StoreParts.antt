@@ -21,7 +21,10 @@ use Rattle.definition.specs.Question.{openOn, constructed, receiver}
 use Rattle.definition.specs.Answer.{classCalls}
 use Rattle.definition.proofs.Lists.Tests.{and-both, T-true, true-of}
 use Rattle.definition.proofs.Lists.Members.{map-append}
-use Rattle.machine.specs.Machine.{nodeRoom, cell, Node, chainTo, Store, listAt, Scopes, currentFunction, newMeaning, hasKey, appendCall, addNew, addCapture, markHidden, raiseLocals, visitsKind, declaresLet, constructedClass, receiverClass, newField, fieldNode, storeCall, storeField, storeCapture, storeLocal, storeHidden}
+use Rattle.machine.specs.Machine.{nodeRoom, cell, Node, chainTo, Store, listAt, Scopes, currentFunction}
+use Rattle.machine.specs.Machine.{newMeaning, hasKey, appendCall, addNew, addCapture, markHidden, raiseLocals}
+use Rattle.machine.specs.Machine.{visitsKind, declaresLet, constructedClass, receiverClass, newField, fieldNode}
+use Rattle.machine.specs.Machine.{storeCall, storeField, storeCapture, storeLocal, storeHidden}
 use Rattle.machine.specs.Reads.{callNode, callsOf, listedFields}
 use Rattle.machine.proofs.Nodes.{addKey, isBefore, call-list, addNew-list, addNew-word, addNew-extends, list-kept}
 use Rattle.machine.proofs.Lists.{only, any-append, any-map, distinct-key, any-distinct, filter2-snoc, largest-snoc, eqb-same}
@@ -193,7 +196,9 @@ markHidden-cell g o r l = go (eqb g r) refl
         let ne : g ≡ r → ⊥ = eqb-false g r e in
         getD-set-other (o .table) (8 * g + 4) (8 * r + 4) 1 0 (λ q. omega arith)
 
-markHidden-if : (t : Bool) (g : ℕ) (o : Store) (r : ℕ) → r < length (o .table) / 8 → cell ((if t then markHidden g o else o) .table) r 4 ≡ (if t then (if eqb g r then 1 else cell (o .table) r 4) else cell (o .table) r 4)
+markHidden-if : (t : Bool) (g : ℕ) (o : Store) (r : ℕ) → r < length (o .table) / 8
+    → cell ((if t then markHidden g o else o) .table) r 4
+    ≡ (if t then (if eqb g r then 1 else cell (o .table) r 4) else cell (o .table) r 4)
 markHidden-if true g o r l = markHidden-cell g o r l
 markHidden-if false g o r l = refl
 
@@ -326,7 +331,9 @@ field-list s true false d c n o room l nz low = refl
 field-list s true true d c n o room l nz low = go (eqb d c) refl
   where
     other : (v : Bool) → (d ≡ c → ⊥) → listAt (if v then addNew (8 * d + 7) (fieldNode n) o else o) (8 * c + 7) ≡ listAt o (8 * c + 7)
-    other true ne = list-kept o (addNew (8 * d + 7) (fieldNode n) o) (8 * c + 7) (addNew-extends (8 * d + 7) (fieldNode n) o) (addNew-word (8 * d + 7) (fieldNode n) o (8 * c + 7) (λ q. omega arith)) low
+    other true ne =
+        list-kept o (addNew (8 * d + 7) (fieldNode n) o) (8 * c + 7) (addNew-extends (8 * d + 7) (fieldNode n) o)
+        (addNew-word (8 * d + 7) (fieldNode n) o (8 * c + 7) (λ q. omega arith)) low
     other false ne = refl
 
     own : (v : Bool) → listAt (if not v then addNew (8 * c + 7) (fieldNode n) o else o) (8 * c + 7) ≡ (if v then listAt o (8 * c + 7) else addKey (fieldNode n) (listAt o (8 * c + 7)))
@@ -356,7 +363,9 @@ module _ (O : Outside) (s : Sheet) (hd : kind s 0 ≡ 0) (h : List Moment) (z : 
   call-part (declare k) o room l i = i ∙ sym (calls-same (declare k) refl)
   call-part (bring k n d) o room l i = i ∙ sym (calls-same (bring k n d) refl)
   call-part (visit k) o room l i =
-      call-if (is s 59 k && not (eqb (constructedClass s k p) 0)) (record { key = k; one = constructedClass s k p; two = 0 }) o (λ t. if-one (is s 59 k) (not (eqb (constructedClass s k p) 0)) (o .used) _ room t) l
+      call-if (is s 59 k && not (eqb (constructedClass s k p) 0))
+      (record { key = k; one = constructedClass s k p; two = 0 }) o
+      (λ t. if-one (is s 59 k) (not (eqb (constructedClass s k p) 0)) (o .used) _ room t) l
       ∙ rw (i, ← (constructed-is O s z p op k)) (sym (calls-snoc s h (record { event = visit k; stack = z })))
 
   fields-same : (e : Event) → visitsKind s 21 e ≡ false → (c : ℕ) → registered s (h ++ record { event = e; stack = z } ∷ []) c ≡ registered s h c

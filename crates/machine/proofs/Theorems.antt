@@ -55,7 +55,13 @@ pub walk-refines : {O : Outside} (s : Sheet) (v t q : List ℕ) → PastFour O s
     → 1050 + length (O .names) + 3 * rows s < length v / 5 → rows s ≤ length t / 8 → 21 * rows s ≤ length q / 4
     → Walked O s (runState O s (walk s) (startState O s v t q))
 walk-refines {O} s v t q ok clear entries table nodes =
-    ended (fitting-sheet n (ok .outside) s v t q clear z h (ok .shallow) (record { for-rows = table; for-entries = omega (arith, m, ok .few); for-words = omega (arith, m, ok .few, ok .outside .few); for-nodes = omega (arith, m) }))
+    ended (fitting-sheet n (ok .outside) s v t q clear z h (ok .shallow)
+    (record {
+      for-rows = table;
+      for-entries = omega (arith, m, ok .few);
+      for-words = omega (arith, m, ok .few, ok .outside .few);
+      for-nodes = omega (arith, m);
+    }))
   where
     n : ℕ
     n = ok .names
@@ -78,4 +84,11 @@ walk-refines {O} s v t q ok clear entries table nodes =
           store = λ k. store-reads n (fits n s (ok .outside) z h) (facts n s h) (x .store) (g .kept) (omega (arith, table, g .rows-are));
           later = λ k. refused-later O s (x .store) (g .kept .calls-is) k;
         }
-    ended (Ends.refused e i) = record { refused = λ k. i ∙ sym (refused-in-walk O s k); accepted = λ k. absurd (e k); globals = λ k. absurd (e k); store = λ k. absurd (e k); later = λ k. absurd (e k) }
+    ended (Ends.refused e i) =
+        record {
+          refused = λ k. i ∙ sym (refused-in-walk O s k);
+          accepted = λ k. absurd (e k);
+          globals = λ k. absurd (e k);
+          store = λ k. absurd (e k);
+          later = λ k. absurd (e k);
+        }

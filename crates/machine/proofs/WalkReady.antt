@@ -66,7 +66,9 @@ entered-tail s n (declare k) es h = h
 entered-tail s n (bring k m d) es h = h
 entered-tail s n (visit k) es h = h
 
-below-step : (s : Sheet) (n : ℕ) (z : Stack) (e : Event) (es : List Event) → All (λ r. ltb r n) (functionsEntered s (e ∷ es)) → All (λ r. ltb r n) (around s z) → All (λ r. ltb r n) (around s ((step s z e)))
+below-step : (s : Sheet) (n : ℕ) (z : Stack) (e : Event) (es : List Event)
+    → All (λ r. ltb r n) (functionsEntered s (e ∷ es)) → All (λ r. ltb r n) (around s z)
+    → All (λ r. ltb r n) (around s ((step s z e)))
 below-step s n z (enter k) es h g = by (is s 6 k) h
   where
     by : (t : Bool) → All (λ r. ltb r n) (if t then k ∷ functionsEntered s es else functionsEntered s es) → All (λ r. ltb r n) (if t then k ∷ around s z else around s z)

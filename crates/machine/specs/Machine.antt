@@ -110,7 +110,11 @@ loopIn s v (suc n) = if leb (entryWord v n 0) 1 then (if eqb (entryWord v n 0) 0
 -- the functions whose scope marks are among the first n entries, innermost first
 unfoldable pub functionMarks : Sheet → List ℕ → ℕ → List ℕ
 functionMarks s v zero = []
-functionMarks s v (suc n) = if leb (entryWord v n 0) 1 then (if eqb (entryWord v n 0) 0 then functionMarks s v n else if is s 6 (entryWord v n 1) then entryWord v n 1 ∷ functionMarks s v n else functionMarks s v n) else functionMarks s v n
+functionMarks s v (suc n) =
+    if leb (entryWord v n 0) 1
+    then (if eqb (entryWord v n 0) 0 then functionMarks s v n
+    else if is s 6 (entryWord v n 1) then entryWord v n 1 ∷ functionMarks s v n else functionMarks s v n)
+    else functionMarks s v n
 
 -- the place of the last scope mark of the first n entries, or 0
 unfoldable pub lastMark : List ℕ → ℕ → ℕ

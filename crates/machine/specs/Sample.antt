@@ -10,8 +10,12 @@ use Rattle.definition.specs.Sheet.{Sheet, rows, is}
 use Rattle.definition.specs.Outside.{core}
 use Rattle.definition.specs.Walk.{walk}
 use Rattle.machine.specs.Machine.{State, cell, chainTo, listAt, runState, startState}
-use Rattle.machine.specs.Machine.{findName, takenIn, loopIn, functionMarks, lastMark, meaningAt, slotAt, globalAt, lookupMeaning, lookupSlot, lookupGlobal, openFunctions, currentFunction, newMeaning, stepScopes}
-use Rattle.machine.specs.Machine.{chainBack, reversed, appendNode, appendCall, addNew, addCapture, writeRow, markHidden, raiseLocals, storeCall, storeField, storeCapture, storeLocal, storeHidden, codeOf, seenIn, storeRow, stepStore, checkEvent, stepState}
+use Rattle.machine.specs.Machine.{findName, takenIn, loopIn, functionMarks, lastMark, meaningAt, slotAt, globalAt}
+use Rattle.machine.specs.Machine.{lookupMeaning, lookupSlot, lookupGlobal, openFunctions, currentFunction}
+use Rattle.machine.specs.Machine.{newMeaning, stepScopes}
+use Rattle.machine.specs.Machine.{chainBack, reversed, appendNode, appendCall, addNew, addCapture, writeRow}
+use Rattle.machine.specs.Machine.{markHidden, raiseLocals, storeCall, storeField, storeCapture, storeLocal}
+use Rattle.machine.specs.Machine.{storeHidden, codeOf, seenIn, storeRow, stepStore, checkEvent, stepState}
 use Rattle.machine.specs.Reads.{rowWords, escapingSlots}
 
 -- What is read off a state. A list that belongs to a row has the row first.
@@ -47,7 +51,10 @@ readOff s x =
 
 -- what is read off the state after the walk over a sheet, on buffers of 30 entries, 60 rows and 10 nodes
 unfoldable pub reading : Sheet → Reading
-unfolding rowWords listAt chainTo runState startState findName takenIn loopIn functionMarks lastMark meaningAt slotAt globalAt lookupMeaning lookupSlot lookupGlobal openFunctions currentFunction newMeaning stepScopes chainBack reversed appendNode appendCall addNew addCapture writeRow markHidden raiseLocals storeCall storeField storeCapture storeLocal storeHidden storeRow codeOf seenIn stepStore checkEvent stepState
+unfolding rowWords listAt chainTo runState startState findName takenIn loopIn functionMarks lastMark meaningAt slotAt
+    globalAt lookupMeaning lookupSlot lookupGlobal openFunctions currentFunction newMeaning stepScopes chainBack
+    reversed appendNode appendCall addNew addCapture writeRow markHidden raiseLocals storeCall storeField storeCapture
+    storeLocal storeHidden storeRow codeOf seenIn stepStore checkEvent stepState
 reading s = readOff s (runState core s (walk s) (startState core s (replicate 150 0) (replicate 480 0) (replicate 40 0)))
 
 -- With 3 globals before it:

@@ -29,7 +29,9 @@ no-T false f = refl
 sheet-small : (t : List ℕ) → T (isReadable t 16384) → length t ≤ 165888
 unfolding isReadable
 sheet-small t h =
-    let whole : 81 * lines t ≡ length t = eqb→eq (81 * lines t) (length t) (and-left (eqb (81 * lines t) (length t)) (all (λ r. isLine (lineAt t r)) (from 0 (lines t))) (subst T (text-lines t) (readable t 16384 h))) in
+    let whole : 81 * lines t ≡ length t =
+    eqb→eq (81 * lines t) (length t) (and-left (eqb (81 * lines t) (length t))
+    (all (λ r. isLine (lineAt t r)) (from 0 (lines t))) (subst T (text-lines t) (readable t 16384 h))) in
     let few : lines t ≤ 2048 = leb→le (lines t) 2048 (and-right (isSheetText t) (leb (lines t) 2048) (and-left (isSheetText t && leb (lines t) 2048) (leb (8 * lines t) 16384) h)) in
     omega (arith, whole, few)
 

@@ -151,19 +151,30 @@ module _ (sheet names before : List ℕ) (k n r : ℕ) (words rep after : List �
 
   module _ (read : SheetRead sheet 16384 k words) (told : Reported (take (8 * k) words) names n rep) where
     same : outcome (take (8 * k) words) names 16384 ≡ whole
-    same = ap (λ (m : ℕ). outcome (take (8 * m) words) names 16384) (read .count) ∙ ap (λ (w : List ℕ). outcome (take (8 * linesRead sheet 16384) w) names 16384) (read .words) ∙ same-outcome sheet names
+    same =
+        ap (λ (m : ℕ). outcome (take (8 * m) words) names 16384) (read .count)
+        ∙ ap (λ (w : List ℕ). outcome (take (8 * linesRead sheet 16384) w) names 16384) (read .words)
+        ∙ same-outcome sheet names
 
     rows-told : take (8 * n) rep ≡ flat (report whole)
     rows-told = told .words ∙ ap (λ (o : Outcome). flat (report o)) same
 
   printed-as : (o : Outcome) (ws : List ℕ) → Eights (o .rows) → length (o .rows) ≤ 2048 → ws ≡ flat (report o) → RowsWritten ws before r after → 165969 ≤ length before
       → (r ≡ length (textOf (report o))) × (after ≡ textOf (report o) ++ drop r before)
-  printed-as o ws g m e w l = (count ∙ ap (λ (i : ℕ). 81 * i) (report-rows o g) ∙ sym (text-length o g), there .text ∙ fit .1 ∙ ap (λ (rs : List (List ℕ)). textOf rs ++ drop (81 * rows (flat (report o))) before) (report-back o g) ∙ ap (λ (i : ℕ). textOf (report o) ++ drop i before) (sym count))
+  printed-as o ws g m e w l = (
+    count ∙ ap (λ (i : ℕ). 81 * i) (report-rows o g) ∙ sym (text-length o g),
+    there .text
+        ∙ fit .1
+        ∙ ap (λ (rs : List (List ℕ)). textOf rs ++ drop (81 * rows (flat (report o))) before) (report-back o g)
+        ∙ ap (λ (i : ℕ). textOf (report o) ++ drop i before) (sym count),
+  )
     where
       there : RowsWritten (flat (report o)) before r after
       there = subst (λ (v : List ℕ). RowsWritten v before r after) e w
 
-      fit : (bytesWritten (flat (report o)) (length before) ≡ 81 * rows (flat (report o))) × (textWritten (flat (report o)) before ≡ textOf (rowsIn (flat (report o))) ++ drop (81 * rows (flat (report o))) before)
+      fit : (bytesWritten (flat (report o)) (length before) ≡ 81 * rows (flat (report o)))
+          × (textWritten (flat (report o)) before
+          ≡ textOf (rowsIn (flat (report o))) ++ drop (81 * rows (flat (report o))) before)
       fit = rows-fit (flat (report o)) before (omega (arith, report-rows o g))
 
       count : r ≡ 81 * rows (flat (report o))

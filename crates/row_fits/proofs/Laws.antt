@@ -33,7 +33,8 @@ keyed q k l =
     ap (λ (x : ℕ). entryOf stateTable x ((16 * q + k) % 16 + 1)) e ∙ ap (entryOf stateTable q) f
 
 -- a number that is none of the rules 1 to 12
-pub rule-rest : (n : ℕ) → (n ≡ 1 → ⊥) → (n ≡ 2 → ⊥) → (n ≡ 3 → ⊥) → (n ≡ 4 → ⊥) → (n ≡ 5 → ⊥) → (n ≡ 6 → ⊥) → (n ≡ 7 → ⊥) → (n ≡ 8 → ⊥) → (n ≡ 9 → ⊥) → (n ≡ 10 → ⊥) → (n ≡ 11 → ⊥) → (n ≡ 12 → ⊥) → ruleAt n ≡ nought
+pub rule-rest : (n : ℕ) → (n ≡ 1 → ⊥) → (n ≡ 2 → ⊥) → (n ≡ 3 → ⊥) → (n ≡ 4 → ⊥) → (n ≡ 5 → ⊥) → (n ≡ 6 → ⊥)
+    → (n ≡ 7 → ⊥) → (n ≡ 8 → ⊥) → (n ≡ 9 → ⊥) → (n ≡ 10 → ⊥) → (n ≡ 11 → ⊥) → (n ≡ 12 → ⊥) → ruleAt n ≡ nought
 rule-rest zero f1 f2 f3 f4 f5 f6 f7 f8 f9 f10 f11 f12 = refl
 rule-rest (suc zero) f1 f2 f3 f4 f5 f6 f7 f8 f9 f10 f11 f12 = absurd (f1 refl)
 rule-rest (suc (suc zero)) f1 f2 f3 f4 f5 f6 f7 f8 f9 f10 f11 f12 = absurd (f2 refl)

@@ -13,7 +13,9 @@ use Rattle.definition.specs.Meaning.{classNumber}
 use Rattle.definition.specs.Walk.{visit}
 use Rattle.definition.specs.Question.{Refusal, none, ask, arguments}
 use Rattle.definition.specs.Classes.{hasRecord, methodNamed, methodOf, ownMethods}
-use Rattle.machine.specs.Machine.{State, Scopes, Store, lookupMeaning, appendCall, markHidden, writeRowAt, constructedClass, receiverClass, stepStore, checkVisit, stepState, storeCall, storeField, storeCapture, storeLocal, storeHidden, storeRow}
+use Rattle.machine.specs.Machine.{State, Scopes, Store, lookupMeaning, appendCall, markHidden, writeRowAt}
+use Rattle.machine.specs.Machine.{constructedClass, receiverClass, stepStore, checkVisit, stepState, storeCall}
+use Rattle.machine.specs.Machine.{storeField, storeCapture, storeLocal, storeHidden, storeRow}
 use Rattle.machine.proofs.ByKind.{store-construct, store-method}
 use Rattle.walk.specs.WalkState.{refusedBy}
 use Rattle.visits.specs.Callee.{methodQuestion}
@@ -86,7 +88,9 @@ module _ (O : Outside) (s : Sheet) (r : ℕ) (x : State) (k : kind s r ≡ 59) w
           g : c ≡ classNumber (lookupMeaning (x .scopes) (a s (child s r)))
           g = rw named at e
 
-    module _ (e : c ≡ receiverClass s r (x .scopes)) (q m f : ℕ) (i : q ≡ child s r) (j : m ≡ a s q) (g : f ≡ methodNamed m (ownMethods O s c)) (p : ℕ) (d : p ≡ methodOf m (ownMethods O s c) .params) where
+    module _ (e : c ≡ receiverClass s r (x .scopes)) (q m f : ℕ) (i : q ≡ child s r)
+        (j : m ≡ a s q) (g : f ≡ methodNamed m (ownMethods O s c)) (p : ℕ)
+        (d : p ≡ methodOf m (ownMethods O s c) .params) where
       member : kind s (child s r) ≡ 54
       member = receiver-member s r (x .scopes) (λ w. n (e ∙ w))
 
@@ -112,4 +116,7 @@ module _ (O : Outside) (s : Sheet) (r : ℕ) (x : State) (k : kind s r ≡ 59) w
       method-yes b o₁ o₂ l h v u =
           let y : checkVisit O s r (x .scopes) ≡ none = asked ∙ by-number (hasRecord O s c) (eqb f 0) (eqb (arguments s r) p) ∙ rw h in
           visited O s r x z (ap (λ (w : Refusal). w .number) y)
-          (u ∙ same-row q (1 ∷ f ∷ 0 ∷ 0 ∷ []) (1 ∷ f ∷ []) o₁ refl ∙ ap (writeRowAt q (1 ∷ f ∷ [])) v ∙ sym (rw (← e, ne-eqb c 0 n, ← i, ← j, ← g, ← l) at (store-method O s (x .scopes) (x .store) r k member)))
+          (u
+          ∙ same-row q (1 ∷ f ∷ 0 ∷ 0 ∷ []) (1 ∷ f ∷ []) o₁ refl
+          ∙ ap (writeRowAt q (1 ∷ f ∷ [])) v
+          ∙ sym (rw (← e, ne-eqb c 0 n, ← i, ← j, ← g, ← l) at (store-method O s (x .scopes) (x .store) r k member)))

@@ -14,8 +14,13 @@ same-length c = search needs
 
 returns : tie.Need-returns
 returns c =
-    let over = c .before .before .before .before .if1 .taken in
-    record { full = λ l. c .before .before .refuse .ensures; told = λ l. absurd (omega (arith, over, l)); words = λ l. absurd (omega (arith, over, l)) }
+    let if1 = c .before .before .before .before .if1 in
+    let over = if1 .taken in
+    record {
+      full = λ l. c .before .before .refuse .ensures;
+      told = λ l. absurd (omega (arith, over, l));
+      words = λ l. absurd (omega (arith, over, l));
+    }
 
 mul-clear : tie.Need-mul-clear
 mul-clear c = search needs
@@ -40,12 +45,15 @@ same-length-2 c = search needs
 
 returns-2 : tie.Need-returns-2
 returns-2 c =
-    let a = c .before .before .before .before .before .before .args in
-    let room = c .before .before .before .before .if1 .left in
+    let start = c .before .before .before .before .before .before in
+    let if1 = c .before .before .before .before .if1 in
+    let room = if1 .left in
     record {
       full = λ l. absurd (omega (arith, room, l));
       told = λ l. refl;
-      words = λ l. cleared-after (8 * a .n) (a .out .now) _ (omega (arith, l)) (c .before .before .clear .ensures);
+      words =
+          λ l. cleared-after (8 * start .args .n) (start .args .out .now) _ (omega (arith, l))
+          (c .before .before .clear .ensures);
     }
 
 pub accept-spec : {M : Type 1} → statement M

@@ -11,7 +11,9 @@ same-length : tie.Need-same-length
 same-length c = search needs
 
 returns : tie.Need-returns
-returns c = (told-refused (c .before .before .before .before .before .args .number) _ refl, c .before .before .clear .ensures)
+returns c =
+    let start = c .before .before .before .before .before in
+    (told-refused (start .args .number) _ refl, c .before .before .clear .ensures)
 
 pub refuse-spec : {M : Type 1} → statement M
 refuse-spec = tie.close (tie.spec clear-requires same-length returns)

@@ -25,14 +25,17 @@ same-length c = search needs
 returns : tie.Need-returns
 returns c =
     let start = c .before .before .before .before .before .before .before .before .before .before in
-    let a = start .args in
-    let second = c .before .before .before .before .before .before .word2 in
-    let file-is = c .before .before .before .before .before .before .before .word .ensures in
-    let column-is = c .before .before .before .before .before .word3 .ensures in
-    let made = c .before .before .before .before .new .ensures in
+    let word = c .before .before .before .before .before .before .before .word in
+    let word2 = c .before .before .before .before .before .before .word2 in
+    let word3 = c .before .before .before .before .before .word3 in
+    let new = c .before .before .before .before .new in
+    let file-is = word .ensures in
+    let column-is = word3 .ensures in
+    let made = new .ensures in
     let no = c .before .before .refuse .ensures in (
-      told-at (a .number) (a .sheet .now) (a .row) (a .name) _ (rw (← file-is, ← second .ensures, ← column-is) made) (start .pre)
-          (omega (arith, second .ensures, second .ok)) _ (no .0),
+      told-at (start .args .number) (start .args .sheet .now) (start .args .row) (start .args .name) _
+          (rw (← file-is, ← word2 .ensures, ← column-is) made) (start .pre) (omega (arith, word2 .ensures, word2 .ok)) _
+          (no .0),
       no .1,
     )
 

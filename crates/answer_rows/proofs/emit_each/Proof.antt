@@ -16,10 +16,9 @@ use Rattle.answer_rows.proofs.emit_each.Tie as tie
 abbrev Inv-loop : tie.InvT-loop
 Inv-loop s outside t q firsts nexts children o places₀ out₀ k₀ r₀ places out k r =
     let rows = rowsIn (over outside) s (storeOf o t q) in
-    (emitAll (concatMap rows (from r (length s / 8 - r))) (sink k out) ≡ emitAll (concatMap rows (from 0 (length s / 8))) (sink 0 out₀))
-    × (r ≤ length s / 8)
-    × (length out ≡ length out₀)
-    × (length places ≡ length places₀)
+    (emitAll (concatMap rows (from r (length s / 8 - r))) (sink k out)
+    ≡ emitAll (concatMap rows (from 0 (length s / 8))) (sink 0 out₀))
+    × (r ≤ length s / 8) × (length out ≡ length out₀) × (length places ≡ length places₀)
     × (Placed (over outside) s t q places out r k)
 
 abbrev μ-loop : tie.MeasureT-loop
@@ -28,39 +27,61 @@ abbrev μ-loop : tie.MeasureT-loop
 loop-holds : tie.Need-loop-holds Inv-loop μ-loop
 loop-holds c =
     let start = c .before .before .before .before .before .before .before .before .before in
-    let a = start .args in
-    let z : length (a .sheet .now) / 8 - 0 ≡ length (a .sheet .now) / 8 = omega arith in
-    let rows = rowsIn (over (a .outside .now)) (a .sheet .now) (storeOf (a .store) (a .results .now) (a .nodes .now)) in
-    let placed = places-zeros (over (a .outside .now)) (a .sheet .now) (a .results .now) (a .nodes .now) 2048 _ (a .out .now) (start .pre .0 .small) (omega arith) (start .pre .1) in
-    (ap (λ (n : ℕ). emitAll (concatMap rows (from 0 n)) (sink 0 (a .out .now))) z, omega arith, refl, refl, placed)
+    let z : length (start .args .sheet .now) / 8 - 0 ≡ length (start .args .sheet .now) / 8 = omega arith in
+    let rows =
+    rowsIn (over (start .args .outside .now)) (start .args .sheet .now)
+    (storeOf (start .args .store) (start .args .results .now) (start .args .nodes .now)) in
+    let placed =
+    places-zeros (over (start .args .outside .now)) (start .args .sheet .now) (start .args .results .now)
+    (start .args .nodes .now) 2048 _ (start .args .out .now) (start .pre .0 .small) (omega arith) (start .pre .1) in (
+      ap (λ (n : ℕ). emitAll (concatMap rows (from 0 n)) (sink 0 (start .args .out .now))) z,
+      omega arith,
+      refl,
+      refl,
+      placed,
+    )
 
 cast-emit-of : tie.Need-cast-emit-of Inv-loop μ-loop
-cast-emit-of c = omega (arith, c .before .loop-test .taken, c .before .before .before .before .before .before .before .before .before .before .before .before .pre .0 .small)
+cast-emit-of c =
+    let start = c .before .before .before .before .before .before .before .before .before .before .before .before in
+    omega (arith, c .before .loop-test .taken, start .pre .0 .small)
 
 emit-of-requires : tie.Need-emit-of-requires Inv-loop μ-loop
 emit-of-requires c κs =
-    let start = c .before .before .before .before .before .before .before .before .before .before .before .before .before in
+    let midway = c .before .before .before .before .before .before .before .before .before .before .before .before in
+    let start = midway .before in
     (start .pre .0, c .before .before .loop-test .taken, c .before .before .before .loop .inv .4)
 
 add-row : tie.Need-add-row Inv-loop μ-loop
 add-row c =
-    let start = c .before .before .before .before .before .before .before .before .before .before .before .before .before .before .before .before .before .before in
-    omega (arith, c .before .before .before .before .before .before .before .loop-test .taken, start .pre .0 .small)
+    let start =
+    c .before .before .before .before .before .before .before .before .before .before .before .before .before
+    .before .before .before .before .before in
+    let loop-test = c .before .before .before .before .before .before .before .loop-test in
+    omega (arith, loop-test .taken, start .pre .0 .small)
 
 loop-less : tie.Need-loop-less Inv-loop μ-loop
 loop-less c = omega (arith, c .before .before .before .before .before .before .before .loop-test .taken)
 
 loop-again : tie.Need-loop-again Inv-loop μ-loop
 loop-again c =
-    let a = c .before .before .before .before .before .before .before .before .before .before .before .before .before .before .before .before .before .before .args in
-    let here = c .before .before .before .before .before .before .before .before .loop in
-    let below = c .before .before .before .before .before .before .before .loop-test .taken in
-    let call = c .before .before .before .before .emit-of in
-    let rows = rowsIn (over (a .outside .now)) (a .sheet .now) (storeOf (a .store) (a .results .now) (a .nodes .now)) in (
-      all-more rows (here .row) (length (a .sheet .now) / 8) (sink (here .k) (here .out)) below (call .ensures .0) ∙ here .inv .0,
+    let start =
+    c .before .before .before .before .before .before .before .before .before .before .before .before .before
+    .before .before .before .before .before in
+    let loop = c .before .before .before .before .before .before .before .before .loop in
+    let loop-test = c .before .before .before .before .before .before .before .loop-test in
+    let emit-of = c .before .before .before .before .emit-of in
+    let below = loop-test .taken in
+    let call = emit-of in
+    let rows =
+    rowsIn (over (start .args .outside .now)) (start .args .sheet .now)
+    (storeOf (start .args .store) (start .args .results .now) (start .args .nodes .now)) in (
+      all-more rows (loop .row) (length (start .args .sheet .now) / 8) (sink (loop .k) (loop .out)) below
+          (call .ensures .0)
+          ∙ loop .inv .0,
       omega (arith, below),
-      omega (arith, call .kept, here .inv .2),
-      omega (arith, call .kept, here .inv .3),
+      omega (arith, call .kept, loop .inv .2),
+      omega (arith, call .kept, loop .inv .3),
       call .ensures .1,
     )
 
@@ -72,10 +93,13 @@ same-length-2 c = c .before .loop .inv .2
 
 returns : tie.Need-returns Inv-loop μ-loop
 returns c =
-    let a = c .before .before .before .before .before .before .before .before .before .before .before .args in
-    let here = c .before .loop in
-    let rows = rowsIn (over (a .outside .now)) (a .sheet .now) (storeOf (a .store) (a .results .now) (a .nodes .now)) in
-    all-none rows (here .row) (length (a .sheet .now) / 8) (sink (here .k) (here .out)) (c .loop-test .left) ∙ here .inv .0
+    let start = c .before .before .before .before .before .before .before .before .before .before .before in
+    let loop = c .before .loop in
+    let rows =
+    rowsIn (over (start .args .outside .now)) (start .args .sheet .now)
+    (storeOf (start .args .store) (start .args .results .now) (start .args .nodes .now)) in
+    all-none rows (loop .row) (length (start .args .sheet .now) / 8) (sink (loop .k) (loop .out)) (c .loop-test .left)
+    ∙ loop .inv .0
 
 pub emit-each-spec : {M : Type 1} → statement M
 emit-each-spec =

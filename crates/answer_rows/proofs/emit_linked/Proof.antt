@@ -14,16 +14,20 @@ link-literals-requires c κs =
 
 mark-parents-requires : tie.Need-mark-parents-requires
 mark-parents-requires c κs =
-    let start = c .before .before .before .before .before .before .before .before .before .before .before .before .before .before .before .before .before in
-    let room = start .pre .2 in
-    (small-sheet (start .pre .0), room .for-children, room .clear-children .zeros)
+    let midway = c .before .before .before .before .before .before .before .before .before .before .before .before in
+    let start = midway .before .before .before .before .before in
+    let room = start .pre .2 in (small-sheet (start .pre .0), room .for-children, room .clear-children .zeros)
 
 emit-each-requires : tie.Need-emit-each-requires
 emit-each-requires c κs =
-    let marked = c .before .before .before .before .before .before .before in
-    let linked = marked .before .before .before .before .before .before in
-    let start = linked .before .before .before .before .before .before .before .before .before .before .before .before in
-    (rows-ready (start .pre .0) (start .pre .1) (linked .link-literals .ensures) (marked .mark-parents .ensures), start .pre .3)
+    let at-mark-parents = c .before .before .before .before .before .before .before in
+    let at-link-literals = at-mark-parents .before .before .before .before .before .before in
+    let start =
+    at-link-literals .before .before .before .before .before .before .before .before .before .before .before
+    .before in
+    let link-literals = at-link-literals .link-literals in
+    let mark-parents = at-mark-parents .mark-parents in
+    (rows-ready (start .pre .0) (start .pre .1) (link-literals .ensures) (mark-parents .ensures), start .pre .3)
 
 same-length : tie.Need-same-length
 same-length c = search needs

@@ -1,5 +1,6 @@
 use Rattle.outside.specs.Words.{over}
-use Rattle.answer_rows.proofs.RowLaws.{rows-let, rows-host, rows-instance, rows-identifier, rows-member, rows-literal, rows-function, rows-class, rows-none, with-places}
+use Rattle.answer_rows.proofs.RowLaws.{rows-let, rows-host, rows-instance, rows-identifier, rows-member}
+use Rattle.answer_rows.proofs.RowLaws.{rows-literal, rows-function, rows-class, rows-none, with-places}
 use Rattle.store.specs.Stored.{storeOf}
 use Rattle.sink.specs.Sink.{sink, emitAll}
 use mathlib.Core.Path.{sym, ap, _∙_}
@@ -31,7 +32,9 @@ emit-member-requires : tie.Need-emit-member-requires
 emit-member-requires c κs = search needs
 
 emit-literal-requires : tie.Need-emit-literal-requires
-emit-literal-requires c κs = c .before .before .before .before .before .before .before .before .before .before .before .before .pre .0 .small
+emit-literal-requires c κs =
+    let start = c .before .before .before .before .before .before .before .before .before .before .before .before in
+    start .pre .0 .small
 
 emit-function-requires : tie.Need-emit-function-requires
 emit-function-requires c κs =
@@ -40,88 +43,123 @@ emit-function-requires c κs =
 
 emit-class-requires : tie.Need-emit-class-requires
 emit-class-requires c κs =
-    let start = c .before .before .before .before .before .before .before .before .before .before .before .before .before in
+    let midway = c .before .before .before .before .before .before .before .before .before .before .before .before in
+    let start = midway .before in
     let ready = start .pre .0 in
     let r = start .args .row in
-    let t = eqb-of (kind (start .args .sheet .now) r) 4 (sym (c .before .before .before .word .ensures) ∙ c .before .before .match .keys8) in
-    (record { row = start .pre .1; short = ready .small; marked = ready .marked; fields = ready .fields r t; methods = ready .methods r t }, start .pre .2)
+    let t =
+    eqb-of (kind (start .args .sheet .now) r) 4
+    (sym (c .before .before .before .word .ensures) ∙ c .before .before .match .keys8) in (
+      record {
+        row = start .pre .1;
+        short = ready .small;
+        marked = ready .marked;
+        fields = ready .fields r t;
+        methods = ready .methods r t;
+      },
+      start .pre .2,
+    )
 
 same-length : tie.Need-same-length
 same-length c = search needs
 
 returns : tie.Need-returns
 returns c =
-    let start = c .before .before .before .before .before .before .before .before .before .before .before .before .before .before .before in
-    let a = start .args in
-    let o = storeOf (a .store) (a .results .now) (a .nodes .now) in
-    let kind-is = sym (c .before .before .before .before .before .word .ensures) ∙ c .before .before .before .before .match .keys1 in
-    with-places (start .pre .2) _ (rows-let (over (a .outside .now)) (a .sheet .now) o (a .row) (sink (a .k) (a .out .now)) kind-is (c .before .before .emit-row .ensures))
+    let at-word = c .before .before .before .before .before in
+    let start = at-word .before .before .before .before .before .before .before .before .before .before in
+    let word = at-word .word in
+    let match = c .before .before .before .before .match in
+    let o = storeOf (start .args .store) (start .args .results .now) (start .args .nodes .now) in
+    let kind-is = sym (word .ensures) ∙ match .keys1 in
+    with-places (start .pre .2) _ (rows-let (over (start .args .outside .now)) (start .args .sheet .now) o
+    (start .args .row) (sink (start .args .k) (start .args .out .now)) kind-is (c .before .before .emit-row .ensures))
 
 same-length-2 : tie.Need-same-length-2
 same-length-2 c = search needs
 
 returns-2 : tie.Need-returns-2
 returns-2 c =
-    let start = c .before .before .before .before .before .before .before .before .before .before .before .before .before .before .before in
-    let a = start .args in
-    let o = storeOf (a .store) (a .results .now) (a .nodes .now) in
-    let kind-is = sym (c .before .before .before .before .before .word .ensures) ∙ c .before .before .before .before .match .keys2 in
-    with-places (start .pre .2) _ (rows-host (over (a .outside .now)) (a .sheet .now) o (a .row) (sink (a .k) (a .out .now)) kind-is (c .before .before .emit-row2 .ensures))
+    let at-word = c .before .before .before .before .before in
+    let start = at-word .before .before .before .before .before .before .before .before .before .before in
+    let word = at-word .word in
+    let match = c .before .before .before .before .match in
+    let o = storeOf (start .args .store) (start .args .results .now) (start .args .nodes .now) in
+    let kind-is = sym (word .ensures) ∙ match .keys2 in
+    with-places (start .pre .2) _ (rows-host (over (start .args .outside .now)) (start .args .sheet .now) o
+    (start .args .row) (sink (start .args .k) (start .args .out .now)) kind-is (c .before .before .emit-row2 .ensures))
 
 same-length-3 : tie.Need-same-length-3
 same-length-3 c = search needs
 
 returns-3 : tie.Need-returns-3
 returns-3 c =
-    let start = c .before .before .before .before .before .before .before .before .before .before .before .before .before .before .before in
-    let a = start .args in
-    let o = storeOf (a .store) (a .results .now) (a .nodes .now) in
-    let kind-is = sym (c .before .before .before .before .before .word .ensures) ∙ c .before .before .before .before .match .keys3 in
-    with-places (start .pre .2) _ (rows-instance (over (a .outside .now)) (a .sheet .now) o (a .row) (sink (a .k) (a .out .now)) kind-is (c .before .before .emit-row3 .ensures))
+    let at-word = c .before .before .before .before .before in
+    let start = at-word .before .before .before .before .before .before .before .before .before .before in
+    let word = at-word .word in
+    let match = c .before .before .before .before .match in
+    let o = storeOf (start .args .store) (start .args .results .now) (start .args .nodes .now) in
+    let kind-is = sym (word .ensures) ∙ match .keys3 in
+    with-places (start .pre .2) _ (rows-instance (over (start .args .outside .now)) (start .args .sheet .now) o
+    (start .args .row) (sink (start .args .k) (start .args .out .now)) kind-is (c .before .before .emit-row3 .ensures))
 
 same-length-4 : tie.Need-same-length-4
 same-length-4 c = search needs
 
 returns-4 : tie.Need-returns-4
 returns-4 c =
-    let start = c .before .before .before .before .before .before .before .before .before .before .before .before .before .before .before in
-    let a = start .args in
-    let o = storeOf (a .store) (a .results .now) (a .nodes .now) in
-    let kind-is = sym (c .before .before .before .before .before .word .ensures) ∙ c .before .before .before .before .match .keys4 in
-    with-places (start .pre .2) _ (rows-identifier (over (a .outside .now)) (a .sheet .now) o (a .row) (sink (a .k) (a .out .now)) kind-is (c .before .before .emit-shown .ensures))
+    let at-word = c .before .before .before .before .before in
+    let start = at-word .before .before .before .before .before .before .before .before .before .before in
+    let word = at-word .word in
+    let match = c .before .before .before .before .match in
+    let o = storeOf (start .args .store) (start .args .results .now) (start .args .nodes .now) in
+    let kind-is = sym (word .ensures) ∙ match .keys4 in
+    with-places (start .pre .2) _ (rows-identifier (over (start .args .outside .now)) (start .args .sheet .now) o
+    (start .args .row) (sink (start .args .k) (start .args .out .now)) kind-is (c .before .before .emit-shown .ensures))
 
 same-length-5 : tie.Need-same-length-5
 same-length-5 c = search needs
 
 returns-5 : tie.Need-returns-5
 returns-5 c =
-    let start = c .before .before .before .before .before .before .before .before .before .before .before .before .before .before .before in
-    let a = start .args in
-    let o = storeOf (a .store) (a .results .now) (a .nodes .now) in
-    let kind-is = sym (c .before .before .before .before .before .word .ensures) ∙ c .before .before .before .before .match .keys5 in
-    with-places (start .pre .2) _ (rows-member (over (a .outside .now)) (a .sheet .now) o (a .row) (sink (a .k) (a .out .now)) kind-is (c .before .before .emit-member .ensures))
+    let at-word = c .before .before .before .before .before in
+    let start = at-word .before .before .before .before .before .before .before .before .before .before in
+    let word = at-word .word in
+    let match = c .before .before .before .before .match in
+    let o = storeOf (start .args .store) (start .args .results .now) (start .args .nodes .now) in
+    let kind-is = sym (word .ensures) ∙ match .keys5 in
+    with-places (start .pre .2) _ (rows-member (over (start .args .outside .now)) (start .args .sheet .now) o
+    (start .args .row) (sink (start .args .k) (start .args .out .now)) kind-is
+    (c .before .before .emit-member .ensures))
 
 same-length-6 : tie.Need-same-length-6
 same-length-6 c = search needs
 
 returns-6 : tie.Need-returns-6
 returns-6 c =
-    let start = c .before .before .before .before .before .before .before .before .before .before .before .before .before .before .before in
-    let a = start .args in
-    let o = storeOf (a .store) (a .results .now) (a .nodes .now) in
-    let kind-is = sym (c .before .before .before .before .before .word .ensures) ∙ c .before .before .before .before .match .keys6 in
-    with-places (start .pre .2) _ (rows-literal (over (a .outside .now)) (a .sheet .now) o (a .row) (sink (a .k) (a .out .now)) kind-is (c .before .before .emit-literal .ensures (a .store)))
+    let at-word = c .before .before .before .before .before in
+    let start = at-word .before .before .before .before .before .before .before .before .before .before in
+    let word = at-word .word in
+    let match = c .before .before .before .before .match in
+    let o = storeOf (start .args .store) (start .args .results .now) (start .args .nodes .now) in
+    let kind-is = sym (word .ensures) ∙ match .keys6 in
+    with-places (start .pre .2) _ (rows-literal (over (start .args .outside .now)) (start .args .sheet .now) o
+    (start .args .row) (sink (start .args .k) (start .args .out .now)) kind-is
+    (c .before .before .emit-literal .ensures (start .args .store)))
 
 same-length-7 : tie.Need-same-length-7
 same-length-7 c = search needs
 
 returns-7 : tie.Need-returns-7
 returns-7 c =
-    let start = c .before .before .before .before .before .before .before .before .before .before .before .before .before .before .before in
-    let a = start .args in
-    let o = storeOf (a .store) (a .results .now) (a .nodes .now) in
-    let kind-is = sym (c .before .before .before .before .before .word .ensures) ∙ c .before .before .before .before .match .keys7 in
-    with-places (start .pre .2) _ (rows-function (over (a .outside .now)) (a .sheet .now) o (a .row) (sink (a .k) (a .out .now)) kind-is (c .before .before .emit-function .ensures (a .store)))
+    let at-word = c .before .before .before .before .before in
+    let start = at-word .before .before .before .before .before .before .before .before .before .before in
+    let word = at-word .word in
+    let match = c .before .before .before .before .match in
+    let o = storeOf (start .args .store) (start .args .results .now) (start .args .nodes .now) in
+    let kind-is = sym (word .ensures) ∙ match .keys7 in
+    with-places (start .pre .2) _ (rows-function (over (start .args .outside .now)) (start .args .sheet .now) o
+    (start .args .row) (sink (start .args .k) (start .args .out .now)) kind-is
+    (c .before .before .emit-function .ensures (start .args .store)))
 
 same-length-8 : tie.Need-same-length-8
 same-length-8 c = search needs
@@ -131,30 +169,34 @@ same-length-9 c = search needs
 
 returns-8 : tie.Need-returns-8
 returns-8 c =
-    let start = c .before .before .before .before .before .before .before .before .before .before .before .before .before .before .before .before .before .before in
-    let a = start .args in
-    let s = a .sheet .now in
-    let o = storeOf (a .store) (a .results .now) (a .nodes .now) in
-    let k = sink (a .k) (a .out .now) in
-    let kind-is = sym (c .before .before .before .before .before .before .before .before .word .ensures) ∙ c .before .before .before .before .before .before .before .match .keys8 in
-    let said = c .before .before .before .before .emit-class .ensures in
-    let same = start .pre .0 .named (a .row) (eqb-of (kind s (a .row)) 4 kind-is) in (
-      rows-class (over (a .outside .now)) s o (a .row) k kind-is
-          (said .0 (a .store) ∙ ap (λ (l : List (List ℕ)). emitAll (map (λ vs. eight (a .row ∷ vs)) l) k) same),
+    let at-word = c .before .before .before .before .before .before .before .before in
+    let start = at-word .before .before .before .before .before .before .before .before .before .before in
+    let word = at-word .word in
+    let match = c .before .before .before .before .before .before .before .match in
+    let emit-class = c .before .before .before .before .emit-class in
+    let s = start .args .sheet .now in
+    let o = storeOf (start .args .store) (start .args .results .now) (start .args .nodes .now) in
+    let k = sink (start .args .k) (start .args .out .now) in
+    let kind-is = sym (word .ensures) ∙ match .keys8 in
+    let said = emit-class .ensures in
+    let same = start .pre .0 .named (start .args .row) (eqb-of (kind s (start .args .row)) 4 kind-is) in (
+      rows-class (over (start .args .outside .now)) s o (start .args .row) k kind-is
+          (said .0 (start .args .store)
+          ∙ ap (λ (l : List (List ℕ)). emitAll (map (λ vs. eight (start .args .row ∷ vs)) l) k) same),
       said .1,
     )
 
 returns-9 : tie.Need-returns-9
 returns-9 c =
     let start = c .before .before .before .before .before .before .before .before .before .before .before in
-    let a = start .args in
-    let o = storeOf (a .store) (a .results .now) (a .nodes .now) in
+    let o = storeOf (start .args .store) (start .args .results .now) (start .args .nodes .now) in
     let is = c .before .word .ensures in
     let other = c .match .rest in
-    with-places (start .pre .2) _
-    (rows-none (over (a .outside .now)) (a .sheet .now) o (a .row) (sink (a .k) (a .out .now))
-    (λ e. other .0 .0 .0 .0 .0 .0 .0 .1 (is ∙ e)) (λ e. other .0 .0 .0 .0 .0 .0 .1 (is ∙ e)) (λ e. other .0 .0 .0 .0 .0 .1 (is ∙ e))
-    (λ e. other .0 .0 .0 .0 .1 (is ∙ e)) (λ e. other .0 .0 .0 .1 (is ∙ e)) (λ e. other .0 .0 .1 (is ∙ e)) (λ e. other .0 .1 (is ∙ e)) (λ e. other .1 (is ∙ e)))
+    with-places (start .pre .2) _ (rows-none (over (start .args .outside .now)) (start .args .sheet .now) o
+    (start .args .row) (sink (start .args .k) (start .args .out .now)) (λ e. other .0 .0 .0 .0 .0 .0 .0 .1 (is ∙ e))
+    (λ e. other .0 .0 .0 .0 .0 .0 .1 (is ∙ e)) (λ e. other .0 .0 .0 .0 .0 .1 (is ∙ e))
+    (λ e. other .0 .0 .0 .0 .1 (is ∙ e)) (λ e. other .0 .0 .0 .1 (is ∙ e)) (λ e. other .0 .0 .1 (is ∙ e))
+    (λ e. other .0 .1 (is ∙ e)) (λ e. other .1 (is ∙ e)))
 
 pub emit-of-spec : {M : Type 1} → statement M
 emit-of-spec =

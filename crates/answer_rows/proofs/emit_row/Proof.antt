@@ -24,11 +24,11 @@ same-length c = search needs
 returns : tie.Need-returns
 unfolding rowWords
 returns c =
-    let last = c .before .before .before .before in
-    let third = last .before in
-    let second = third .before in
-    rw (← second .before .word .ensures, ← second .word2 .ensures, ← third .word3 .ensures, ← last .word4 .ensures)
-    (c .before .before .emit .ensures)
+    let word = c .before .before .before .before .before .before .before .word in
+    let word2 = c .before .before .before .before .before .before .word2 in
+    let word3 = c .before .before .before .before .before .word3 in
+    let word4 = c .before .before .before .before .word4 in
+    rw (← word .ensures, ← word2 .ensures, ← word3 .ensures, ← word4 .ensures) (c .before .before .emit .ensures)
 
 pub emit-row-spec : {M : Type 1} → statement M
 emit-row-spec =

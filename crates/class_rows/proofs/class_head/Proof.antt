@@ -19,16 +19,33 @@ wanted-requires : tie.Need-wanted-requires
 wanted-requires c κs = search needs
 
 count-line-requires : tie.Need-count-line-requires
-count-line-requires c κs = (omega (arith, c .before .before .before .before .before .before .before .before .pre .0 .row), counted-wanted (over (c .before .before .before .before .before .before .before .before .args .outside .now)) (c .before .before .before .before .before .before .before .before .args .sheet .now) (c .before .before .before .before .before .before .before .before .args .results .now) (c .before .before .before .before .before .before .before .before .args .nodes .now) (c .wanted .ensures) (c .before .before .before .before .before .before .before .before .pre .1))
+count-line-requires c κs =
+    let start = c .before .before .before .before .before .before .before .before in (
+      omega (arith, start .pre .0 .row),
+      counted-wanted (over (start .args .outside .now)) (start .args .sheet .now) (start .args .results .now)
+          (start .args .nodes .now) (c .wanted .ensures) (start .pre .1),
+    )
 
 wanted-requires-2 : tie.Need-wanted-requires-2
 wanted-requires-2 c κs = search needs
 
 count-line-requires-2 : tie.Need-count-line-requires-2
-count-line-requires-2 c κs = (omega (arith, c .before .before .before .before .before .before .before .before .before .before .pre .0 .row), counted-wanted (over (c .before .before .before .before .before .before .before .before .before .before .args .outside .now)) (c .before .before .before .before .before .before .before .before .before .before .args .sheet .now) (c .before .before .before .before .before .before .before .before .before .before .args .results .now) (c .before .before .before .before .before .before .before .before .before .before .args .nodes .now) (c .wanted2 .ensures) (c .before .before .before .before .before .before .before .before .before .before .pre .2))
+count-line-requires-2 c κs =
+    let start = c .before .before .before .before .before .before .before .before .before .before in (
+      omega (arith, start .pre .0 .row),
+      counted-wanted (over (start .args .outside .now)) (start .args .sheet .now) (start .args .results .now)
+          (start .args .nodes .now) (c .wanted2 .ensures) (start .pre .2),
+    )
 
 returns : tie.Need-returns
-returns c = λ o. let a = c .before .before .before .before .before .before .before .before .before .before .before .args in head-row (over (a .outside .now)) (a .sheet .now) (a .results .now) (a .nodes .now) (a .subclassed .now) (a .row) (c .before .before .before .before .before .before .before .before .before .before .before .pre .0) o (c .before .before .before .before .before .parent-of .ensures o (a .nodes .now)) (c .before .before .before .before .mark-bit .ensures) (c .before .before .before .wanted .ensures) (c .before .before .count-line .ensures o) (c .before .wanted2 .ensures) (c .count-line2 .ensures o)
+returns c =
+    let start = c .before .before .before .before .before .before .before .before .before .before .before in
+    let parent-of = c .before .before .before .before .before .parent-of in
+    let mark-bit = c .before .before .before .before .mark-bit in
+    λ o. head-row (over (start .args .outside .now)) (start .args .sheet .now) (start .args .results .now)
+    (start .args .nodes .now) (start .args .subclassed .now) (start .args .row) (start .pre .0) o
+    (parent-of .ensures o (start .args .nodes .now)) (mark-bit .ensures) (c .before .before .before .wanted .ensures)
+    (c .before .before .count-line .ensures o) (c .before .wanted2 .ensures) (c .count-line2 .ensures o)
 
 pub class-head-spec : {M : Type 1} → statement M
 class-head-spec =

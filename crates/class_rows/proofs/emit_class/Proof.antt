@@ -15,7 +15,16 @@ add-result : tie.Need-add-result
 add-result c = search needs
 
 returns : tie.Need-returns
-returns c = let a = c .before .before .before .before .before .before .before .before .args in let o : Store = record { used = 0; calls = 0 } in (λ o. class-full (over (a .outside .now)) (a .sheet .now) (storeOf o (a .results .now) (a .nodes .now)) (a .row) (a .k) (a .out .now) (c .if1 .taken), placed-kept (c .before .before .before .before .before .before .before .before .pre .1) _ (class-full (over (a .outside .now)) (a .sheet .now) (storeOf o (a .results .now) (a .nodes .now)) (a .row) (a .k) (a .out .now) (c .if1 .taken)))
+returns c =
+    let start = c .before .before .before .before .before .before .before .before in
+    let o : Store = record { used = 0; calls = 0 } in (
+      λ o. class-full (over (start .args .outside .now)) (start .args .sheet .now)
+          (storeOf o (start .args .results .now) (start .args .nodes .now)) (start .args .row) (start .args .k)
+          (start .args .out .now) (c .if1 .taken),
+      placed-kept (start .pre .1) _ (class-full (over (start .args .outside .now)) (start .args .sheet .now)
+          (storeOf o (start .args .results .now) (start .args .nodes .now)) (start .args .row) (start .args .k)
+          (start .args .out .now) (c .if1 .taken)),
+    )
 
 add-t18 : tie.Need-add-t18
 add-t18 c = search needs
@@ -27,13 +36,31 @@ place-of-requires : tie.Need-place-of-requires
 place-of-requires c κs = search needs
 
 above-of-requires : tie.Need-above-of-requires
-above-of-requires c κs = entry-fits (c .before .before .before .before .before .before .before .before .before .before .before .before .pre .1) (c .before .before .before .before .before .before .before .before .before .before .before .before .pre .0 .row) (λ o. c .before .before .before .parent-of .ensures o (c .before .before .before .before .before .before .before .before .before .before .before .before .args .nodes .now)) (c .before .place-of .ensures)
+above-of-requires c κs =
+    let start = c .before .before .before .before .before .before .before .before .before .before .before .before in
+    entry-fits (start .pre .1) (start .pre .0 .row)
+    (λ o. c .before .before .before .parent-of .ensures o (start .args .nodes .now)) (c .before .place-of .ensures)
 
 above-of-requires-2 : tie.Need-above-of-requires-2
-above-of-requires-2 c κs = entry-fits (c .before .before .before .before .before .before .before .before .before .before .before .before .before .before .pre .1) (c .before .before .before .before .before .before .before .before .before .before .before .before .before .before .pre .0 .row) (λ o. c .before .before .before .before .before .parent-of .ensures o (c .before .before .before .before .before .before .before .before .before .before .before .before .before .before .args .nodes .now)) (c .before .before .before .place-of .ensures)
+above-of-requires-2 c κs =
+    let at-parent-of = c .before .before .before .before .before in
+    let start = at-parent-of .before .before .before .before .before .before .before .before .before in
+    let parent-of = at-parent-of .parent-of in
+    entry-fits (start .pre .1) (start .pre .0 .row) (λ o. parent-of .ensures o (start .args .nodes .now))
+    (c .before .before .before .place-of .ensures)
 
 write-class-requires : tie.Need-write-class-requires
-write-class-requires c κs = (c .before .before .before .before .before .before .before .before .before .before .before .before .before .before .before .before .pre .0, fields-shown (c .before .before .before .before .before .before .before .before .before .before .before .before .before .before .before .before .pre .1) (c .before .before .before .before .before .before .before .before .before .before .before .before .before .before .before .before .pre .0 .row) (λ o. c .before .before .before .before .before .before .before .parent-of .ensures o (c .before .before .before .before .before .before .before .before .before .before .before .before .before .before .before .before .args .nodes .now)) (c .before .before .before .before .before .place-of .ensures) (c .before .before .before .above-of .ensures), methods-shown (c .before .before .before .before .before .before .before .before .before .before .before .before .before .before .before .before .pre .1) (c .before .before .before .before .before .before .before .before .before .before .before .before .before .before .before .before .pre .0 .row) (λ o. c .before .before .before .before .before .before .before .parent-of .ensures o (c .before .before .before .before .before .before .before .before .before .before .before .before .before .before .before .before .args .nodes .now)) (c .before .before .before .before .before .place-of .ensures) (c .before .above-of2 .ensures))
+write-class-requires c κs =
+    let at-parent-of = c .before .before .before .before .before .before .before in
+    let start = at-parent-of .before .before .before .before .before .before .before .before .before in
+    let parent-of = at-parent-of .parent-of in
+    let place-of = c .before .before .before .before .before .place-of in (
+      start .pre .0,
+      fields-shown (start .pre .1) (start .pre .0 .row) (λ o. parent-of .ensures o (start .args .nodes .now))
+          (place-of .ensures) (c .before .before .before .above-of .ensures),
+      methods-shown (start .pre .1) (start .pre .0 .row) (λ o. parent-of .ensures o (start .args .nodes .now))
+          (place-of .ensures) (c .before .above-of2 .ensures),
+    )
 
 same-length : tie.Need-same-length
 same-length c = search needs
@@ -42,7 +69,12 @@ same-length-2 : tie.Need-same-length-2
 same-length-2 c = search needs
 
 returns-2 : tie.Need-returns-2
-returns-2 c = (c .before .before .before .write-class .ensures, placed-kept (c .before .before .before .before .before .before .before .before .before .before .before .before .before .before .before .before .before .before .before .before .pre .1) _ (c .before .before .before .write-class .ensures (record { used = 0; calls = 0 })))
+returns-2 c =
+    let at-write-class = c .before .before .before in
+    let midway = at-write-class .before .before .before .before .before .before .before .before .before .before .before .before in
+    let start = midway .before .before .before .before .before in
+    let write-class = at-write-class .write-class in
+    (write-class .ensures, placed-kept (start .pre .1) _ (write-class .ensures (record { used = 0; calls = 0 })))
 
 line-ends-requires : tie.Need-line-ends-requires
 line-ends-requires c κs = search needs
@@ -54,16 +86,36 @@ same-length-4 : tie.Need-same-length-4
 same-length-4 c = search needs
 
 returns-3 : tie.Need-returns-3
-returns-3 c = (c .before .before .before .before .before .write-class .ensures, placed-kept (c .before .before .before .before .before .before .before .before .before .before .before .before .before .before .before .before .before .before .before .before .before .before .pre .1) _ (c .before .before .before .before .before .write-class .ensures (record { used = 0; calls = 0 })))
+returns-3 c =
+    let at-write-class = c .before .before .before .before .before in
+    let midway = at-write-class .before .before .before .before .before .before .before .before .before .before .before .before in
+    let start = midway .before .before .before .before .before in
+    let write-class = at-write-class .write-class in
+    (write-class .ensures, placed-kept (start .pre .1) _ (write-class .ensures (record { used = 0; calls = 0 })))
 
 add-starts : tie.Need-add-starts
-add-starts c = omega (arith, c .before .before .before .before .before .before .before .before .before .before .before .before .before .before .if1 .left, c .before .before .before .before .before .before .before .before .before .before .before .before .before .before .before .before .before .before .before .before .before .before .good .1 .1 .1 .1 .1 .1 .1 .1 .0)
+add-starts c =
+    let start =
+    c .before .before .before .before .before .before .before .before .before .before .before .before .before
+    .before .before .before .before .before .before .before .before .before in
+    let if1 =
+    c .before .before .before .before .before .before .before .before .before .before .before .before .before
+    .before .if1 in
+    omega (arith, if1 .left, start .good .1 .1 .1 .1 .1 .1 .1 .1 .0)
 
 mul-starts : tie.Need-mul-starts
-mul-starts c = omega (arith, c .before .before .before .before .before .before .before .before .before .before .before .before .before .before .before .before .before .before .before .before .before .before .pre .0 .row, c .before .before .before .before .before .before .before .before .before .before .before .before .before .before .before .before .before .before .before .before .before .before .pre .0 .short)
+mul-starts c =
+    let start =
+    c .before .before .before .before .before .before .before .before .before .before .before .before .before
+    .before .before .before .before .before .before .before .before .before in
+    omega (arith, start .pre .0 .row, start .pre .0 .short)
 
 slice-write-starts : tie.Need-slice-write-starts
-slice-write-starts c = omega (arith, c .before .before .before .before .before .before .before .before .before .before .before .before .before .before .before .before .before .before .before .before .before .before .pre .0 .row, c .before .before .before .before .before .before .before .before .before .before .before .before .before .before .before .before .before .before .before .before .before .before .pre .1 .room)
+slice-write-starts c =
+    let start =
+    c .before .before .before .before .before .before .before .before .before .before .before .before .before
+    .before .before .before .before .before .before .before .before .before in
+    omega (arith, start .pre .0 .row, start .pre .1 .room)
 
 same-length-5 : tie.Need-same-length-5
 same-length-5 c = search needs
@@ -72,12 +124,26 @@ same-length-6 : tie.Need-same-length-6
 same-length-6 c = search needs
 
 returns-4 : tie.Need-returns-4
-returns-4 c = let a = c .before .before .before .before .before .before .before .before .before .before .before .before .before .before .before .before .before .before .before .before .before .before .args in
-    let steady = line-steady (c .before .before .before .before .before .before .before .before .before .before .before .before .before .before .before .before .before .before .before .before .before .before .pre .1) (c .before .before .before .before .before .before .before .before .before .before .before .before .before .before .before .before .before .before .before .before .before .before .pre .0 .row) (λ o. c .before .before .before .before .before .before .before .before .before .before .before .before .before .parent-of .ensures o (a .nodes .now)) (c .before .before .before .before .before .before .before .before .before .before .before .place-of .ensures) (sym (not-false (c .before .line-ends .result) (c .if3 .left)) ∙ c .before .line-ends .ensures) in (
-      c .before .before .before .before .before .write-class .ensures,
-      placed-more (c .before .before .before .before .before .before .before .before .before .before .before .before .before .before .before .before .before .before .before .before .before .before .pre .1) _ (c .before .before .before .before .before .write-class .ensures (record { used = 0; calls = 0 }))
-          (λ o. stands-now (over (a .outside .now)) (a .sheet .now) (storeOf o (a .results .now) (a .nodes .now)) (a .out .now) (a .k) (a .row) (c .before .before .before .before .before .write-class .result) (c .before .before .before .before .before .write-class .ensures o) (omega (arith, c .before .before .if2 .left)) (omega (arith, c .before .before .before .before .before .write-class .kept)) (steady o .0) (steady o .1))
-          (omega (arith, c .before .before .before .before .before .before .before .before .before .before .before .before .before .before .before .before .before .before .before .before .before .before .pre .0 .row, c .before .before .before .before .before .before .before .before .before .before .before .before .before .before .before .before .before .before .before .before .before .before .pre .1 .room)),
+returns-4 c =
+    let start =
+    c .before .before .before .before .before .before .before .before .before .before .before .before .before
+    .before .before .before .before .before .before .before .before .before in
+    let parent-of =
+    c .before .before .before .before .before .before .before .before .before .before .before .before .before
+    .parent-of in
+    let place-of = c .before .before .before .before .before .before .before .before .before .before .before .place-of in
+    let write-class = c .before .before .before .before .before .write-class in
+    let steady =
+    line-steady (start .pre .1) (start .pre .0 .row) (λ o. parent-of .ensures o (start .args .nodes .now))
+    (place-of .ensures)
+    (sym (not-false (c .before .line-ends .result) (c .if3 .left)) ∙ c .before .line-ends .ensures) in (
+      write-class .ensures,
+      placed-more (start .pre .1) _ (write-class .ensures (record { used = 0; calls = 0 }))
+          (λ o. stands-now (over (start .args .outside .now)) (start .args .sheet .now)
+          (storeOf o (start .args .results .now) (start .args .nodes .now)) (start .args .out .now) (start .args .k)
+          (start .args .row) (write-class .result) (write-class .ensures o)
+          (omega (arith, c .before .before .if2 .left)) (omega (arith, write-class .kept)) (steady o .0) (steady o .1))
+          (omega (arith, start .pre .0 .row, start .pre .1 .room)),
     )
 
 pub emit-class-spec : {M : Type 1} → statement M

@@ -17,8 +17,14 @@ abbrev μ-loop : tie.MeasureT-loop
 
 loop-holds : tie.Need-loop-holds Inv-loop μ-loop
 loop-holds c =
-    let entry = c .before .before in
-    (omega arith, (refl, filled-none (entry .pre .0 .0) (entry .args .sheet .now) (entry .pre .0 .1) (entry .args .classes .now) (entry .pre .2)))
+    let start = c .before .before in (
+      omega arith,
+      (
+        refl,
+        filled-none (start .pre .0 .0) (start .args .sheet .now) (start .pre .0 .1) (start .args .classes .now)
+            (start .pre .2),
+      ),
+    )
 
 cast-loop : tie.Need-cast-loop Inv-loop μ-loop
 cast-loop c = omega arith
@@ -28,18 +34,20 @@ fill-row-requires c κs = tt
 
 add-r : tie.Need-add-r Inv-loop μ-loop
 add-r c =
-    let entry = c .before .before .before .before .before .before .before .before in
-    omega (arith, rows-few (entry .args .sheet .now) (entry .pre .0 .1 .whole))
+    let start = c .before .before .before .before .before .before .before .before in
+    omega (arith, rows-few (start .args .sheet .now) (start .pre .0 .1 .whole))
 
 loop-less : tie.Need-loop-less Inv-loop μ-loop
 loop-less c = omega arith
 
 loop-again : tie.Need-loop-again Inv-loop μ-loop
 loop-again c =
-    let z = c .before .before .before .before .before in
-    let entry = z .before .before .before in (
+    let start = c .before .before .before .before .before .before .before .before in
+    let loop = c .before .before .before .before .before .loop in
+    let loop-test = c .before .before .before .before .loop-test in (
       omega arith,
-      next-turn (entry .pre .0 .0) (entry .args .sheet .now) (entry .pre .0 .1) (entry .args .classes .now) (z .loop .classes) _ (z .loop .r) (c .before .before .before .before .loop-test .taken) (entry .pre .1) (z .loop .inv .1)
+      next-turn (start .pre .0 .0) (start .args .sheet .now) (start .pre .0 .1) (start .args .classes .now)
+          (loop .classes) _ (loop .r) (loop-test .taken) (start .pre .1) (loop .inv .1)
           (c .before .before .fill-row .ensures),
     )
 
@@ -48,8 +56,10 @@ same-length c = c .before .loop .inv .1 .0
 
 returns : tie.Need-returns Inv-loop μ-loop
 returns c =
-    let entry = c .before .before .before .before in
-    filled-all (entry .pre .0 .0) (entry .args .sheet .now) (entry .pre .0 .1) (c .before .loop .classes) (c .before .loop .r) (c .loop-test .left) (c .before .loop .inv .1 .1)
+    let start = c .before .before .before .before in
+    let loop = c .before .loop in
+    filled-all (start .pre .0 .0) (start .args .sheet .now) (start .pre .0 .1) (loop .classes) (loop .r)
+    (c .loop-test .left) (loop .inv .1 .1)
 
 pub class-table-spec : {M : Type 1} → statement M
 class-table-spec =

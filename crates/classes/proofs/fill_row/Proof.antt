@@ -26,12 +26,15 @@ same-length c = search needs
 
 returns : tie.Need-returns
 returns c =
-    let second = c .before .before .before in
-    let first = second .before .before .before .before .before .before in
-    let read = first .before .before in
-    let entry = read .before .before .before .before in
-    row-by (entry .args .sheet .now) (entry .args .row) (entry .args .classes .now) (read .before .word .ensures) (read .word2 .ensures) (first .kids-class .ensures)
-    (second .before .before .before .before .before .put-linked .ensures) (second .entry-at .ensures) (c .before .before .put-linked2 .ensures)
+    let at-word = c .before .before .before .before .before .before .before .before .before .before .before .before in
+    let start = at-word .before .before .before in
+    let word = at-word .word in
+    let word2 = c .before .before .before .before .before .before .before .before .before .before .before .word2 in
+    let kids-class = c .before .before .before .before .before .before .before .before .before .kids-class in
+    let put-linked = c .before .before .before .before .before .before .before .before .put-linked in
+    row-by (start .args .sheet .now) (start .args .row) (start .args .classes .now) (word .ensures) (word2 .ensures)
+    (kids-class .ensures) (put-linked .ensures) (c .before .before .before .entry-at .ensures)
+    (c .before .before .put-linked2 .ensures)
 
 pub fill-row-spec : {M : Type 1} → statement M
 fill-row-spec =

@@ -12,13 +12,15 @@ same-length c = search needs
 
 returns : tie.Need-returns
 returns c =
-    let call = c .before .before in
-    let test = call .before .before in
-    let entry = test .before .before in
-    call .put-entry .ensures ∙ sym (linked-some (entry .args .i) (entry .args .x) (entry .args .classes .now) (test .if1 .taken))
+    let start = c .before .before .before .before .before .before in
+    let if1 = c .before .before .before .before .if1 in
+    c .before .before .put-entry .ensures
+    ∙ sym (linked-some (start .args .i) (start .args .x) (start .args .classes .now) (if1 .taken))
 
 returns-2 : tie.Need-returns-2
-returns-2 c = sym (linked-none (c .before .before .args .i) (c .before .before .args .x) (c .before .before .args .classes .now) (c .if1 .left))
+returns-2 c =
+    let start = c .before .before in
+    sym (linked-none (start .args .i) (start .args .x) (start .args .classes .now) (c .if1 .left))
 
 pub put-linked-spec : {M : Type 1} → statement M
 put-linked-spec = tie.close (tie.spec put-entry-requires same-length returns returns-2)

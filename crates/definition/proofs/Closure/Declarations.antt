@@ -49,7 +49,8 @@ function-rows O s h f l t =
     let top : Row = eight (f ∷ 20 ∷ localCount s h f ∷ length (captures s h f) ∷ length (escaping s h f) ∷ []) in
     rows-for O s h f l ∙ ap (map (λ vs. eight (f ∷ vs))) (rows-of-function O s h f t)
     ∙ ap (λ (z : List Row). top ∷ z) (map-append (λ vs. eight (f ∷ vs)) (map (λ u. code s h (u .means) (u .slot)) (captures s h f)) (map (λ k. 5 ∷ k ∷ f ∷ 1 ∷ []) (escaping s h f)))
-    ∙ ap (λ (z : List Row). top ∷ z ++ map (λ vs. eight (f ∷ vs)) (map (λ k. 5 ∷ k ∷ f ∷ 1 ∷ []) (escaping s h f))) (map-map (λ vs. eight (f ∷ vs)) (λ u. code s h (u .means) (u .slot)) (captures s h f))
+    ∙ ap (λ (z : List Row). top ∷ z ++ map (λ vs. eight (f ∷ vs)) (map (λ k. 5 ∷ k ∷ f ∷ 1 ∷ []) (escaping s h f)))
+    (map-map (λ vs. eight (f ∷ vs)) (λ u. code s h (u .means) (u .slot)) (captures s h f))
     ∙ ap (λ (z : List Row). top ∷ map (λ u. eight (f ∷ code s h (u .means) (u .slot))) (captures s h f) ++ z) (map-map (λ vs. eight (f ∷ vs)) (λ k. 5 ∷ k ∷ f ∷ 1 ∷ []) (escaping s h f))
 
 -- a variable's code, function and slot or index are its first three values
@@ -156,4 +157,6 @@ module _ {O : Outside} {s : Sheet} (ok : Fits O s) where
           let-row m q (o .at) (o .name) (o .means) (o .before) (o .is-open) (and-both (isVariable (o .means)) (is s 29 r) (o .is-variable) h)
           ∙ ap (λ (c : List ℕ). eight (r ∷ c) ∷ []) (local-code O s (o .means) (openLocals s (o .before)) (o .is-variable) (not-kind s 29 11 r tt h))
           ∙ ap (λ (z : ℕ). eight (r ∷ 5 ∷ openLocals s (o .before) ∷ ownerOf (o .means) ∷ z ∷ []) ∷ []) (mutability h)
-          ∙ ap (λ (f : ℕ). eight (r ∷ 5 ∷ openLocals s (o .before) ∷ f ∷ b s r ∷ []) ∷ []) (declared-once m q (o .at) (o .name) (o .means) (o .before) (o .is-open) (o .is-variable) .4 ∙ sym (no-base (functionOf s r)))
+          ∙ ap (λ (f : ℕ). eight (r ∷ 5 ∷ openLocals s (o .before) ∷ f ∷ b s r ∷ []) ∷ [])
+          (declared-once m q (o .at) (o .name) (o .means) (o .before) (o .is-open) (o .is-variable) .4
+          ∙ sym (no-base (functionOf s r)))

@@ -17,7 +17,9 @@ use Rattle.definition.specs.Capture.{Use, useAt, uses, captures, escapin
 use Rattle.definition.specs.Answer.{eight, answers}
 use Rattle.definition.specs.Claims.{Row, rowsFor, firstFor, told, declaredAs, openRows, openLets, slotsUsed, between, usedIn, Follows, ends, steps, Followed, Captures, Demand3}
 use Rattle.definition.proofs.Lists.Tests.{and-left, and-right, and-both, eqb-of}
-use Rattle.definition.proofs.Lists.Members.{drop-mem, getD-drop-is, mem-map, map-mem, mem-filter, filter-mem, mem-test, test-mem, nodup-apart, distinct-nodup, drop-some, drop-map, count-filter, take-front, map-same, map-map, place-order}
+use Rattle.definition.proofs.Lists.Members.{drop-mem, getD-drop-is, mem-map, map-mem, mem-filter, filter-mem}
+use Rattle.definition.proofs.Lists.Members.{mem-test, test-mem, nodup-apart, distinct-nodup, drop-some, drop-map}
+use Rattle.definition.proofs.Lists.Members.{count-filter, take-front, map-same, map-map, place-order}
 use Rattle.definition.proofs.Format.Links.{held}
 use Rattle.definition.proofs.Walk.Fits.{Fits}
 use Rattle.definition.proofs.Walk.Rows.{kind-not-zero}

@@ -19,7 +19,9 @@ use Rattle.definition.specs.Answer.{eight, isCalleeBase, identifierRow, 
 use Rattle.definition.specs.Claims.{Row, rowsFor, Follows, ends, steps}
 use Rattle.definition.specs.Bounds.{own, walked}
 use Rattle.definition.proofs.Lists.Tests.{and-both, and-left, and-right, decide, eqb-of, if-true, if-false, kind-apart}
-use Rattle.definition.proofs.Lists.Members.{count-mem, count-some, filter-mem, filter-append, all-pass, none-passes, map-mem, concatMap-mem, from-mem, test-mem, mem-test, place-found, getD-drop-is, drop-mem, drop-map}
+use Rattle.definition.proofs.Lists.Members.{count-mem, count-some, filter-mem, filter-append, all-pass}
+use Rattle.definition.proofs.Lists.Members.{none-passes, map-mem, concatMap-mem, from-mem, test-mem, mem-test}
+use Rattle.definition.proofs.Lists.Members.{place-found, getD-drop-is, drop-mem, drop-map}
 use Rattle.definition.proofs.Walk.Fits.{Fits}
 use Rattle.definition.proofs.Walk.Moments.{mem-moments}
 use Rattle.definition.proofs.Walk.Rows.{reached-root, kind-not-zero}
@@ -282,9 +284,14 @@ module _ {O : Outside} {s : Sheet} (ok : Fits O s) where
   follow-here r g u v t = (eight (r ∷ seenFrom s (history O s) g u), go (decide (is s 11 (rowOf (u .means)))), ap (λ (c : List ℕ). eight (r ∷ c)) e)
     where
       e : seenFrom s (history O s) g u ≡ code s (history O s) (u .means) (u .slot)
-      e = if-false (isVariable (u .means) && not (eqb (ownerOf (u .means)) g)) _ (code s (history O s) (u .means) (u .slot)) (and-not (isVariable (u .means)) (not (eqb (ownerOf (u .means)) g)) (not-not (eqb (ownerOf (u .means)) g) t))
+      e =
+          if-false (isVariable (u .means) && not (eqb (ownerOf (u .means)) g)) _
+          (code s (history O s) (u .means) (u .slot))
+          (and-not (isVariable (u .means)) (not (eqb (ownerOf (u .means)) g)) (not-not (eqb (ownerOf (u .means)) g) t))
 
-      go : T (is s 11 (rowOf (u .means))) ⊎ T (not (is s 11 (rowOf (u .means)))) → Follows s (answers O s (history O s)) (eight (r ∷ seenFrom s (history O s) g u)) 0 (eight (r ∷ seenFrom s (history O s) g u))
+      go : T (is s 11 (rowOf (u .means))) ⊎ T (not (is s 11 (rowOf (u .means))))
+          → Follows s (answers O s (history O s)) (eight (r ∷ seenFrom s (history O s) g u)) 0
+          (eight (r ∷ seenFrom s (history O s) g u))
       go (inl k) = ends (inl (ap (λ (c : List ℕ). getD (eight (r ∷ c)) 1 0) (e ∙ argument-code O s (u .means) (u .slot) v k)))
       go (inr k) = ends (inr (ap (λ (c : List ℕ). getD (eight (r ∷ c)) 1 0) (e ∙ local-code O s (u .means) (u .slot) v k)))
 
@@ -305,7 +312,9 @@ module _ {O : Outside} {s : Sheet} (ok : Fits O s) where
       ap (λ (k : ℕ). getD (rowsFor (answers O s (history O s)) k) i []) (L .holds)
       ∙ ap (λ (z : List Row). getD z i []) (literal-rows (L .literal) (L .walks) (L .kind-is))
       ∙ getD-drop-is i _ (eight (L .literal ∷ seenFrom s (history O s) (functionOf s (L .literal)) w)) [] _
-      (drop-map (λ vs. eight (L .literal ∷ vs)) i (map (seenFrom s (history O s) (functionOf s (L .literal))) (captures s (history O s) (child s (L .literal)))) (seenFrom s (history O s) (functionOf s (L .literal)) w) _
+      (drop-map (λ vs. eight (L .literal ∷ vs)) i
+      (map (seenFrom s (history O s) (functionOf s (L .literal))) (captures s (history O s) (child s (L .literal))))
+      (seenFrom s (history O s) (functionOf s (L .literal)) w) _
       (drop-map (seenFrom s (history O s) (functionOf s (L .literal))) i (captures s (history O s) (child s (L .literal))) w ws
       (subst (λ (k : ℕ). drop i (captures s (history O s) k) ≡ w ∷ ws) (L .function-is) p)))
       ∙ ap (λ (k : ℕ). eight (L .literal ∷ seenFrom s (history O s) k w)) f
@@ -346,7 +355,10 @@ module _ {O : Outside} {s : Sheet} (ok : Fits O s) where
       w = C .stand-in
 
       seen-is : seenFrom s (history O s) g u ≡ 6 ∷ place (same u) (captures s (history O s) g) ∷ 0 ∷ bit (isMutable s (u .means)) ∷ []
-      seen-is = if-true (isVariable (u .means) && not (eqb (ownerOf (u .means)) g)) _ (code s (history O s) (u .means) (u .slot)) (and-both (isVariable (u .means)) (not (eqb (ownerOf (u .means)) g)) v t)
+      seen-is =
+          if-true (isVariable (u .means) && not (eqb (ownerOf (u .means)) g)) _
+          (code s (history O s) (u .means) (u .slot))
+          (and-both (isVariable (u .means)) (not (eqb (ownerOf (u .means)) g)) v t)
 
       function-l : functionOf s l ≡ g′
       function-l = ap head (sym (L .around-is) ∙ sym e)
@@ -365,7 +377,9 @@ module _ {O : Outside} {s : Sheet} (ok : Fits O s) where
 
       path : Follows s (answers O s (history O s)) (outward s (answers O s (history O s)) (eight (r ∷ seenFrom s (history O s) g u))) (place (eqb (ownerOf (u .means))) (g′ ∷ rest)) (further .0)
       path =
-          subst (λ (z : Row). Follows s (answers O s (history O s)) z (place (eqb (ownerOf (u .means))) (g′ ∷ rest)) (further .0)) (sym (outward-is r g g′ u w (C .rest) L f function-l (C .stands) seen-is))
+          subst (λ (z : Row). Follows s (answers O s (history O s)) z (place (eqb (ownerOf (u .means))) (g′ ∷ rest))
+          (further .0))
+          (sym (outward-is r g g′ u w (C .rest) L f function-l (C .stands) seen-is))
           (subst (λ (k : ℕ). Follows s (answers O s (history O s)) (eight (l ∷ seenFrom s (history O s) g′ w)) (place (eqb k) (g′ ∷ rest)) (further .0)) (sym owner-is) (further .1))
 
       end : Tells O s (further .0) u

@@ -30,7 +30,8 @@ code-of O s (global g m) k h = absurd h
 code-of O s (toplevel r) k h = absurd h
 code-of O s (variable r f) k h = refl
 
-pub argument-code : (O : Outside) (s : Sheet) (d : Meaning) (k : ℕ) → T (isVariable d) → T (is s 11 (rowOf d)) → code s (history O s) d k ≡ 4 ∷ place (eqb (rowOf d)) (kidsOf s 11 (ownerOf d)) ∷ ownerOf d ∷ []
+pub argument-code : (O : Outside) (s : Sheet) (d : Meaning) (k : ℕ) → T (isVariable d) → T (is s 11 (rowOf d))
+    → code s (history O s) d k ≡ 4 ∷ place (eqb (rowOf d)) (kidsOf s 11 (ownerOf d)) ∷ ownerOf d ∷ []
 argument-code O s d k h t = code-of O s d k h ∙ if-true (is s 11 (rowOf d)) _ _ t
 
 pub local-code : (O : Outside) (s : Sheet) (d : Meaning) (k : ℕ) → T (isVariable d) → T (not (is s 11 (rowOf d))) → code s (history O s) d k ≡ 5 ∷ k ∷ ownerOf d ∷ bit (eqb (b s (rowOf d)) 1) ∷ []

@@ -182,7 +182,15 @@ module _ {O : Outside} {s : Sheet} (ok : Fits O s) {out : List Row} (claim : Dem
     shape = go (claim .opened m q d i .0)
       where
         go : T (is s 11 d) ⊎ T (is s 29 d) → Shape (declaredAs (based O 0) s out d)
-        go (inl t) = record { code = 4; at = place (eqb d) (kidsOf s 11 (functionOf s d)); fun = functionOf s d + 0; rest = 0 ∷ 0 ∷ 0 ∷ 0 ∷ []; is-shape = if-true (is s 11 d) _ _ t; is-code = inl refl }
+        go (inl t) =
+            record {
+              code = 4;
+              at = place (eqb d) (kidsOf s 11 (functionOf s d));
+              fun = functionOf s d + 0;
+              rest = 0 ∷ 0 ∷ 0 ∷ 0 ∷ [];
+              is-shape = if-true (is s 11 d) _ _ t;
+              is-code = inl refl;
+            }
         go (inr t) =
             let l = claim .locals m q d i t in
             record {

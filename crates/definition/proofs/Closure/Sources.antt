@@ -37,12 +37,18 @@ module _ {O : Outside} {s : Sheet} (ok : Fits O s) where
       x : Located O s u
       x = located ok u q v
 
-      go : (l : List ℕ) → functionsOf s r ≡ l → (y : Row) × Follows s (answers O s (history O s)) (eight (r ∷ seenFrom s (history O s) (functionOf s r) u)) (between s r (rowOf (u .means))) y × Tells O s y u
+      go : (l : List ℕ) → functionsOf s r ≡ l
+          → (y : Row)
+          × Follows s (answers O s (history O s)) (eight (r ∷ seenFrom s (history O s) (functionOf s r) u))
+          (between s r (rowOf (u .means))) y
+          × Tells O s y u
       go [] e = absurd (List·Memᴰ·not-nil (subst (λ (l : List ℕ). Mem (ownerOf (u .means)) l) e o))
       go (g ∷ rest) e =
           let f : functionOf s r ≡ g = ap head e in
           let t = follow ok rest g (around-rest ok r g rest w e) u q v (below g (subst (λ (l : List ℕ). Mem g l) (sym e) (here refl))) (subst (λ (l : List ℕ). Mem (ownerOf (u .means)) l) e o) r f in
-          let n : place (eqb (ownerOf (u .means))) (g ∷ rest) ≡ between s r (rowOf (u .means)) = ap (λ (l : List ℕ). place (eqb (ownerOf (u .means))) l) (sym e) ∙ ap (λ (k : ℕ). place (eqb k) (functionsOf s r)) (owner-function u x) in (
+          let n : place (eqb (ownerOf (u .means))) (g ∷ rest) ≡ between s r (rowOf (u .means)) =
+          ap (λ (l : List ℕ). place (eqb (ownerOf (u .means))) l) (sym e)
+          ∙ ap (λ (k : ℕ). place (eqb k) (functionsOf s r)) (owner-function u x) in (
             t .0,
             subst (λ (k : ℕ). Follows s (answers O s (history O s)) (eight (r ∷ seenFrom s (history O s) k u)) (between s r (rowOf (u .means))) (t .0)) (sym f)
                 (subst (λ (k : ℕ). Follows s (answers O s (history O s)) (eight (r ∷ seenFrom s (history O s) g u)) k (t .0)) n (t .1)),
@@ -146,5 +152,7 @@ module _ {O : Outside} {s : Sheet} (ok : Fits O s) where
       let u : Use = q .0 in
       let x : Located O s u = located ok u (q .1) (q .2) in
       let c =
-      use-captured s (history O s) f u (q .1) (around-outer ok f u x (q .2) (subst (λ (l : List ℕ). Mem f l) (sym (x .funs-is)) (q .4)) (Memᴰ·cast (owner-function u x ∙ ap (functionOf s) (q .3)) (q .5))) in
+      use-captured s (history O s) f u (q .1) (around-outer ok f u x (q .2)
+      (subst (λ (l : List ℕ). Mem f l) (sym (x .funs-is)) (q .4))
+      (Memᴰ·cast (owner-function u x ∙ ap (functionOf s) (q .3)) (q .5))) in
       (c .0, c .1, c .2 ∙ q .3)

@@ -9,7 +9,10 @@ use lib.ListN.{getD}
 use lib.Dec.{eqb, ltb, T, eqb→eq, ltb→lt}
 use Rattle.definition.specs.Basics.{every, all, count, from}
 use Rattle.definition.specs.Sheet.{Sheet, kind, next, child, rows, is}
-use Rattle.definition.specs.Format.{Tables, tables, links, headerFirst, mainMarked, linksRise, linkRises, linkedOnce, childrenFit, columnsFit, fileFits, constantFits, unitApart, classApart, unitMarked, unitBody, methodNamed, literalClass, declaredOnce, declaredInUnit, declaredAfter, rowClauses, sheetFits}
+use Rattle.definition.specs.Format.{Tables, tables, links, headerFirst, mainMarked, linksRise, linkRises}
+use Rattle.definition.specs.Format.{linkedOnce, childrenFit, columnsFit, fileFits, constantFits, unitApart}
+use Rattle.definition.specs.Format.{classApart, unitMarked, unitBody, methodNamed, literalClass, declaredOnce}
+use Rattle.definition.specs.Format.{declaredInUnit, declaredAfter, rowClauses, sheetFits}
 use Rattle.definition.proofs.Lists.Tests.{T-and, or-cases, T-true, pick}
 use Rattle.definition.proofs.Lists.Counts.{all-below}
 use Rattle.definition.proofs.Format.Links.{Rises, LinkFacts}

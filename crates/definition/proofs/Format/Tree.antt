@@ -371,7 +371,9 @@ module _ (n : ℕ) (s : Sheet) (ok : SheetFacts n s) where
   pub method-named : (f : ℕ) → f < rows s → T (is s 6 f) → T (is s 4 (holder s f)) → a s f ≢ 0
   method-named f l h c e =
       T-not (eqb (a s f) 0)
-      (T-imp (ofClass s (tables s) f) (not (eqb (a s f) 0)) (ok .row f l .named) (and-both (is s 6 f) (is s 4 (parent (tables s) f)) h (subst (λ (p : ℕ). T (is s 4 p)) (sym (parent-is s (link-facts n s ok) f l)) c)))
+      (T-imp (ofClass s (tables s) f) (not (eqb (a s f) 0)) (ok .row f l .named)
+      (and-both (is s 6 f) (is s 4 (parent (tables s) f)) h
+      (subst (λ (p : ℕ). T (is s 4 p)) (sym (parent-is s (link-facts n s ok) f l)) c)))
       (eqb-of (a s f) 0 e)
 
   -- a literal's class is of its own unit

@@ -1,7 +1,8 @@
 -- Lists and their members.
 use mathlib.Core.Path.{_≡_, refl, sym, ap, _∙_, subst}
 use mathlib.Core.Logic.{_⊎_, inl, inr}
-use mathlib.Core.List.{List, [], _∷_, _++_, map, List·Memᴰ as Mem, List·Memᴰ·head as here, List·Memᴰ·tail as there, List·Memᴰ·not-nil, List·Memᴰ·append-cases, Memᴰ·append-left, Memᴰ·append-right, Memᴰ·cast}
+use mathlib.Core.List.{List, [], _∷_, _++_, map, List·Memᴰ as Mem, List·Memᴰ·head as here, List·Memᴰ·tail as there}
+use mathlib.Core.List.{List·Memᴰ·not-nil, List·Memᴰ·append-cases, Memᴰ·append-left, Memᴰ·append-right, Memᴰ·cast}
 use mathlib.Core.Bool.{Bool, true, false, not, _&&_}
 use Prim.Native.Nat.{ℕ, zero, suc, _+_, _<_, _≤_}
 use native.Mathlib.Omega.{arith}
@@ -454,7 +455,10 @@ module _ {A B : Type 0} (w : A → Bool) (g : A → B) (q p₁ p₂ : B → Bool
   place-order [] f₁ f₂ b₁ l = l
   place-order (m ∷ ms) f₁ f₂ b₁ l =
       go (w m) (q (g m)) (p₁ (g m)) (p₂ (g m)) (P₁ m) (P₂ m) (place p₁ (picked ms)) (place p₂ (picked ms)) (place P₁ ms) (place P₂ ms) (f₁ m (here refl)) (f₂ m (here refl)) (b₁ m (here refl))
-      (subst (λ (n : ℕ). n < (if w m then (if q (g m) then (if p₂ (g m) then 0 else suc (place p₂ (picked ms))) else place p₂ (picked ms)) else place p₂ (picked ms))) (step-picked p₁ m ms) (subst (λ (n : ℕ). place p₁ (picked (m ∷ ms)) < n) (step-picked p₂ m ms) l))
+      (subst (λ (n : ℕ). n
+      < (if w m then (if q (g m) then (if p₂ (g m) then 0 else suc (place p₂ (picked ms))) else place p₂ (picked ms))
+      else place p₂ (picked ms)))
+      (step-picked p₁ m ms) (subst (λ (n : ℕ). place p₁ (picked (m ∷ ms)) < n) (step-picked p₂ m ms) l))
       (place-order ms (λ k i. f₁ k (there i)) (λ k i. f₂ k (there i)) (λ k i. b₁ k (there i)))
     where
       go : (tw tq t₁ t₂ s₁ s₂ : Bool) (a₁ a₂ c₁ c₂ : ℕ) → (T s₁ → T (tw && tq && t₁)) → (T s₂ → T (tw && tq && t₂)) → (T (tw && tq && t₁) → T s₁)

@@ -83,10 +83,14 @@ module _ {O : Outside} {s : Sheet} (ok : Fits O s) where
 
   -- the row whose child a part is
   held : {x : ℕ} (p : PartOf s x) → T (not (is s 30 (p .whole))) → Mem x (kids s (p .whole))
-  held {x} p n = subst (λ (q : ℕ). Mem x (kids s q)) (if-false (is s 30 (p .whole)) (a s (p .whole)) (p .whole) n) (filter-mem (isPart s) x (kids s (if is s 30 (p .whole) then a s (p .whole) else p .whole)) (p .part) .0)
+  held {x} p n =
+      subst (λ (q : ℕ). Mem x (kids s q)) (if-false (is s 30 (p .whole)) (a s (p .whole)) (p .whole) n)
+      (filter-mem (isPart s) x (kids s (if is s 30 (p .whole) then a s (p .whole) else p .whole)) (p .part) .0)
 
   held-class : {x : ℕ} (p : PartOf s x) → T (is s 30 (p .whole)) → Mem x (kids s (a s (p .whole)))
-  held-class {x} p n = subst (λ (q : ℕ). Mem x (kids s q)) (if-true (is s 30 (p .whole)) (a s (p .whole)) (p .whole) n) (filter-mem (isPart s) x (kids s (if is s 30 (p .whole) then a s (p .whole) else p .whole)) (p .part) .0)
+  held-class {x} p n =
+      subst (λ (q : ℕ). Mem x (kids s q)) (if-true (is s 30 (p .whole)) (a s (p .whole)) (p .whole) n)
+      (filter-mem (isPart s) x (kids s (if is s 30 (p .whole) then a s (p .whole) else p .whole)) (p .part) .0)
 
   around-other : {x : ℕ} (j : ℕ) (p : PartOf s x) → T (not (eqb j 6)) → T (is s j (p .whole)) → functionsOf s x ≡ functionsOf s (p .whole)
   around-other j p n h = p .around ∙ if-false (is s 6 (p .whole)) _ _ (not-T (is s 6 (p .whole)) (kind-apart (kind s (p .whole)) j 6 n h))

@@ -59,7 +59,9 @@ enter-own s r =
     let e : count isEnter (before s r) ≤ 1 =
     enter-before r (is s 2 r) (is s 6 r) (is s 25 r) (is s 27 r) (is s 30 r)
     (concatMap (imports s r) (kidsOf s 3 r) ++ map declare (kidsOf s 4 r)) (map declare (kidsOf s 11 r)) (map declare (filter (literalLet s) (kids s r)))
-    (count-none isEnter (concatMap (imports s r) (kidsOf s 3 r)) (map declare (kidsOf s 4 r)) (count-brings isEnter (λ i n d. tt) (brings-imports s r (kidsOf s 3 r))) (count-map isEnter declare (kidsOf s 4 r) (λ k. tt)))
+    (count-none isEnter (concatMap (imports s r) (kidsOf s 3 r)) (map declare (kidsOf s 4 r))
+    (count-brings isEnter (λ i n d. tt) (brings-imports s r (kidsOf s 3 r)))
+    (count-map isEnter declare (kidsOf s 4 r) (λ k. tt)))
     (count-map isEnter declare (kidsOf s 11 r) (λ k. tt)) (count-map isEnter declare (filter (literalLet s) (kids s r)) (λ k. tt)) in
     omega (
       arith,

@@ -168,7 +168,9 @@ module _ (s : Sheet) (p : Event → Bool) (q : OnlyVisits p) where
       let e : count p (before s r) ≤ (if is s 30 r then bit (p (visit r)) else 0) =
       visit-before r (is s 2 r) (is s 6 r) (is s 25 r) (is s 27 r) (is s 30 r)
       (concatMap (imports s r) (kidsOf s 3 r) ++ map declare (kidsOf s 4 r)) (map declare (kidsOf s 11 r)) (map declare (filter (literalLet s) (kids s r)))
-      (count-none p (concatMap (imports s r) (kidsOf s 3 r)) (map declare (kidsOf s 4 r)) (count-brings p (q .brings) (brings-imports s r (kidsOf s 3 r))) (count-map p declare (kidsOf s 4 r) (q .declares)))
+      (count-none p (concatMap (imports s r) (kidsOf s 3 r)) (map declare (kidsOf s 4 r))
+      (count-brings p (q .brings) (brings-imports s r (kidsOf s 3 r)))
+      (count-map p declare (kidsOf s 4 r) (q .declares)))
       (count-map p declare (kidsOf s 11 r) (q .declares)) (count-map p declare (filter (literalLet s) (kids s r)) (q .declares)) in
       omega (
         arith,
@@ -289,7 +291,9 @@ module _ (s : Sheet) (x : ℕ) (z : x ≡ 0 → ⊥) where
         count-append isDeclareOf (before s r ++ each (λ k. []) s r 0 (parts s r)) (after s r),
         count-append isDeclareOf (before s r) (each (λ k. []) s r 0 (parts s r)),
         declare-parts r 0 (parts s r),
-        declare-after r (bit (eqb r home)) (is s 2 r || is s 6 r || is s 25 r || is s 27 r) (is s 29 r) (is s 52 (child s r)) (is s 21 r || is s 23 r || is s 24 r || is s 50 r || is s 51 r || is s 52 r || is s 55 r) (at-home r),
+        declare-after r (bit (eqb r home)) (is s 2 r || is s 6 r || is s 25 r || is s 27 r) (is s 29 r)
+            (is s 52 (child s r)) (is s 21 r || is s 23 r || is s 24 r || is s 50 r || is s 51 r || is s 52 r || is s 55 r)
+            (at-home r),
         let-apart (kind s r) (bit (eqb r home)),
       )
 

@@ -13,7 +13,9 @@ use Rattle.definition.specs.Walk.{Event, enter, leave, loop, declare, br
 use Rattle.definition.specs.Scope.{Stack, Moment, around, step, run, moments, history, start}
 use Rattle.definition.specs.Bounds.{walked}
 use Rattle.definition.proofs.Walk.Moments.{moments-append, around-names}
-use Rattle.definition.proofs.Walk.Balance.{Flat, none, a-loop, a-name, an-import, a-visit, flat-append, flat-declares, flat-imports, flat-if, around-grown, Keeps, keeps-append, keeps-flat, keeps-each, keeps-trace}
+use Rattle.definition.proofs.Walk.Balance.{Flat, none, a-loop, a-name, an-import, a-visit, flat-append}
+use Rattle.definition.proofs.Walk.Balance.{flat-declares, flat-imports, flat-if, around-grown, Keeps}
+use Rattle.definition.proofs.Walk.Balance.{keeps-append, keeps-flat, keeps-each, keeps-trace}
 use Rattle.definition.proofs.Lists.Tests.{and-left, if-true, if-false, kind-apart}
 use Rattle.definition.proofs.Lists.Members.{mem-concatMap, Every, every-none, every-one, every-append, every-mem, filter-mem}
 use Rattle.definition.proofs.Walk.Fits.{Fits}
@@ -158,7 +160,9 @@ module _ {O : Outside} {s : Sheet} (ok : Fits O s) where
       (λ t. if-false (is s 6 r) (r ∷ functionsOf s r) (functionsOf s r) t)
       (λ t. every-append (every-brings s (inner s r) (brings-imports s r (kidsOf s 3 r)))
       (every-declares (kidsOf s 4 r) (λ k m. let q = filter-mem (is s 4) k (kids s r) m in t-declare (kid-around k w l (q .0)) (kids-row ok r k (w .in-range) (q .0)) (a-class (q .1)))))
-      (λ t. every-declares (kidsOf s 11 r) (λ k m. let q = filter-mem (is s 11) k (kids s r) m in t-declare (kid-around k w l (q .0)) (kids-row ok r k (w .in-range) (q .0)) (parameter k t (q .1) (q .0))))
+      (λ t. every-declares (kidsOf s 11 r)
+      (λ k m. let q = filter-mem (is s 11) k (kids s r) m in
+      t-declare (kid-around k w l (q .0)) (kids-row ok r k (w .in-range) (q .0)) (parameter k t (q .1) (q .0))))
       (λ t. every-declares (filter (literalLet s) (kids s r)) (λ k m. let q = filter-mem (literalLet s) k (kids s r) m in
       t-declare (kid-around k w l (q .0)) (kids-row ok r k (w .in-range) (q .0)) (a-let (and-left (is s 29 k) (is s 52 (child s k)) (q .1)) (some-inner r (some-around r (up r (here refl)) 25 tt t)))))
       (t-visit refl (up r (here refl))) (λ t. t-declare refl (w .in-range) (a-let t (some-around r (up r (here refl)) 29 tt t)))

@@ -21,10 +21,17 @@ row-apart-requires : tie.Need-row-apart-requires Inv-loop μ-loop
 row-apart-requires c κs = ((c .before .before .before .before .before .pre .0), omega arith, omega arith)
 
 same-length : tie.Need-same-length Inv-loop μ-loop
-same-length c = c .before .before .before .row-apart .kept .1 .1 .0 ∙ c .before .before .before .before .before .before .loop .inv .1
+same-length c =
+    let loop = c .before .before .before .before .before .before .loop in
+    c .before .before .before .row-apart .kept .1 .1 .0 ∙ loop .inv .1
 
 returns : tie.Need-returns Inv-loop μ-loop
-returns c = all-refused _ _ _ _ (c .before .before .before .before .before .loop-test .taken) (c .before .before .before .row-apart .ensures .0) (not-true (c .before .before .before .row-apart .result) (c .if1 .taken)) (c .before .before .before .before .before .before .loop .inv .2)
+returns c =
+    let loop = c .before .before .before .before .before .before .loop in
+    let loop-test = c .before .before .before .before .before .loop-test in
+    let row-apart = c .before .before .before .row-apart in
+    all-refused _ _ _ _ (loop-test .taken) (row-apart .ensures .0) (not-true (row-apart .result) (c .if1 .taken))
+    (loop .inv .2)
 
 add-r : tie.Need-add-r Inv-loop μ-loop
 add-r c = omega arith
@@ -33,7 +40,15 @@ loop-less : tie.Need-loop-less Inv-loop μ-loop
 loop-less c = omega arith
 
 loop-again : tie.Need-loop-again Inv-loop μ-loop
-loop-again c = (omega arith, c .before .before .before .row-apart .kept .1 .1 .0 ∙ c .before .before .before .before .before .before .loop .inv .1, all-next _ _ _ _ (c .before .before .before .before .before .loop-test .taken) (c .before .before .before .row-apart .ensures .0) (not-false (c .before .before .before .row-apart .result) (c .if1 .left)) (c .before .before .before .row-apart .ensures .1) (c .before .before .before .before .before .before .loop .inv .2))
+loop-again c =
+    let loop = c .before .before .before .before .before .before .loop in
+    let loop-test = c .before .before .before .before .before .loop-test in
+    let row-apart = c .before .before .before .row-apart in (
+      omega arith,
+      row-apart .kept .1 .1 .0 ∙ loop .inv .1,
+      all-next _ _ _ _ (loop-test .taken) (row-apart .ensures .0) (not-false (row-apart .result) (c .if1 .left))
+          (row-apart .ensures .1) (loop .inv .2),
+    )
 
 same-length-2 : tie.Need-same-length-2 Inv-loop μ-loop
 same-length-2 c = c .before .loop .inv .1

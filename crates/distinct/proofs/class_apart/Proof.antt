@@ -20,7 +20,9 @@ same-length c = search needs
 
 returns : tie.Need-returns
 unfolding classUnmarked
-returns c = (rw (← c .before .before .before .names-apart .ensures .0, not-true (c .before .before .before .names-apart .result) (c .if1 .taken)), λ e. absurd (subst T (sym e) tt))
+returns c =
+    let names-apart = c .before .before .before .names-apart in
+    (rw (← names-apart .ensures .0, not-true (names-apart .result) (c .if1 .taken)), λ e. absurd (subst T (sym e) tt))
 
 mul-names-apart-2 : tie.Need-mul-names-apart-2
 mul-names-apart-2 c = search needs
@@ -36,7 +38,18 @@ same-length-2 c = search needs
 
 returns-2 : tie.Need-returns-2
 unfolding classUnmarked classMarked
-returns-2 c = (rw (← c .before .before .before .before .before .before .before .names-apart .ensures .0, not-false (c .before .before .before .before .before .before .before .names-apart .result) (c .before .before .before .before .if1 .left), ← c .before .before .before .before .before .before .before .names-apart .ensures .1 (not-false (c .before .before .before .before .before .before .before .names-apart .result) (c .before .before .before .before .if1 .left)), c .before .before .names-apart2 .ensures .0), λ e. rw (← c .before .before .before .before .before .before .before .names-apart .ensures .1 (not-false (c .before .before .before .before .before .before .before .names-apart .result) (c .before .before .before .before .if1 .left))) (c .before .before .names-apart2 .ensures .1 e))
+returns-2 c =
+    let names-apart = c .before .before .before .before .before .before .before .names-apart in
+    let if1 = c .before .before .before .before .if1 in
+    let names-apart2 = c .before .before .names-apart2 in (
+      rw (
+        ← names-apart .ensures .0,
+        not-false (names-apart .result) (if1 .left),
+        ← names-apart .ensures .1 (not-false (names-apart .result) (if1 .left)),
+        names-apart2 .ensures .0,
+      ),
+      λ e. rw (← names-apart .ensures .1 (not-false (names-apart .result) (if1 .left))) (names-apart2 .ensures .1 e),
+    )
 
 pub class-apart-spec : {M : Type 1} → statement M
 class-apart-spec =

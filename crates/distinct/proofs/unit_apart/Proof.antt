@@ -20,7 +20,9 @@ same-length c = search needs
 
 returns : tie.Need-returns
 unfolding unitUnmarked
-returns c = (rw (← c .before .before .before .names-apart .ensures .0, not-true (c .before .before .before .names-apart .result) (c .if1 .taken)), λ e. absurd (subst T (sym e) tt))
+returns c =
+    let names-apart = c .before .before .before .names-apart in
+    (rw (← names-apart .ensures .0, not-true (names-apart .result) (c .if1 .taken)), λ e. absurd (subst T (sym e) tt))
 
 mul-names-apart-2 : tie.Need-mul-names-apart-2
 mul-names-apart-2 c = search needs
@@ -36,7 +38,19 @@ same-length-2 c = search needs
 
 returns-2 : tie.Need-returns-2
 unfolding unitUnmarked
-returns-2 c = (rw (← c .before .before .before .before .before .before .before .before .names-apart .ensures .0, not-false (c .before .before .before .before .before .before .before .before .names-apart .result) (c .before .before .before .before .before .if1 .left), ← c .before .before .before .before .before .before .before .before .names-apart .ensures .1 (not-false (c .before .before .before .before .before .before .before .before .names-apart .result) (c .before .before .before .before .before .if1 .left)), ← c .before .before .before .names-apart2 .ensures .0, not-true (c .before .before .before .names-apart2 .result) (c .if2 .taken)), λ e. absurd (subst T (sym e) tt))
+returns-2 c =
+    let names-apart = c .before .before .before .before .before .before .before .before .names-apart in
+    let if1 = c .before .before .before .before .before .if1 in
+    let names-apart2 = c .before .before .before .names-apart2 in (
+      rw (
+        ← names-apart .ensures .0,
+        not-false (names-apart .result) (if1 .left),
+        ← names-apart .ensures .1 (not-false (names-apart .result) (if1 .left)),
+        ← names-apart2 .ensures .0,
+        not-true (names-apart2 .result) (c .if2 .taken),
+      ),
+      λ e. absurd (subst T (sym e) tt),
+    )
 
 mul-names-apart-3 : tie.Need-mul-names-apart-3
 mul-names-apart-3 c = search needs
@@ -52,7 +66,28 @@ same-length-3 c = search needs
 
 returns-3 : tie.Need-returns-3
 unfolding unitUnmarked unitMarked
-returns-3 c = (rw (← c .before .before .before .before .before .before .before .before .before .before .before .before .names-apart .ensures .0, not-false (c .before .before .before .before .before .before .before .before .before .before .before .before .names-apart .result) (c .before .before .before .before .before .before .before .before .before .if1 .left), ← c .before .before .before .before .before .before .before .before .before .before .before .before .names-apart .ensures .1 (not-false (c .before .before .before .before .before .before .before .before .before .before .before .before .names-apart .result) (c .before .before .before .before .before .before .before .before .before .if1 .left)), ← c .before .before .before .before .before .before .before .names-apart2 .ensures .0, not-false (c .before .before .before .before .before .before .before .names-apart2 .result) (c .before .before .before .before .if2 .left), ← c .before .before .before .before .before .before .before .names-apart2 .ensures .1 (not-false (c .before .before .before .before .before .before .before .names-apart2 .result) (c .before .before .before .before .if2 .left)), c .before .before .names-apart3 .ensures .0), λ e. rw (← c .before .before .before .before .before .before .before .before .before .before .before .before .names-apart .ensures .1 (not-false (c .before .before .before .before .before .before .before .before .before .before .before .before .names-apart .result) (c .before .before .before .before .before .before .before .before .before .if1 .left)), ← c .before .before .before .before .before .before .before .names-apart2 .ensures .1 (not-false (c .before .before .before .before .before .before .before .names-apart2 .result) (c .before .before .before .before .if2 .left))) (c .before .before .names-apart3 .ensures .1 e))
+returns-3 c =
+    let names-apart =
+    c .before .before .before .before .before .before .before .before .before .before .before .before
+    .names-apart in
+    let if1 = c .before .before .before .before .before .before .before .before .before .if1 in
+    let names-apart2 = c .before .before .before .before .before .before .before .names-apart2 in
+    let if2 = c .before .before .before .before .if2 in
+    let names-apart3 = c .before .before .names-apart3 in (
+      rw (
+        ← names-apart .ensures .0,
+        not-false (names-apart .result) (if1 .left),
+        ← names-apart .ensures .1 (not-false (names-apart .result) (if1 .left)),
+        ← names-apart2 .ensures .0,
+        not-false (names-apart2 .result) (if2 .left),
+        ← names-apart2 .ensures .1 (not-false (names-apart2 .result) (if2 .left)),
+        names-apart3 .ensures .0,
+      ),
+      λ e. rw (
+        ← names-apart .ensures .1 (not-false (names-apart .result) (if1 .left)),
+        ← names-apart2 .ensures .1 (not-false (names-apart2 .result) (if2 .left)),
+      ) (names-apart3 .ensures .1 e),
+    )
 
 pub unit-apart-spec : {M : Type 1} → statement M
 unit-apart-spec =

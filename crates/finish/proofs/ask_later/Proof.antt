@@ -9,8 +9,8 @@ slice-aggregate-later-refusal c = search needs
 
 later-refusal-requires : tie.Need-later-refusal-requires
 later-refusal-requires c κs =
-    let ok = c .before .before .before .before .before .pre in
-    unmarked ok 2048 (rows-most _ ok)
+    let start = c .before .before .before .before .before in
+    unmarked (start .pre) 2048 (rows-most _ (start .pre))
 
 returns : tie.Need-returns
 returns c = search needs

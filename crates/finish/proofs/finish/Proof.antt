@@ -21,23 +21,26 @@ same-length c = search needs
 
 returns : tie.Need-returns
 returns c =
-    let start = c .before .before .before .before .before .before .before .before .before .before .before .before .before .before in
-    let a = start .args in
-    let x = stateOf (a .walk) [] (a .results .now) (a .nodes .now) in
-    let asked = c .before .before .before .before .before .before .ask-later .ensures (a .walk .store) refl in
+    let at-ask-later = c .before .before .before .before .before .before in
+    let start = at-ask-later .before .before .before .before .before .before .before .before in
+    let ask-later = at-ask-later .ask-later in
+    let if1 = c .before .before .before .before .if1 in
+    let x = stateOf (start .args .walk) [] (start .args .results .now) (start .args .nodes .now) in
+    let asked = ask-later .ensures (start .args .walk .store) refl in
     let no = c .before .before .refuse-at .ensures in
-    later-no (over-base (a .outside .now)) {x = x} (start .pre .0) (start .pre .1 []) (start .pre .2) _ asked _ _ _ (c .before .before .before .before .if1 .taken) (no .0) (no .1)
+    later-no (over-base (start .args .outside .now)) {x = x} (start .pre .0) (start .pre .1 []) (start .pre .2) _ asked
+    _ _ _ (if1 .taken) (no .0) (no .1)
 
 write-answer-requires : tie.Need-write-answer-requires
 write-answer-requires c κs =
     let start = c .before .before .before .before .before .before .before .before .before .before .before in
-    let a = start .args in
-    let x = stateOf (a .walk) [] (a .results .now) (a .nodes .now) in
+    let x = stateOf (start .args .walk) [] (start .args .results .now) (start .args .nodes .now) in
     let walked = start .pre .1 [] in
-    let asked = c .before .before .before .ask-later .ensures (a .walk .store) refl in (
+    let asked = c .before .before .before .ask-later .ensures (start .args .walk .store) refl in (
       start .pre .0,
       walk-store {x = x} walked (start .pre .2),
-      later-none (over-base (a .outside .now)) {x = x} (start .pre .0) walked (start .pre .2) _ asked (c .before .if1 .left),
+      later-none (over-base (start .args .outside .now)) {x = x} (start .pre .0) walked (start .pre .2) _ asked
+          (c .before .if1 .left),
     )
 
 same-length-2 : tie.Need-same-length-2

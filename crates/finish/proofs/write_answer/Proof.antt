@@ -17,10 +17,12 @@ same-length c = search needs
 
 returns : tie.Need-returns
 returns c =
-    let start = c .before .before .before .before .before .before .before .before .before .before .before .before .before in
-    let a = start .args in
-    let rows = c .before .before .before .before .before .before .emit-rows .ensures in
-    answer-settled (over-base (a .outside .now)) (start .pre .2) (a .out .now) _ _ rows _ _ (c .before .before .accept .ensures)
+    let at-emit-rows = c .before .before .before .before .before .before in
+    let start = at-emit-rows .before .before .before .before .before .before .before in
+    let emit-rows = at-emit-rows .emit-rows in
+    let rows = emit-rows .ensures in
+    answer-settled (over-base (start .args .outside .now)) (start .pre .2) (start .args .out .now) _ _ rows _ _
+    (c .before .before .accept .ensures)
 
 pub write-answer-spec : {M : Type 1} → statement M
 write-answer-spec = tie.close (tie.spec emit-rows-requires accept-requires same-length returns)

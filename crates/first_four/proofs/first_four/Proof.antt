@@ -17,26 +17,66 @@ names-fit-requires : tie.Need-names-fit-requires
 names-fit-requires c κs = search needs
 
 returns-2 : tie.Need-returns-2
-returns-2 c = rw (← c .before .before .before .sheet-sized .ensures, not-false (c .before .before .before .sheet-sized .result) (c .before .before .if1 .left), ← c .before .names-fit .ensures, not-true (c .before .names-fit .result) (c .if2 .taken))
+returns-2 c =
+    let sheet-sized = c .before .before .before .sheet-sized in
+    rw (
+      ← sheet-sized .ensures,
+      not-false (sheet-sized .result) (c .before .before .if1 .left),
+      ← c .before .names-fit .ensures,
+      not-true (c .before .names-fit .result) (c .if2 .taken),
+    )
 
 count-names-requires : tie.Need-count-names-requires
 count-names-requires c κs = search needs
 
 add-last : tie.Need-add-last
-add-last c = omega (arith, c .count-names .ensures, fit-small (c .before .before .before .before .before .before .before .args .names .now) (sym (c .before .before .names-fit .ensures) ∙ not-false (c .before .before .names-fit .result) (c .before .if2 .left)) .0)
+add-last c =
+    let start = c .before .before .before .before .before .before .before in
+    let names-fit = c .before .before .names-fit in
+    omega (
+      arith,
+      c .count-names .ensures,
+      fit-small (start .args .names .now)
+          (sym (names-fit .ensures) ∙ not-false (names-fit .result) (c .before .if2 .left)) .0,
+    )
 
 cast-format-question : tie.Need-cast-format-question
-cast-format-question c = omega (arith, c .count-names .ensures, fit-small (c .before .before .before .before .before .before .before .args .names .now) (sym (c .before .before .names-fit .ensures) ∙ not-false (c .before .before .names-fit .result) (c .before .if2 .left)) .0)
+cast-format-question c =
+    let start = c .before .before .before .before .before .before .before in
+    let names-fit = c .before .before .names-fit in
+    omega (
+      arith,
+      c .count-names .ensures,
+      fit-small (start .args .names .now)
+          (sym (names-fit .ensures) ∙ not-false (names-fit .result) (c .before .if2 .left)) .0,
+    )
 
 format-question-requires : tie.Need-format-question-requires
 format-question-requires c κs =
-    let start = c .before .before .before .before .before .before .before .args in
-    let z = sized (start .words .now) (sym (c .before .before .before .before .sheet-sized .ensures) ∙ not-false (c .before .before .before .before .sheet-sized .result) (c .before .before .before .if1 .left)) in
-    let few = fit-small (start .names .now) (sym (c .before .before .names-fit .ensures) ∙ not-false (c .before .before .names-fit .result) (c .before .if2 .left)) .0 in
+    let start = c .before .before .before .before .before .before .before in
+    let sheet-sized = c .before .before .before .before .sheet-sized in
+    let names-fit = c .before .before .names-fit in
+    let z =
+    sized (start .args .words .now)
+    (sym (sheet-sized .ensures) ∙ not-false (sheet-sized .result) (c .before .before .before .if1 .left)) in
+    let few =
+    fit-small (start .args .names .now)
+    (sym (names-fit .ensures) ∙ not-false (names-fit .result) (c .before .if2 .left)) .0 in
     (z .0, z .1, z .2, omega (arith, c .count-names .ensures, few))
 
 returns-3 : tie.Need-returns-3
-returns-3 c = rw (← c .before .before .before .before .before .sheet-sized .ensures, not-false (c .before .before .before .before .before .sheet-sized .result) (c .before .before .before .before .if1 .left), ← c .before .before .before .names-fit .ensures, not-false (c .before .before .before .names-fit .result) (c .before .before .if2 .left), c .format-question .ensures, c .before .count-names .ensures)
+returns-3 c =
+    let sheet-sized = c .before .before .before .before .before .sheet-sized in
+    let if1 = c .before .before .before .before .if1 in
+    let names-fit = c .before .before .before .names-fit in
+    rw (
+      ← sheet-sized .ensures,
+      not-false (sheet-sized .result) (if1 .left),
+      ← names-fit .ensures,
+      not-false (names-fit .result) (c .before .before .if2 .left),
+      c .format-question .ensures,
+      c .before .count-names .ensures,
+    )
 
 pub first-four-spec : {M : Type 1} → statement M
 first-four-spec =

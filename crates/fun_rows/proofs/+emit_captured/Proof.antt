@@ -35,35 +35,71 @@ emit-captured-below t =
     emit-captured.Pre
 
 abbrev emit-captured-claims : ℕ → emit-captured-lts.Claims
-emit-captured-claims t =
-    (node-before-reads.Asked, node-before-reads.Learnt, emit-captured-below t, emit-captured.Post, captured-at-reads.Asked, captured-at-reads.Learnt, code-of-reads.Asked, code-of-reads.Learnt, emit-decl-reads.Asked, emit-decl-reads.Learnt)
+emit-captured-claims t = (
+  node-before-reads.Asked,
+  node-before-reads.Learnt,
+  emit-captured-below t,
+  emit-captured.Post,
+  captured-at-reads.Asked,
+  captured-at-reads.Learnt,
+  code-of-reads.Asked,
+  code-of-reads.Learnt,
+  emit-decl-reads.Asked,
+  emit-decl-reads.Learnt,
+)
 
 emit-captured-returns : (t : ℕ) → emit-captured-lts.Need-returns (emit-captured-claims t) (emit-captured-at t) emit-captured.Post
-emit-captured-returns t c = nodes-none (λ y. eight (c .before .before .before .before .args .row ∷ codeOf (c .before .before .before .before .args .sheet .now) (meaningOfNode y) (y .two) 0)) (c .before .before .before .before .args .nodes .now) (c .before .before .before .before .args .p) (sink (c .before .before .before .before .args .k) (c .before .before .before .before .args .out .now)) (c .if1 .taken)
+emit-captured-returns t c =
+    let start = c .before .before .before .before in
+    nodes-none (λ y. eight (start .args .row ∷ codeOf (start .args .sheet .now) (meaningOfNode y) (y .two) 0))
+    (start .args .nodes .now) (start .args .p) (sink (start .args .k) (start .args .out .now)) (c .if1 .taken)
 
 emit-captured-sub-i : (t : ℕ) → emit-captured-lts.Need-sub-i (emit-captured-claims t) (emit-captured-at t) emit-captured.Post
 emit-captured-sub-i t c = omega (arith, c .if1 .left)
 
-emit-captured-node-before-requires : (t : ℕ) → emit-captured-lts.Need-node-before-requires (emit-captured-claims t) (emit-captured-at t) emit-captured.Post
+emit-captured-node-before-requires : (t : ℕ)
+    → emit-captured-lts.Need-node-before-requires (emit-captured-claims t) (emit-captured-at t) emit-captured.Post
 emit-captured-node-before-requires t c κs = tt
 
-emit-captured-emit-captured-requires : (t : ℕ) → emit-captured-lts.Need-emit-captured-requires (emit-captured-claims t) (emit-captured-at t) emit-captured.Post
-emit-captured-emit-captured-requires t c κs = (omega (arith, c .before .node-before .ensures, c .before .before .before .before .before .before .pre .0, c .before .before .if1 .left), c .before .before .before .before .before .before .pre .1)
+emit-captured-emit-captured-requires : (t : ℕ)
+    → emit-captured-lts.Need-emit-captured-requires (emit-captured-claims t) (emit-captured-at t) emit-captured.Post
+emit-captured-emit-captured-requires t c κs =
+    let start = c .before .before .before .before .before .before in
+    (omega (arith, c .before .node-before .ensures, start .pre .0, c .before .before .if1 .left), start .pre .1)
 
-emit-captured-captured-at-requires : (t : ℕ) → emit-captured-lts.Need-captured-at-requires (emit-captured-claims t) (emit-captured-at t) emit-captured.Post
+emit-captured-captured-at-requires : (t : ℕ)
+    → emit-captured-lts.Need-captured-at-requires (emit-captured-claims t) (emit-captured-at t) emit-captured.Post
 emit-captured-captured-at-requires t c κs = tt
 
-emit-captured-code-of-requires : (t : ℕ) → emit-captured-lts.Need-code-of-requires (emit-captured-claims t) (emit-captured-at t) emit-captured.Post
-emit-captured-code-of-requires t c κs = (c .before .before .before .before .before .before .before .before .before .before .pre .1, captured-declared (c .before .before .before .before .before .before .before .before .before .before .args .nodes .now) _ _ (c .captured-at .ensures))
+emit-captured-code-of-requires : (t : ℕ)
+    → emit-captured-lts.Need-code-of-requires (emit-captured-claims t) (emit-captured-at t) emit-captured.Post
+emit-captured-code-of-requires t c κs =
+    let start = c .before .before .before .before .before .before .before .before .before .before in
+    (start .pre .1, captured-declared (start .args .nodes .now) _ _ (c .captured-at .ensures))
 
-emit-captured-emit-decl-requires : (t : ℕ) → emit-captured-lts.Need-emit-decl-requires (emit-captured-claims t) (emit-captured-at t) emit-captured.Post
+emit-captured-emit-decl-requires : (t : ℕ)
+    → emit-captured-lts.Need-emit-decl-requires (emit-captured-claims t) (emit-captured-at t) emit-captured.Post
 emit-captured-emit-decl-requires t c κs = tt
 
-emit-captured-same-length : (t : ℕ) → emit-captured-lts.Need-same-length (emit-captured-claims t) (emit-captured-at t) emit-captured.Post
+emit-captured-same-length : (t : ℕ)
+    → emit-captured-lts.Need-same-length (emit-captured-claims t) (emit-captured-at t) emit-captured.Post
 emit-captured-same-length t c = search needs
 
-emit-captured-returns-2 : (t : ℕ) → emit-captured-lts.Need-returns-2 (emit-captured-claims t) (emit-captured-at t) emit-captured.Post
-emit-captured-returns-2 t c = nodes-last (λ y. eight (c .before .before .before .before .before .before .before .before .before .before .before .before .before .before .before .args .row ∷ codeOf (c .before .before .before .before .before .before .before .before .before .before .before .before .before .before .before .args .sheet .now) (meaningOfNode y) (y .two) 0)) (c .before .before .before .before .before .before .before .before .before .before .before .before .before .before .before .args .nodes .now) (c .before .before .before .before .before .before .before .before .before .before .before .before .before .before .before .args .p) _ _ (sink (c .before .before .before .before .before .before .before .before .before .before .before .before .before .before .before .args .k) (c .before .before .before .before .before .before .before .before .before .before .before .before .before .before .before .args .out .now)) (c .before .before .before .before .before .before .before .before .before .before .before .if1 .left) (c .before .before .before .before .before .before .before .before .before .before .node-before .ensures) (c .before .before .before .before .before .before .before .before .emit-captured .ensures) (captured-row (c .before .before .before .before .before .before .before .before .before .before .before .before .before .before .before .args .sheet .now) (c .before .before .before .before .before .before .before .before .before .before .before .before .before .before .before .args .row) (c .before .before .before .before .before .before .before .before .before .before .before .before .before .before .before .args .nodes .now) _ _ _ (c .before .before .before .before .before .captured-at .ensures) (c .before .before .before .before .code-of .ensures)) (c .before .before .emit-decl .ensures)
+emit-captured-returns-2 : (t : ℕ)
+    → emit-captured-lts.Need-returns-2 (emit-captured-claims t) (emit-captured-at t) emit-captured.Post
+emit-captured-returns-2 t c =
+    let at-if1 = c .before .before .before .before .before .before .before .before .before .before .before in
+    let start = at-if1 .before .before .before .before in
+    let if1 = at-if1 .if1 in
+    let node-before = c .before .before .before .before .before .before .before .before .before .before .node-before in
+    let at-emit-captured = c .before .before .before .before .before .before .before .before .emit-captured in
+    let captured-at = c .before .before .before .before .before .captured-at in
+    let code-of = c .before .before .before .before .code-of in
+    nodes-last (λ y. eight (start .args .row ∷ codeOf (start .args .sheet .now) (meaningOfNode y) (y .two) 0))
+    (start .args .nodes .now) (start .args .p) _ _ (sink (start .args .k) (start .args .out .now)) (if1 .left)
+    (node-before .ensures) (at-emit-captured .ensures) (captured-row (start .args .sheet .now) (start .args .row)
+    (start .args .nodes .now) _ _ _ (captured-at .ensures) (code-of .ensures))
+    (c .before .before .emit-decl .ensures)
 
 pub +emit-captured-spec : {M : Type 1} → statement M
 +emit-captured-spec = close μ-emit-captured λ t. emit-captured-lts.spec (emit-captured-claims t)

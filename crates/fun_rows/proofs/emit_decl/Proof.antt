@@ -18,9 +18,11 @@ same-length c = search needs
 
 returns : tie.Need-returns
 returns c =
-    let a = c .before .before .before .before .before .before .args in
+    let start = c .before .before .before .before .before .before in
+    let words = c .before .before .before .before .words in
     c .before .before .emit-words .ensures
-    ∙ ap (λ (ws : List ℕ). emitted (answerRow (a .row) ws) (sink (a .k) (a .out .now))) (c .before .before .before .before .words .ensures)
+    ∙ ap (λ (ws : List ℕ). emitted (answerRow (start .args .row) ws) (sink (start .args .k) (start .args .out .now)))
+    (words .ensures)
 
 pub emit-decl-spec : {M : Type 1} → statement M
 emit-decl-spec = tie.close (tie.spec words-requires emit-words-requires same-length returns)

@@ -30,7 +30,19 @@ same-length : tie.Need-same-length
 same-length c = search needs
 
 returns : tie.Need-returns
-returns c = λ o. function-rows (c .before .before .before .before .before .before .before .before .before .before .before .before .before .before .before .before .before .before .before .before .before .before .args .sheet .now) (storeOf o (c .before .before .before .before .before .before .before .before .before .before .before .before .before .before .before .before .before .before .before .before .before .before .args .results .now) (c .before .before .before .before .before .before .before .before .before .before .before .before .before .before .before .before .before .before .before .before .before .before .args .nodes .now)) (c .before .before .before .before .before .before .before .before .before .before .before .before .before .before .before .before .before .before .before .before .before .before .args .f .0) _ _ _ _ (sink (c .before .before .before .before .before .before .before .before .before .before .before .before .before .before .before .before .before .before .before .before .before .before .args .k) (c .before .before .before .before .before .before .before .before .before .before .before .before .before .before .before .before .before .before .before .before .before .before .args .out .now)) (c .before .before .before .before .before .before .before .before .before .before .before .before .before .before .before .word .ensures) (c .before .before .before .before .before .before .before .before .before .before .before .before .before .before .word2 .ensures) (c .before .before .before .before .before .before .before .before .before .before .before .before .before .count-nodes .ensures) (c .before .before .before .before .before .before .before .before .before .before .before .before .count-escapes .ensures o) (c .before .before .before .before .before .before .before .before .before .before .emit-words .ensures) (c .before .before .before .before .before .before .emit-captured .ensures) (c .before .before .emit-escapes .ensures o)
+returns c =
+    let at-count-escapes = c .before .before .before .before .before .before .before .before .before .before .before .before in
+    let start = at-count-escapes .before .before .before .before .before .before .before .before .before .before in
+    let word = at-count-escapes .before .before .before .word in
+    let word2 = at-count-escapes .before .before .word2 in
+    let count-nodes = at-count-escapes .before .count-nodes in
+    let count-escapes = at-count-escapes .count-escapes in
+    let emit-words = c .before .before .before .before .before .before .before .before .before .before .emit-words in
+    let emit-captured = c .before .before .before .before .before .before .emit-captured in
+    λ o. function-rows (start .args .sheet .now) (storeOf o (start .args .results .now) (start .args .nodes .now))
+    (start .args .f .0) _ _ _ _ (sink (start .args .k) (start .args .out .now)) (word .ensures) (word2 .ensures)
+    (count-nodes .ensures) (count-escapes .ensures o) (emit-words .ensures) (emit-captured .ensures)
+    (c .before .before .emit-escapes .ensures o)
 
 pub emit-function-spec : {M : Type 1} → statement M
 emit-function-spec =

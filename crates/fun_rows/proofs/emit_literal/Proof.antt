@@ -21,7 +21,14 @@ same-length : tie.Need-same-length
 same-length c = search needs
 
 returns : tie.Need-returns
-returns c = λ o. literal-rows (c .before .before .before .before .before .before .before .before .before .before .before .args .sheet .now) (storeOf o (c .before .before .before .before .before .before .before .before .before .before .before .args .results .now) (c .before .before .before .before .before .before .before .before .before .before .before .args .nodes .now)) (c .before .before .before .before .before .before .before .before .before .before .before .args .row) _ _ _ (sink (c .before .before .before .before .before .before .before .before .before .before .before .args .k) (c .before .before .before .before .before .before .before .before .before .before .before .args .out .now)) (c .before .before .before .before .before .before .word .ensures) (c .before .before .before .before .before .word2 .ensures) (c .before .before .before .before .word3 .ensures) (c .before .before .emit-sources .ensures o)
+returns c =
+    let start = c .before .before .before .before .before .before .before .before .before .before .before in
+    let word = c .before .before .before .before .before .before .word in
+    let word2 = c .before .before .before .before .before .word2 in
+    let word3 = c .before .before .before .before .word3 in
+    λ o. literal-rows (start .args .sheet .now) (storeOf o (start .args .results .now) (start .args .nodes .now))
+    (start .args .row) _ _ _ (sink (start .args .k) (start .args .out .now)) (word .ensures) (word2 .ensures)
+    (word3 .ensures) (c .before .before .emit-sources .ensures o)
 
 pub emit-literal-spec : {M : Type 1} → statement M
 emit-literal-spec =

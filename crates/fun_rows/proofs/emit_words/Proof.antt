@@ -28,9 +28,10 @@ same-length c = search needs
 
 returns : tie.Need-returns
 returns c =
-    let a = c .before .before .before .before .before .args in
+    let start = c .before .before .before .before .before in
     c .before .before .emit .ensures
-    ∙ ap (λ (ws : List ℕ). emitted (answerRow (a .r) ws) (sink (a .k) (a .out .now))) (four (a .t2) (c .before .before .before .before .before .good .1 .0 .1 .0 .1))
+    ∙ ap (λ (ws : List ℕ). emitted (answerRow (start .args .r) ws) (sink (start .args .k) (start .args .out .now)))
+    (four (start .args .t2) (start .good .1 .0 .1 .0 .1))
 
 pub emit-words-spec : {M : Type 1} → statement M
 emit-words-spec =

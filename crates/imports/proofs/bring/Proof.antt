@@ -11,7 +11,11 @@ use Rattle.imports.proofs.bring.Statement.{statement}
 use Rattle.imports.proofs.bring.Tie as tie
 
 returns : tie.Need-returns
-returns c = λ O t q. idle O (c .before .before .before .before .args .sheet .now) (bring (c .before .before .before .before .args .i) (c .before .before .before .before .args .m) (exportOf (c .before .before .before .before .args .sheet .now) (c .before .before .before .before .args .x))) (stateOf (c .before .before .before .before .args .walk) (c .before .before .before .before .args .entries .now) t q) (c .if1 .taken)
+returns c =
+    let start = c .before .before .before .before in
+    λ O t q. idle O (start .args .sheet .now)
+    (bring (start .args .i) (start .args .m) (exportOf (start .args .sheet .now) (start .args .x)))
+    (stateOf (start .args .walk) (start .args .entries .now) t q) (c .if1 .taken)
 
 exported-requires : tie.Need-exported-requires
 exported-requires c κs = search needs
@@ -23,7 +27,17 @@ refuse-requires : tie.Need-refuse-requires
 refuse-requires c κs = search needs
 
 returns-2 : tie.Need-returns-2
-returns-2 c = λ O t q. bring-none O (c .before .before .before .before .before .before .before .before .before .args .sheet .now) (c .before .before .before .before .before .before .before .before .before .args .i) (c .before .before .before .before .before .before .before .before .before .args .m) (exportOf (c .before .before .before .before .before .before .before .before .before .args .sheet .now) (c .before .before .before .before .before .before .before .before .before .args .x)) (stateOf (c .before .before .before .before .before .before .before .before .before .args .walk) (c .before .before .before .before .before .before .before .before .before .args .entries .now) t q) (c .before .before .before .before .before .if1 .left) (declared-as (exportOf (c .before .before .before .before .before .before .before .before .before .args .sheet .now) (c .before .before .before .before .before .before .before .before .before .args .x)) (scopesOf (c .before .before .before .before .before .before .before .before .before .args .walk .env) (c .before .before .before .before .before .before .before .before .before .args .entries .now)) (c .before .before .before .exported .ensures (c .before .before .before .before .before .before .before .before .before .args .entries .now)) (c .before .before .is-declared .ensures) (not-true (c .before .before .is-declared .result) (c .before .if2 .taken))) (c .refuse .ensures (c .before .before .before .before .before .before .before .before .before .args .entries .now) t q)
+returns-2 c =
+    let start = c .before .before .before .before .before .before .before .before .before in
+    let if1 = c .before .before .before .before .before .if1 in
+    let is-declared = c .before .before .is-declared in
+    λ O t q. bring-none O (start .args .sheet .now) (start .args .i) (start .args .m)
+    (exportOf (start .args .sheet .now) (start .args .x)) (stateOf (start .args .walk) (start .args .entries .now) t q)
+    (if1 .left) (declared-as (exportOf (start .args .sheet .now) (start .args .x))
+    (scopesOf (start .args .walk .env) (start .args .entries .now))
+    (c .before .before .before .exported .ensures (start .args .entries .now)) (is-declared .ensures)
+    (not-true (is-declared .result) (c .before .if2 .taken)))
+    (c .refuse .ensures (start .args .entries .now) t q)
 
 has-local-requires : tie.Need-has-local-requires
 has-local-requires c κs = search needs
@@ -35,7 +49,19 @@ same-length : tie.Need-same-length
 same-length c = search needs
 
 returns-3 : tie.Need-returns-3
-returns-3 c = λ O t q. bring-taken O (c .before .before .before .before .before .before .before .before .before .before .before .before .args .sheet .now) (c .before .before .before .before .before .before .before .before .before .before .before .before .args .i) (c .before .before .before .before .before .before .before .before .before .before .before .before .args .m) (exportOf (c .before .before .before .before .before .before .before .before .before .before .before .before .args .sheet .now) (c .before .before .before .before .before .before .before .before .before .before .before .before .args .x)) (stateOf (c .before .before .before .before .before .before .before .before .before .before .before .before .args .walk) (c .before .before .before .before .before .before .before .before .before .before .before .before .args .entries .now) t q) (c .before .before .before .before .before .before .before .before .if1 .left) (declared-as (exportOf (c .before .before .before .before .before .before .before .before .before .before .before .before .args .sheet .now) (c .before .before .before .before .before .before .before .before .before .before .before .before .args .x)) (scopesOf (c .before .before .before .before .before .before .before .before .before .before .before .before .args .walk .env) (c .before .before .before .before .before .before .before .before .before .before .before .before .args .entries .now)) (c .before .before .before .before .before .before .exported .ensures (c .before .before .before .before .before .before .before .before .before .before .before .before .args .entries .now)) (c .before .before .before .before .before .is-declared .ensures) (not-false (c .before .before .before .before .before .is-declared .result) (c .before .before .before .before .if2 .left))) (sym (c .before .before .has-local .ensures) ∙ c .before .if3 .taken) (c .refuse2 .ensures (c .before .before .before .before .before .before .before .before .before .before .before .before .args .entries .now) t q)
+returns-3 c =
+    let start = c .before .before .before .before .before .before .before .before .before .before .before .before in
+    let if1 = c .before .before .before .before .before .before .before .before .if1 in
+    let exported = c .before .before .before .before .before .before .exported in
+    let is-declared = c .before .before .before .before .before .is-declared in
+    let if2 = c .before .before .before .before .if2 in
+    λ O t q. bring-taken O (start .args .sheet .now) (start .args .i) (start .args .m)
+    (exportOf (start .args .sheet .now) (start .args .x)) (stateOf (start .args .walk) (start .args .entries .now) t q)
+    (if1 .left) (declared-as (exportOf (start .args .sheet .now) (start .args .x))
+    (scopesOf (start .args .walk .env) (start .args .entries .now)) (exported .ensures (start .args .entries .now))
+    (is-declared .ensures) (not-false (is-declared .result) (if2 .left)))
+    (sym (c .before .before .has-local .ensures) ∙ c .before .if3 .taken)
+    (c .refuse2 .ensures (start .args .entries .now) t q)
 
 define-requires : tie.Need-define-requires
 define-requires c κs = search needs
@@ -44,7 +70,22 @@ same-length-2 : tie.Need-same-length-2
 same-length-2 c = search needs
 
 returns-4 : tie.Need-returns-4
-returns-4 c = λ O t q. bring-new O (c .before .before .before .before .before .before .before .before .before .before .before .before .before .before .before .before .args .sheet .now) (c .before .before .before .before .before .before .before .before .before .before .before .before .before .before .before .before .args .i) (c .before .before .before .before .before .before .before .before .before .before .before .before .before .before .before .before .args .m) (exportOf (c .before .before .before .before .before .before .before .before .before .before .before .before .before .before .before .before .args .sheet .now) (c .before .before .before .before .before .before .before .before .before .before .before .before .before .before .before .before .args .x)) (stateOf (c .before .before .before .before .before .before .before .before .before .before .before .before .before .before .before .before .args .walk) (c .before .before .before .before .before .before .before .before .before .before .before .before .before .before .before .before .args .entries .now) t q) (c .before .before .before .before .before .before .before .before .before .before .before .before .if1 .left) (declared-as (exportOf (c .before .before .before .before .before .before .before .before .before .before .before .before .before .before .before .before .args .sheet .now) (c .before .before .before .before .before .before .before .before .before .before .before .before .before .before .before .before .args .x)) (scopesOf (c .before .before .before .before .before .before .before .before .before .before .before .before .before .before .before .before .args .walk .env) (c .before .before .before .before .before .before .before .before .before .before .before .before .before .before .before .before .args .entries .now)) (c .before .before .before .before .before .before .before .before .before .before .exported .ensures (c .before .before .before .before .before .before .before .before .before .before .before .before .before .before .before .before .args .entries .now)) (c .before .before .before .before .before .before .before .before .before .is-declared .ensures) (not-false (c .before .before .before .before .before .before .before .before .before .is-declared .result) (c .before .before .before .before .before .before .before .before .if2 .left))) (sym (c .before .before .before .before .before .before .has-local .ensures) ∙ c .before .before .before .before .before .if3 .left) (c .before .before .define .ensures (exportOf (c .before .before .before .before .before .before .before .before .before .before .before .before .before .before .before .before .args .sheet .now) (c .before .before .before .before .before .before .before .before .before .before .before .before .before .before .before .before .args .x)) (c .before .before .before .before .before .before .before .before .before .before .exported .ensures (c .before .before .before .before .before .before .before .before .before .before .before .before .before .before .before .before .args .entries .now)))
+returns-4 c =
+    let at-if1 = c .before .before .before .before .before .before .before .before .before .before .before .before in
+    let start = at-if1 .before .before .before .before in
+    let if1 = at-if1 .if1 in
+    let exported = c .before .before .before .before .before .before .before .before .before .before .exported in
+    let is-declared = c .before .before .before .before .before .before .before .before .before .is-declared in
+    let if2 = c .before .before .before .before .before .before .before .before .if2 in
+    let has-local = c .before .before .before .before .before .before .has-local in
+    let if3 = c .before .before .before .before .before .if3 in
+    λ O t q. bring-new O (start .args .sheet .now) (start .args .i) (start .args .m)
+    (exportOf (start .args .sheet .now) (start .args .x)) (stateOf (start .args .walk) (start .args .entries .now) t q)
+    (if1 .left) (declared-as (exportOf (start .args .sheet .now) (start .args .x))
+    (scopesOf (start .args .walk .env) (start .args .entries .now)) (exported .ensures (start .args .entries .now))
+    (is-declared .ensures) (not-false (is-declared .result) (if2 .left)))
+    (sym (has-local .ensures) ∙ if3 .left) (c .before .before .define .ensures
+    (exportOf (start .args .sheet .now) (start .args .x)) (exported .ensures (start .args .entries .now)))
 
 pub bring-spec : {M : Type 1} → statement M
 bring-spec =

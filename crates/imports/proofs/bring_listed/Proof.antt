@@ -18,7 +18,14 @@ same-length : tie.Need-same-length
 same-length c = search needs
 
 returns : tie.Need-returns
-returns c = λ O t q. listed-as O (c .before .before .before .before .before .before .before .before .args .sheet .now) (c .before .before .before .before .before .before .before .before .args .u) (c .before .before .before .before .before .before .before .before .args .i) (c .before .before .before .before .before .before .before .before .args .k) (stateOf (c .before .before .before .before .before .before .before .before .args .walk) (c .before .before .before .before .before .before .before .before .args .entries .now) t q) (c .before .before .before .before .before .word .result) (exportOf (c .before .before .before .before .before .before .before .before .args .sheet .now) (c .before .before .before .before .find-export .result)) (c .before .before .before .before .before .word .ensures) (c .before .before .before .before .find-export .ensures) (c .before .before .bring .ensures O t q)
+returns c =
+    let start = c .before .before .before .before .before .before .before .before in
+    let word = c .before .before .before .before .before .word in
+    let find-export = c .before .before .before .before .find-export in
+    λ O t q. listed-as O (start .args .sheet .now) (start .args .u) (start .args .i) (start .args .k)
+    (stateOf (start .args .walk) (start .args .entries .now) t q) (word .result)
+    (exportOf (start .args .sheet .now) (find-export .result)) (word .ensures) (find-export .ensures)
+    (c .before .before .bring .ensures O t q)
 
 pub bring-listed-spec : {M : Type 1} → statement M
 bring-listed-spec =

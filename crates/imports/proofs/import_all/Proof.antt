@@ -17,7 +17,14 @@ same-length : tie.Need-same-length
 same-length c = search needs
 
 returns : tie.Need-returns
-returns c = λ O t q. all-brought O (c .before .before .before .before .before .before .before .before .before .before .before .before .before .before .args .sheet .now) (c .before .before .before .before .before .before .before .before .before .before .before .before .before .before .args .i) (c .before .before .before .before .before .before .before .before .before .before .before .before .before .before .args .u) (stateOf (c .before .before .before .before .before .before .before .before .before .before .before .before .before .before .args .walk) (c .before .before .before .before .before .before .before .before .before .before .before .before .before .before .args .entries .now) t q) (c .before .before .before .before .before .before .before .before .before .before .import-kind .ensures O t q) (c .before .before .before .before .before .before .import-kind2 .ensures O t q) (c .before .before .import-kind3 .ensures O t q)
+returns c =
+    let at-import-kind = c .before .before .before .before .before .before .before .before .before .before in
+    let start = at-import-kind .before .before .before .before in
+    let import-kind = at-import-kind .import-kind in
+    let import-kind2 = c .before .before .before .before .before .before .import-kind2 in
+    λ O t q. all-brought O (start .args .sheet .now) (start .args .i) (start .args .u)
+    (stateOf (start .args .walk) (start .args .entries .now) t q) (import-kind .ensures O t q)
+    (import-kind2 .ensures O t q) (c .before .before .import-kind3 .ensures O t q)
 
 pub import-all-spec : {M : Type 1} → statement M
 import-all-spec =

@@ -8,7 +8,11 @@ word-requires : tie.Need-word-requires
 word-requires c κs = search needs
 
 returns : tie.Need-returns
-returns c = λ O t q. import-no O (c .before .before .before .before .args .sheet .now) (c .before .before .before .before .args .k) (stateOf (c .before .before .before .before .args .walk) (c .before .before .before .before .args .entries .now) t q) (c .before .word .ensures) (c .before .before .before .before .args .u) (c .if1 .taken)
+returns c =
+    let start = c .before .before .before .before in
+    λ O t q. import-no O (start .args .sheet .now) (start .args .k)
+    (stateOf (start .args .walk) (start .args .entries .now) t q) (c .before .word .ensures) (start .args .u)
+    (c .if1 .taken)
 
 import-one-requires : tie.Need-import-one-requires
 import-one-requires c κs = search needs
@@ -17,7 +21,13 @@ same-length : tie.Need-same-length
 same-length c = search needs
 
 returns-2 : tie.Need-returns-2
-returns-2 c = λ O t q. import-yes O (c .before .before .before .before .before .before .before .before .args .sheet .now) (c .before .before .before .before .before .before .before .before .args .k) (stateOf (c .before .before .before .before .before .before .before .before .args .walk) (c .before .before .before .before .before .before .before .before .args .entries .now) t q) (c .before .before .before .before .before .word .ensures) (c .before .before .before .before .before .before .before .before .args .u) (c .before .before .before .before .if1 .left) (c .before .before .import-one .ensures O t q)
+returns-2 c =
+    let start = c .before .before .before .before .before .before .before .before in
+    let word = c .before .before .before .before .before .word in
+    let if1 = c .before .before .before .before .if1 in
+    λ O t q. import-yes O (start .args .sheet .now) (start .args .k)
+    (stateOf (start .args .walk) (start .args .entries .now) t q) (word .ensures) (start .args .u) (if1 .left)
+    (c .before .before .import-one .ensures O t q)
 
 pub import-if-spec : {M : Type 1} → statement M
 import-if-spec =

@@ -14,7 +14,12 @@ same-length : tie.Need-same-length
 same-length c = search needs
 
 returns : tie.Need-returns
-returns c = λ O t q. seen-listed O (c .before .before .before .before .before .before .before .before .before .before .args .sheet .now) (c .before .before .before .before .before .before .before .before .before .before .args .u) (c .before .before .before .before .before .before .before .before .before .before .args .i) (stateOf (c .before .before .before .before .before .before .before .before .before .before .args .walk) (c .before .before .before .before .before .before .before .before .before .before .args .entries .now) t q) (c .before .before .before .before .before .before .import-seen .ensures O t q) (c .before .before .import-listed .ensures O t q)
+returns c =
+    let start = c .before .before .before .before .before .before .before .before .before .before in
+    let import-seen = c .before .before .before .before .before .before .import-seen in
+    λ O t q. seen-listed O (start .args .sheet .now) (start .args .u) (start .args .i)
+    (stateOf (start .args .walk) (start .args .entries .now) t q) (import-seen .ensures O t q)
+    (c .before .before .import-listed .ensures O t q)
 
 pub import-one-spec : {M : Type 1} → statement M
 import-one-spec =

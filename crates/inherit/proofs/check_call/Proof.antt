@@ -16,22 +16,44 @@ class-name-requires : tie.Need-class-name-requires
 class-name-requires c κs = search needs
 
 returns : tie.Need-returns
-returns c = λ o q two. let a = c .before .before .before .before .before .before .before .before .before .args in call-without (over (a .outside .now)) (a .sheet .now) (storeOf o (a .results .now) q) (record { key = a .row; one = a .c .0; two = two })
-    (c .before .before .before .before .before .find-method .ensures o q .funIs) (c .before .before .before .before .before .find-method .ensures o q .paramsAre) (c .before .before .before .before .word .ensures) (c .before .before .before .class-name .ensures) (c .if1 .taken)
+returns c =
+    let start = c .before .before .before .before .before .before .before .before .before in
+    let find-method = c .before .before .before .before .before .find-method in
+    let word = c .before .before .before .before .word in
+    λ o q two. call-without (over (start .args .outside .now)) (start .args .sheet .now)
+    (storeOf o (start .args .results .now) q) (record { key = start .args .row; one = start .args .c .0; two = two })
+    (find-method .ensures o q .funIs) (find-method .ensures o q .paramsAre) (word .ensures)
+    (c .before .before .before .class-name .ensures) (c .if1 .taken)
 
 arguments-requires : tie.Need-arguments-requires
 arguments-requires c κs = search needs
 
 add-if2 : tie.Need-add-if2
-add-if2 c = omega (arith, c .arguments .ensures, arguments-few (c .before .before .before .before .before .before .before .before .before .before .args .sheet .now) (c .before .before .before .before .before .before .before .before .before .before .args .row))
+add-if2 c =
+    let start = c .before .before .before .before .before .before .before .before .before .before in
+    omega (arith, c .arguments .ensures, arguments-few (start .args .sheet .now) (start .args .row))
 
 returns-2 : tie.Need-returns-2
-returns-2 c = λ o q two. let a = c .before .before .before .before .before .before .before .before .before .before .before .before .args in call-fits (over (a .outside .now)) (a .sheet .now) (storeOf o (a .results .now) q) (record { key = a .row; one = a .c .0; two = two })
-    (c .before .before .before .before .before .before .before .before .find-method .ensures o q .funIs) (c .before .before .before .before .before .before .before .before .find-method .ensures o q .paramsAre) (c .before .before .before .before .before .before .before .word .ensures) (c .before .before .before .before .before .before .class-name .ensures) (c .before .before .before .if1 .left) (c .before .before .arguments .ensures) (c .if2 .taken)
+returns-2 c =
+    let start = c .before .before .before .before .before .before .before .before .before .before .before .before in
+    let find-method = c .before .before .before .before .before .before .before .before .find-method in
+    let word = c .before .before .before .before .before .before .before .word in
+    let class-name = c .before .before .before .before .before .before .class-name in
+    λ o q two. call-fits (over (start .args .outside .now)) (start .args .sheet .now)
+    (storeOf o (start .args .results .now) q) (record { key = start .args .row; one = start .args .c .0; two = two })
+    (find-method .ensures o q .funIs) (find-method .ensures o q .paramsAre) (word .ensures) (class-name .ensures)
+    (c .before .before .before .if1 .left) (c .before .before .arguments .ensures) (c .if2 .taken)
 
 returns-3 : tie.Need-returns-3
-returns-3 c = λ o q two. let a = c .before .before .before .before .before .before .before .before .before .before .before .before .args in call-unfit (over (a .outside .now)) (a .sheet .now) (storeOf o (a .results .now) q) (record { key = a .row; one = a .c .0; two = two })
-    (c .before .before .before .before .before .before .before .before .find-method .ensures o q .funIs) (c .before .before .before .before .before .before .before .before .find-method .ensures o q .paramsAre) (c .before .before .before .before .before .before .before .word .ensures) (c .before .before .before .before .before .before .class-name .ensures) (c .before .before .before .if1 .left) (c .before .before .arguments .ensures) (c .if2 .left)
+returns-3 c =
+    let start = c .before .before .before .before .before .before .before .before .before .before .before .before in
+    let find-method = c .before .before .before .before .before .before .before .before .find-method in
+    let word = c .before .before .before .before .before .before .before .word in
+    let class-name = c .before .before .before .before .before .before .class-name in
+    λ o q two. call-unfit (over (start .args .outside .now)) (start .args .sheet .now)
+    (storeOf o (start .args .results .now) q) (record { key = start .args .row; one = start .args .c .0; two = two })
+    (find-method .ensures o q .funIs) (find-method .ensures o q .paramsAre) (word .ensures) (class-name .ensures)
+    (c .before .before .before .if1 .left) (c .before .before .arguments .ensures) (c .if2 .left)
 
 pub check-call-spec : {M : Type 1} → statement M
 check-call-spec =

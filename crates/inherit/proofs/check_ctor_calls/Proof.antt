@@ -15,13 +15,20 @@ use Rattle.inherit.proofs.check_ctor_calls.Statement.{statement}
 use Rattle.inherit.proofs.check_ctor_calls.Tie as tie
 
 abbrev Inv-loop : tie.InvT-loop
-Inv-loop s outside t q calls x₀ i₀ x i = (o : Store) → callsTo q (checkCallIn (over outside) s (storeOf o t q)) i (refusalOf x) ≡ firstNo (map (checkCallIn (over outside) s (storeOf o t q)) (chainTo q calls))
+Inv-loop s outside t q calls x₀ i₀ x i =
+    (o : Store)
+    → callsTo q (checkCallIn (over outside) s (storeOf o t q)) i (refusalOf x)
+    ≡ firstNo (map (checkCallIn (over outside) s (storeOf o t q)) (chainTo q calls))
 
 abbrev μ-loop : tie.MeasureT-loop
 μ-loop s outside t q calls x₀ i₀ x i = i
 
 loop-holds : tie.Need-loop-holds Inv-loop μ-loop
-loop-holds c = λ o. calls-all (c .before .before .before .before .args .nodes .now) (checkCallIn (over (c .before .before .before .before .args .outside .now)) (c .before .before .before .before .args .sheet .now) (storeOf o (c .before .before .before .before .args .results .now) (c .before .before .before .before .args .nodes .now))) (c .before .before .before .before .args .calls)
+loop-holds c =
+    let start = c .before .before .before .before in
+    λ o. calls-all (start .args .nodes .now) (checkCallIn (over (start .args .outside .now)) (start .args .sheet .now)
+    (storeOf o (start .args .results .now) (start .args .nodes .now)))
+    (start .args .calls)
 
 sub-i : tie.Need-sub-i Inv-loop μ-loop
 sub-i c = c .loop-test .taken
@@ -39,19 +46,61 @@ node-before-requires : tie.Need-node-before-requires Inv-loop μ-loop
 node-before-requires c κs = search needs
 
 loop-less : tie.Need-loop-less Inv-loop μ-loop
-loop-less c = omega (arith, c .before .before .node-before .ensures, c .before .before .before .before .before .before .loop-test .taken)
+loop-less c =
+    let loop-test = c .before .before .before .before .before .before .loop-test in
+    omega (arith, c .before .before .node-before .ensures, loop-test .taken)
 
 loop-again : tie.Need-loop-again Inv-loop μ-loop
-loop-again c = let a = c .before .before .before .before .before .before .before .before .before .before .before .before .args in λ o. calls-no (a .nodes .now) (checkCallIn (over (a .outside .now)) (a .sheet .now) (storeOf o (a .results .now) (a .nodes .now))) (c .before .before .before .before .before .before .before .loop .i) (refusalOf (c .before .before .before .before .before .before .before .loop .x)) (c .before .before .before .before .before .before .loop-test .taken) (node-answer (a .nodes .now) (checkCallIn (over (a .outside .now)) (a .sheet .now) (storeOf o (a .results .now) (a .nodes .now))) (c .before .before .before .before .before .before .before .loop .i - 1) (c .before .before .before .before .before .node-word .ensures) (c .before .before .before .before .node-word2 .ensures) (c .before .before .before .check-call .ensures o (a .nodes .now) (nodeWord (a .nodes .now) (c .before .before .before .before .before .before .before .loop .i - 1) 3))) (c .before .before .node-before .ensures) (c .if1 .taken) ∙ c .before .before .before .before .before .before .before .loop .inv o
+loop-again c =
+    let start = c .before .before .before .before .before .before .before .before .before .before .before .before in
+    let loop = c .before .before .before .before .before .before .before .loop in
+    let loop-test = c .before .before .before .before .before .before .loop-test in
+    let node-word = c .before .before .before .before .before .node-word in
+    let node-word2 = c .before .before .before .before .node-word2 in
+    λ o. calls-no (start .args .nodes .now) (checkCallIn (over (start .args .outside .now)) (start .args .sheet .now)
+    (storeOf o (start .args .results .now) (start .args .nodes .now)))
+    (loop .i) (refusalOf (loop .x)) (loop-test .taken) (node-answer (start .args .nodes .now)
+    (checkCallIn (over (start .args .outside .now)) (start .args .sheet .now)
+    (storeOf o (start .args .results .now) (start .args .nodes .now)))
+    (loop .i - 1) (node-word .ensures) (node-word2 .ensures) (c .before .before .before .check-call .ensures o
+    (start .args .nodes .now) (nodeWord (start .args .nodes .now) (loop .i - 1) 3)))
+    (c .before .before .node-before .ensures) (c .if1 .taken)
+    ∙ loop .inv o
 
 loop-less-2 : tie.Need-loop-less-2 Inv-loop μ-loop
-loop-less-2 c = omega (arith, c .before .before .node-before .ensures, c .before .before .before .before .before .before .loop-test .taken)
+loop-less-2 c =
+    let loop-test = c .before .before .before .before .before .before .loop-test in
+    omega (arith, c .before .before .node-before .ensures, loop-test .taken)
 
 loop-again-2 : tie.Need-loop-again-2 Inv-loop μ-loop
-loop-again-2 c = let a = c .before .before .before .before .before .before .before .before .before .before .before .before .args in λ o. calls-yes (a .nodes .now) (checkCallIn (over (a .outside .now)) (a .sheet .now) (storeOf o (a .results .now) (a .nodes .now))) (c .before .before .before .before .before .before .before .loop .i) (refusalOf (c .before .before .before .before .before .before .before .loop .x)) (c .before .before .before .before .before .before .loop-test .taken) (node-answer (a .nodes .now) (checkCallIn (over (a .outside .now)) (a .sheet .now) (storeOf o (a .results .now) (a .nodes .now))) (c .before .before .before .before .before .before .before .loop .i - 1) (c .before .before .before .before .before .node-word .ensures) (c .before .before .before .before .node-word2 .ensures) (c .before .before .before .check-call .ensures o (a .nodes .now) (nodeWord (a .nodes .now) (c .before .before .before .before .before .before .before .loop .i - 1) 3))) (c .before .before .node-before .ensures) (c .if1 .left) ∙ c .before .before .before .before .before .before .before .loop .inv o
+loop-again-2 c =
+    let start = c .before .before .before .before .before .before .before .before .before .before .before .before in
+    let loop = c .before .before .before .before .before .before .before .loop in
+    let loop-test = c .before .before .before .before .before .before .loop-test in
+    let node-word = c .before .before .before .before .before .node-word in
+    let node-word2 = c .before .before .before .before .node-word2 in
+    λ o. calls-yes (start .args .nodes .now) (checkCallIn (over (start .args .outside .now)) (start .args .sheet .now)
+    (storeOf o (start .args .results .now) (start .args .nodes .now)))
+    (loop .i) (refusalOf (loop .x)) (loop-test .taken) (node-answer (start .args .nodes .now)
+    (checkCallIn (over (start .args .outside .now)) (start .args .sheet .now)
+    (storeOf o (start .args .results .now) (start .args .nodes .now)))
+    (loop .i - 1) (node-word .ensures) (node-word2 .ensures) (c .before .before .before .check-call .ensures o
+    (start .args .nodes .now) (nodeWord (start .args .nodes .now) (loop .i - 1) 3)))
+    (c .before .before .node-before .ensures) (c .if1 .left)
+    ∙ loop .inv o
 
 returns : tie.Need-returns Inv-loop μ-loop
-returns c = λ o e. calls-end (c .before .before .before .before .before .before .args .nodes .now) (checkCallIn (over (c .before .before .before .before .before .before .args .outside .now)) (c .before .before .before .before .before .before .args .sheet .now) (storeOf o (c .before .before .before .before .before .before .args .results .now) (c .before .before .before .before .before .before .args .nodes .now))) (c .before .loop .i) (refusalOf (c .before .loop .x)) (c .loop-test .left) ∙ c .before .loop .inv o ∙ ap (λ (n : ℕ). firstNo (map (checkCallIn (over (c .before .before .before .before .before .before .args .outside .now)) (c .before .before .before .before .before .before .args .sheet .now) (storeOf o (c .before .before .before .before .before .before .args .results .now) (c .before .before .before .before .before .before .args .nodes .now))) (chainTo (c .before .before .before .before .before .before .args .nodes .now) n))) (sym e)
+returns c =
+    let start = c .before .before .before .before .before .before in
+    let loop = c .before .loop in
+    λ o e. calls-end (start .args .nodes .now) (checkCallIn (over (start .args .outside .now)) (start .args .sheet .now)
+    (storeOf o (start .args .results .now) (start .args .nodes .now)))
+    (loop .i) (refusalOf (loop .x)) (c .loop-test .left)
+    ∙ loop .inv o
+    ∙ ap (λ (n : ℕ). firstNo (map (checkCallIn (over (start .args .outside .now)) (start .args .sheet .now)
+    (storeOf o (start .args .results .now) (start .args .nodes .now)))
+    (chainTo (start .args .nodes .now) n)))
+    (sym e)
 
 pub check-ctor-calls-spec : {M : Type 1} → statement M
 check-ctor-calls-spec =

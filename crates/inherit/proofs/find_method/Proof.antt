@@ -18,7 +18,10 @@ use Rattle.inherit.proofs.parent_of.Reads as parent-of-reads
 use Rattle.outside.proofs.records.own_method.Reads as own-method-reads
 
 abbrev Inv-loop : tie.InvT-loop
-Inv-loop s outside t n left₀ at₀ left at = (o : Store) (q : List ℕ) → methodOf n (methodsIn (over outside) s (storeOf o t q) left at) ≡ methodOf n (methodsIn (over outside) s (storeOf o t q) left₀ at₀)
+Inv-loop s outside t n left₀ at₀ left at =
+    (o : Store) (q : List ℕ)
+    → methodOf n (methodsIn (over outside) s (storeOf o t q) left at)
+    ≡ methodOf n (methodsIn (over outside) s (storeOf o t q) left₀ at₀)
 
 abbrev μ-loop : tie.MeasureT-loop
 μ-loop s outside t n left₀ at₀ left at = left
@@ -30,13 +33,30 @@ own-method-requires : tie.Need-own-method-requires Inv-loop μ-loop
 own-method-requires c κs = search needs
 
 returns : tie.Need-returns Inv-loop μ-loop
-returns c = λ o q. let a = c .before .before .before .before .before .before .before .before .before .args in tells-as (a .n) (c .before .before .before .own-method .ensures) (method-here (over (a .outside .now)) (a .sheet .now) (storeOf o (a .results .now) q) (a .n) (c .before .before .before .before .before .loop .left) (c .before .before .before .before .before .loop .at) (c .before .before .before .before .loop-test .taken) (c .before .before .before .own-method .ensures .funIs) (c .if1 .taken) ∙ c .before .before .before .before .before .loop .inv o q)
+returns c =
+    let start = c .before .before .before .before .before .before .before .before .before in
+    let loop = c .before .before .before .before .before .loop in
+    let loop-test = c .before .before .before .before .loop-test in
+    let own-method = c .before .before .before .own-method in
+    λ o q. tells-as (start .args .n) (own-method .ensures) (method-here (over (start .args .outside .now))
+    (start .args .sheet .now) (storeOf o (start .args .results .now) q) (start .args .n) (loop .left) (loop .at)
+    (loop-test .taken) (own-method .ensures .funIs) (c .if1 .taken)
+    ∙ loop .inv o q)
 
 parent-of-requires : tie.Need-parent-of-requires Inv-loop μ-loop
 parent-of-requires c κs = search needs
 
 returns-2 : tie.Need-returns-2 Inv-loop μ-loop
-returns-2 c = λ o q. let a = c .before .before .before .before .before .before .before .before .before .before .before .before .args in tells-as (a .n) (c .before .before .before .before .before .before .own-method .ensures) (method-last (over (a .outside .now)) (a .sheet .now) (storeOf o (a .results .now) q) (a .n) (c .before .before .before .before .before .before .before .before .loop .left) (c .before .before .before .before .before .before .before .before .loop .at) (c .before .before .before .before .before .before .before .loop-test .taken) (c .before .before .before .before .before .before .own-method .ensures .funIs) (c .before .before .before .if1 .left) (c .before .before .parent-of .ensures o q) (c .if2 .taken) ∙ c .before .before .before .before .before .before .before .before .loop .inv o q)
+returns-2 c =
+    let start = c .before .before .before .before .before .before .before .before .before .before .before .before in
+    let loop = c .before .before .before .before .before .before .before .before .loop in
+    let loop-test = c .before .before .before .before .before .before .before .loop-test in
+    let own-method = c .before .before .before .before .before .before .own-method in
+    λ o q. tells-as (start .args .n) (own-method .ensures) (method-last (over (start .args .outside .now))
+    (start .args .sheet .now) (storeOf o (start .args .results .now) q) (start .args .n) (loop .left) (loop .at)
+    (loop-test .taken) (own-method .ensures .funIs) (c .before .before .before .if1 .left)
+    (c .before .before .parent-of .ensures o q) (c .if2 .taken)
+    ∙ loop .inv o q)
 
 sub-left : tie.Need-sub-left Inv-loop μ-loop
 sub-left c = c .before .before .before .before .before .before .before .loop-test .taken
@@ -45,10 +65,24 @@ loop-less : tie.Need-loop-less Inv-loop μ-loop
 loop-less c = omega (arith, c .before .before .before .before .before .before .before .loop-test .taken)
 
 loop-again : tie.Need-loop-again Inv-loop μ-loop
-loop-again c = λ o q. let a = c .before .before .before .before .before .before .before .before .before .before .before .before .args in method-up (over (a .outside .now)) (a .sheet .now) (storeOf o (a .results .now) q) (a .n) (c .before .before .before .before .before .before .before .before .loop .left) (c .before .before .before .before .before .before .before .before .loop .at) (c .before .before .before .before .before .before .before .loop-test .taken) (c .before .before .before .before .before .before .own-method .ensures .funIs) (c .before .before .before .if1 .left) (c .before .before .parent-of .ensures o q) (c .if2 .left) ∙ c .before .before .before .before .before .before .before .before .loop .inv o q
+loop-again c =
+    let start = c .before .before .before .before .before .before .before .before .before .before .before .before in
+    let loop = c .before .before .before .before .before .before .before .before .loop in
+    let loop-test = c .before .before .before .before .before .before .before .loop-test in
+    let own-method = c .before .before .before .before .before .before .own-method in
+    λ o q. method-up (over (start .args .outside .now)) (start .args .sheet .now)
+    (storeOf o (start .args .results .now) q) (start .args .n) (loop .left) (loop .at) (loop-test .taken)
+    (own-method .ensures .funIs) (c .before .before .before .if1 .left) (c .before .before .parent-of .ensures o q)
+    (c .if2 .left)
+    ∙ loop .inv o q
 
 returns-3 : tie.Need-returns-3 Inv-loop μ-loop
-returns-3 c = λ o q. let a = c .before .before .before .before .before .args in tells-none (a .n) (method-end (over (a .outside .now)) (a .sheet .now) (storeOf o (a .results .now) q) (a .n) (c .before .loop .left) (c .before .loop .at) (c .loop-test .left) ∙ c .before .loop .inv o q)
+returns-3 c =
+    let start = c .before .before .before .before .before in
+    let loop = c .before .loop in
+    λ o q. tells-none (start .args .n) (method-end (over (start .args .outside .now)) (start .args .sheet .now)
+    (storeOf o (start .args .results .now) q) (start .args .n) (loop .left) (loop .at) (c .loop-test .left)
+    ∙ loop .inv o q)
 
 pub find-method-spec : {M : Type 1} → statement M
 find-method-spec =

@@ -15,7 +15,12 @@ same-length : tie.Need-same-length
 same-length c = search needs
 
 returns : tie.Need-returns
-returns c = λ o e. later-classes (callsRefusal (over (c .before .before .before .before .before .before .before .before .before .before .before .args .outside .now)) (c .before .before .before .before .before .before .before .before .before .before .before .args .sheet .now) (storeOf o (c .before .before .before .before .before .before .before .before .before .before .before .args .results .now) (c .before .before .before .before .before .before .before .before .before .before .before .args .nodes .now))) (c .before .before .before .before .check-classes .ensures o (c .before .before .before .before .before .before .before .before .before .before .before .args .nodes .now)) (c .if1 .taken)
+returns c =
+    let start = c .before .before .before .before .before .before .before .before .before .before .before in
+    let check-classes = c .before .before .before .before .check-classes in
+    λ o e. later-classes (callsRefusal (over (start .args .outside .now)) (start .args .sheet .now)
+    (storeOf o (start .args .results .now) (start .args .nodes .now)))
+    (check-classes .ensures o (start .args .nodes .now)) (c .if1 .taken)
 
 check-ctor-calls-requires : tie.Need-check-ctor-calls-requires
 check-ctor-calls-requires c κs = search needs
@@ -24,7 +29,13 @@ same-length-2 : tie.Need-same-length-2
 same-length-2 c = search needs
 
 returns-2 : tie.Need-returns-2
-returns-2 c = λ o e. later-calls (map (checkCallIn (over (c .before .before .before .before .before .before .before .before .before .before .before .before .args .outside .now)) (c .before .before .before .before .before .before .before .before .before .before .before .before .args .sheet .now) (storeOf o (c .before .before .before .before .before .before .before .before .before .before .before .before .args .results .now) (c .before .before .before .before .before .before .before .before .before .before .before .before .args .nodes .now))) (chainTo (c .before .before .before .before .before .before .before .before .before .before .before .before .args .nodes .now) (o .calls))) (c .before .before .before .before .before .check-classes .ensures o (c .before .before .before .before .before .before .before .before .before .before .before .before .args .nodes .now)) (c .before .if1 .left) (c .check-ctor-calls .ensures o e)
+returns-2 c =
+    let start = c .before .before .before .before .before .before .before .before .before .before .before .before in
+    let check-classes = c .before .before .before .before .before .check-classes in
+    λ o e. later-calls (map (checkCallIn (over (start .args .outside .now)) (start .args .sheet .now)
+    (storeOf o (start .args .results .now) (start .args .nodes .now)))
+    (chainTo (start .args .nodes .now) (o .calls)))
+    (check-classes .ensures o (start .args .nodes .now)) (c .before .if1 .left) (c .check-ctor-calls .ensures o e)
 
 pub later-refusal-spec : {M : Type 1} → statement M
 later-refusal-spec =

@@ -9,7 +9,10 @@ word-requires : tie.Need-word-requires
 word-requires c κs = search needs
 
 returns : tie.Need-returns
-returns c = ap {B = Refusal} (λ (n : ℕ). record { number = c .before .before .args .number; at = c .before .before .args .row; name = n }) (c .word .ensures)
+returns c =
+    let start = c .before .before in
+    ap {B = Refusal} (λ (n : ℕ). record { number = start .args .number; at = start .args .row; name = n })
+    (c .word .ensures)
 
 pub refuse-class-spec : {M : Type 1} → statement M
 refuse-class-spec = tie.close (tie.spec word-requires returns)

@@ -23,7 +23,10 @@ shared-slice-read-if1 : tie.Need-shared-slice-read-if1 Inv-loop μ-loop
 shared-slice-read-if1 c = omega arith
 
 returns : tie.Need-returns Inv-loop μ-loop
-returns c = not-once _ (c .before .before .before .before .args .seen .now) (c .before .before .before .loop .k) (c .before .before .before .loop .inv .0) (c .before .before .loop-test .taken) (c .if1 .taken)
+returns c =
+    let start = c .before .before .before .before in
+    let loop = c .before .before .before .loop in
+    not-once _ (start .args .seen .now) (loop .k) (loop .inv .0) (c .before .before .loop-test .taken) (c .if1 .taken)
 
 add-k : tie.Need-add-k Inv-loop μ-loop
 add-k c = omega arith

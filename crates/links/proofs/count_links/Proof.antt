@@ -49,92 +49,96 @@ cast-child c = omega (arith, c .shared-slice-known2 .given (8 * c .before .befor
 
 mul-seen : tie.Need-mul-seen Inv-loop μ-loop
 mul-seen c =
-    let z = c .before .before .before in
-    let s = z .before .args .sheet .now in
-    let n = z .before .args .n in
-    let r = z .loop .r in
-    let seen = z .loop .seen in
-    let b = link-below s n (z .before .pre .0) (z .before .pre .3) r (c .before .before .loop-test .taken) in
-    let d = z .loop .inv .1 in
-    omega (arith, b .0)
+    let start = c .before .before .before .before in
+    let loop = c .before .before .before .loop in
+    let s = start .args .sheet .now in
+    let n = start .args .n in
+    let r = loop .r in
+    let seen = loop .seen in
+    let b = link-below s n (start .pre .0) (start .pre .3) r (c .before .before .loop-test .taken) in
+    let d = loop .inv .1 in omega (arith, b .0)
 
 slice-read-seen : tie.Need-slice-read-seen Inv-loop μ-loop
 slice-read-seen c =
-    let z = c .before .before .before .before in
-    let s = z .before .args .sheet .now in
-    let n = z .before .args .n in
-    let r = z .loop .r in
-    let seen = z .loop .seen in
-    let b = link-below s n (z .before .pre .0) (z .before .pre .3) r (c .before .before .before .loop-test .taken) in
-    let d = z .loop .inv .1 in
-    omega (arith, b .0, d .size)
+    let start = c .before .before .before .before .before in
+    let loop = c .before .before .before .before .loop in
+    let s = start .args .sheet .now in
+    let n = start .args .n in
+    let r = loop .r in
+    let seen = loop .seen in
+    let b = link-below s n (start .pre .0) (start .pre .3) r (c .before .before .before .loop-test .taken) in
+    let d = loop .inv .1 in omega (arith, b .0, d .size)
 
 add-seen : tie.Need-add-seen Inv-loop μ-loop
 add-seen c =
-    let z = c .before .before .before .before in
-    let s = z .before .args .sheet .now in
-    let n = z .before .args .n in
-    let r = z .loop .r in
-    let seen = z .loop .seen in
-    let b = link-below s n (z .before .pre .0) (z .before .pre .3) r (c .before .before .before .loop-test .taken) in
-    let d = z .loop .inv .1 in
-    omega (arith, d .here (next s r) (b .0), linked-le s r (next s r))
+    let start = c .before .before .before .before .before in
+    let loop = c .before .before .before .before .loop in
+    let s = start .args .sheet .now in
+    let n = start .args .n in
+    let r = loop .r in
+    let seen = loop .seen in
+    let b = link-below s n (start .pre .0) (start .pre .3) r (c .before .before .before .loop-test .taken) in
+    let d = loop .inv .1 in omega (arith, d .here (next s r) (b .0), linked-le s r (next s r))
 
 slice-write-seen : tie.Need-slice-write-seen Inv-loop μ-loop
 slice-write-seen c =
-    let z = c .before .before .before .before in
-    let s = z .before .args .sheet .now in
-    let n = z .before .args .n in
-    let r = z .loop .r in
-    let seen = z .loop .seen in
-    let b = link-below s n (z .before .pre .0) (z .before .pre .3) r (c .before .before .before .loop-test .taken) in
-    let d = z .loop .inv .1 in
-    omega (arith, b .0, d .size)
+    let start = c .before .before .before .before .before in
+    let loop = c .before .before .before .before .loop in
+    let s = start .args .sheet .now in
+    let n = start .args .n in
+    let r = loop .r in
+    let seen = loop .seen in
+    let b = link-below s n (start .pre .0) (start .pre .3) r (c .before .before .before .loop-test .taken) in
+    let d = loop .inv .1 in omega (arith, b .0, d .size)
 
 mul-seen-2 : tie.Need-mul-seen-2 Inv-loop μ-loop
 mul-seen-2 c =
-    let z = c .before .before .before .before in
-    let s = z .before .args .sheet .now in
-    let n = z .before .args .n in
-    let r = z .loop .r in
-    let seen = z .loop .seen in
-    let b = link-below s n (z .before .pre .0) (z .before .pre .3) r (c .before .before .before .loop-test .taken) in
-    let d = z .loop .inv .1 in
-    omega (arith, b .1)
+    let start = c .before .before .before .before .before in
+    let loop = c .before .before .before .before .loop in
+    let s = start .args .sheet .now in
+    let n = start .args .n in
+    let r = loop .r in
+    let seen = loop .seen in
+    let b = link-below s n (start .pre .0) (start .pre .3) r (c .before .before .before .loop-test .taken) in
+    let d = loop .inv .1 in omega (arith, b .1)
 
 slice-read-seen-2 : tie.Need-slice-read-seen-2 Inv-loop μ-loop
 slice-read-seen-2 c =
-    let z = c .before .before .before .before .before in
-    let s = z .before .args .sheet .now in
-    let n = z .before .args .n in
-    let r = z .loop .r in
-    let seen = z .loop .seen in
-    let b = link-below s n (z .before .pre .0) (z .before .pre .3) r (c .before .before .before .before .loop-test .taken) in
-    let d = z .loop .inv .1 in
-    omega (arith, b .1, d .size, length-set seen (next s r) (getD seen (next s r) 0 + 1))
+    let start = c .before .before .before .before .before .before in
+    let loop = c .before .before .before .before .before .loop in
+    let loop-test = c .before .before .before .before .loop-test in
+    let s = start .args .sheet .now in
+    let n = start .args .n in
+    let r = loop .r in
+    let seen = loop .seen in
+    let b = link-below s n (start .pre .0) (start .pre .3) r (loop-test .taken) in
+    let d = loop .inv .1 in omega (arith, b .1, d .size, length-set seen (next s r) (getD seen (next s r) 0 + 1))
 
 add-seen-2 : tie.Need-add-seen-2 Inv-loop μ-loop
 add-seen-2 c =
-    let z = c .before .before .before .before .before in
-    let s = z .before .args .sheet .now in
-    let n = z .before .args .n in
-    let r = z .loop .r in
-    let seen = z .loop .seen in
-    let b = link-below s n (z .before .pre .0) (z .before .pre .3) r (c .before .before .before .before .loop-test .taken) in
-    let d = z .loop .inv .1 in
+    let start = c .before .before .before .before .before .before in
+    let loop = c .before .before .before .before .before .loop in
+    let loop-test = c .before .before .before .before .loop-test in
+    let s = start .args .sheet .now in
+    let n = start .args .n in
+    let r = loop .r in
+    let seen = loop .seen in
+    let b = link-below s n (start .pre .0) (start .pre .3) r (loop-test .taken) in
+    let d = loop .inv .1 in
     let l : next s r < length seen = omega (arith, b .0, d .size) in
     omega (arith, d .here (child s r) (b .1), linked-le s r (child s r), more-le seen (next s r) (child s r) l)
 
 slice-write-seen-2 : tie.Need-slice-write-seen-2 Inv-loop μ-loop
 slice-write-seen-2 c =
-    let z = c .before .before .before .before .before in
-    let s = z .before .args .sheet .now in
-    let n = z .before .args .n in
-    let r = z .loop .r in
-    let seen = z .loop .seen in
-    let b = link-below s n (z .before .pre .0) (z .before .pre .3) r (c .before .before .before .before .loop-test .taken) in
-    let d = z .loop .inv .1 in
-    omega (arith, b .1, d .size, length-set seen (next s r) (getD seen (next s r) 0 + 1))
+    let start = c .before .before .before .before .before .before in
+    let loop = c .before .before .before .before .before .loop in
+    let loop-test = c .before .before .before .before .loop-test in
+    let s = start .args .sheet .now in
+    let n = start .args .n in
+    let r = loop .r in
+    let seen = loop .seen in
+    let b = link-below s n (start .pre .0) (start .pre .3) r (loop-test .taken) in
+    let d = loop .inv .1 in omega (arith, b .1, d .size, length-set seen (next s r) (getD seen (next s r) 0 + 1))
 
 add-r : tie.Need-add-r Inv-loop μ-loop
 add-r c = omega arith
@@ -144,23 +148,29 @@ loop-less c = omega arith
 
 loop-again : tie.Need-loop-again Inv-loop μ-loop
 loop-again c =
-    let z = c .before .before .before .before .before in
-    let s = z .before .args .sheet .now in
-    let n = z .before .args .n in
-    let r = z .loop .r in
-    let seen = z .loop .seen in
-    let b = link-below s n (z .before .pre .0) (z .before .pre .3) r (c .before .before .before .before .loop-test .taken) in
-    let d = z .loop .inv .1 in (
+    let start = c .before .before .before .before .before .before in
+    let loop = c .before .before .before .before .before .loop in
+    let loop-test = c .before .before .before .before .loop-test in
+    let s = start .args .sheet .now in
+    let n = start .args .n in
+    let r = loop .r in
+    let seen = loop .seen in
+    let b = link-below s n (start .pre .0) (start .pre .3) r (loop-test .taken) in
+    let d = loop .inv .1 in (
       omega arith,
       counted-next s n r seen d (b .0) (b .1),
-      length-set (more seen (next s r)) (child s r) (getD (more seen (next s r)) (child s r) 0 + 1) ∙ length-set seen (next s r) (getD seen (next s r) 0 + 1) ∙ z .loop .inv .2,
+      length-set (more seen (next s r)) (child s r) (getD (more seen (next s r)) (child s r) 0 + 1)
+          ∙ length-set seen (next s r) (getD seen (next s r) 0 + 1)
+          ∙ loop .inv .2,
     )
 
 same-length : tie.Need-same-length Inv-loop μ-loop
 same-length c = c .before .loop .inv .2
 
 returns : tie.Need-returns Inv-loop μ-loop
-returns c = counted-all _ _ _ _ (c .before .before .pre .0) (c .loop-test .left) (c .before .loop .inv .0) (c .before .loop .inv .1)
+returns c =
+    counted-all _ _ _ _ (c .before .before .pre .0) (c .loop-test .left) (c .before .loop .inv .0)
+    (c .before .loop .inv .1)
 
 pub count-links-spec : {M : Type 1} → statement M
 count-links-spec =

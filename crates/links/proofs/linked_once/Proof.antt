@@ -18,7 +18,11 @@ same-length : tie.Need-same-length
 same-length c = search needs
 
 returns : tie.Need-returns
-returns c = c .all-once .ensures ∙ once-linked (c .before .before .before .before .before .before .before .before .args .sheet .now) (c .before .before .before .before .before .before .before .before .args .n) _ (c .before .before .before .before .before .before .before .before .pre .0) (c .before .before .before .before .count-links .ensures)
+returns c =
+    let start = c .before .before .before .before .before .before .before .before in
+    let count-links = c .before .before .before .before .count-links in
+    c .all-once .ensures
+    ∙ once-linked (start .args .sheet .now) (start .args .n) _ (start .pre .0) (count-links .ensures)
 
 pub linked-once-spec : {M : Type 1} → statement M
 linked-once-spec = tie.close (tie.spec count-links-requires all-once-requires same-length returns)

@@ -54,8 +54,10 @@ link-rises-requires c κs = search needs
 
 returns : tie.Need-returns Inv-loop μ-loop
 returns c =
-    let z = c .before .before .before .before .before in
-    sym (next-fails (z .before .before .args .sheet .now) (z .before .before .args .n) (z .before .before .pre .0) (z .loop .r) (c .before .before .before .before .loop-test .taken)
+    let start = c .before .before .before .before .before .before .before in
+    let loop = c .before .before .before .before .before .loop in
+    let loop-test = c .before .before .before .before .loop-test in
+    sym (next-fails (start .args .sheet .now) (start .args .n) (start .pre .0) (loop .r) (loop-test .taken)
     (sym (c .before .link-rises .ensures) ∙ not-true _ (c .if1 .taken)))
 
 link-rises-requires-2 : tie.Need-link-rises-requires-2 Inv-loop μ-loop
@@ -63,9 +65,12 @@ link-rises-requires-2 c κs = search needs
 
 returns-2 : tie.Need-returns-2 Inv-loop μ-loop
 returns-2 c =
-    let z = c .before .before .before .before .before .before .before in
-    sym (child-fails (z .before .before .args .sheet .now) (z .before .before .args .n) (z .before .before .pre .0) (z .loop .r) (c .before .before .before .before .before .before .loop-test .taken)
-    (sym (c .before .before .before .link-rises .ensures) ∙ not-false _ (c .before .before .if1 .left)) (sym (c .before .link-rises2 .ensures) ∙ not-true _ (c .if2 .taken)))
+    let start = c .before .before .before .before .before .before .before .before .before in
+    let loop = c .before .before .before .before .before .before .before .loop in
+    let loop-test = c .before .before .before .before .before .before .loop-test in
+    sym (child-fails (start .args .sheet .now) (start .args .n) (start .pre .0) (loop .r) (loop-test .taken)
+    (sym (c .before .before .before .link-rises .ensures) ∙ not-false _ (c .before .before .if1 .left))
+    (sym (c .before .link-rises2 .ensures) ∙ not-true _ (c .if2 .taken)))
 
 add-r : tie.Need-add-r Inv-loop μ-loop
 add-r c = omega arith
@@ -75,16 +80,19 @@ loop-less c = omega arith
 
 loop-again : tie.Need-loop-again Inv-loop μ-loop
 loop-again c =
-    let z = c .before .before .before .before .before .before .before in (
+    let start = c .before .before .before .before .before .before .before .before .before in
+    let loop = c .before .before .before .before .before .before .before .loop in (
       omega arith,
-      below-more _ _ (z .loop .inv .1) (both-pass (z .before .before .args .sheet .now) (z .before .before .args .n) (z .before .before .pre .0) (z .loop .r)
-          (sym (c .before .before .before .link-rises .ensures) ∙ not-false _ (c .before .before .if1 .left)) (sym (c .before .link-rises2 .ensures) ∙ not-false _ (c .if2 .left))),
+      below-more _ _ (loop .inv .1) (both-pass (start .args .sheet .now) (start .args .n) (start .pre .0) (loop .r)
+          (sym (c .before .before .before .link-rises .ensures) ∙ not-false _ (c .before .before .if1 .left))
+          (sym (c .before .link-rises2 .ensures) ∙ not-false _ (c .if2 .left))),
     )
 
 returns-3 : tie.Need-returns-3 Inv-loop μ-loop
 returns-3 c =
-    let z = c .before in
-    sym (all-pass (z .before .before .args .sheet .now) (z .before .before .args .n) (z .before .before .pre .0) (z .loop .r) (c .loop-test .left) (z .loop .inv .1))
+    let start = c .before .before .before in
+    sym (all-pass (start .args .sheet .now) (start .args .n) (start .pre .0) (c .before .loop .r) (c .loop-test .left)
+    (c .before .loop .inv .1))
 
 pub links-rise-spec : {M : Type 1} → statement M
 links-rise-spec =

@@ -10,7 +10,8 @@ use Rattle.names.proofs.count_names.Statement.{statement}
 use Rattle.names.proofs.count_names.Tie as tie
 
 abbrev Inv-loop : tie.InvT-loop
-Inv-loop names at₀ count₀ at count = (count + length (listed (drop at names)) ≡ length (listed names)) × (at ≤ length names + 1) × (count ≤ at)
+Inv-loop names at₀ count₀ at count =
+    (count + length (listed (drop at names)) ≡ length (listed names)) × (at ≤ length names + 1) × (count ≤ at)
 
 abbrev μ-loop : tie.MeasureT-loop
 μ-loop names at₀ count₀ at count = length names - at
@@ -34,7 +35,11 @@ loop-again : tie.Need-loop-again Inv-loop μ-loop
 loop-again c = omega (arith, next-count (c .name-end .ensures))
 
 returns : tie.Need-returns Inv-loop μ-loop
-returns c = omega (arith, ap length (past-end (c .before .before .before .args .names .now) (c .before .loop .at) (c .loop-test .left)))
+returns c =
+    omega (
+      arith,
+      ap length (past-end (c .before .before .before .args .names .now) (c .before .loop .at) (c .loop-test .left)),
+    )
 
 pub count-names-spec : {M : Type 1} → statement M
 count-names-spec =

@@ -1,4 +1,5 @@
--- `names::find_starts` meets its contract. Invariant: the starts stored and those of the names from `at` on are all starts. Assumes nothing.
+-- `names::find_starts` meets its contract. Invariant: the starts stored and those of the names from `at` on are all
+-- starts. Assumes nothing.
 use mathlib.Core.Path.{_≡_, refl, sym, ap, _∙_}
 use mathlib.Core.List.{List, _++_}
 use Prim.Native.Nat.{ℕ, _+_, _-_, _≤_}
@@ -12,8 +13,9 @@ use Rattle.names.proofs.find_starts.Statement.{statement}
 use Rattle.names.proofs.find_starts.Tie as tie
 
 abbrev Inv-loop : tie.InvT-loop
-Inv-loop names table₀ at₀ k₀ table at k = (at ≤ length names + 1) × (k + length (listed (drop at names)) ≡ length (listed names)) × (length table ≡ length table₀)
-    × (take k table ++ startsFrom at (listed (drop at names)) ≡ starts names)
+Inv-loop names table₀ at₀ k₀ table at k =
+    (at ≤ length names + 1) × (k + length (listed (drop at names)) ≡ length (listed names))
+    × (length table ≡ length table₀) × (take k table ++ startsFrom at (listed (drop at names)) ≡ starts names)
 
 abbrev μ-loop : tie.MeasureT-loop
 μ-loop names table₀ at₀ k₀ table at k = length names - at
@@ -43,13 +45,15 @@ loop-less : tie.Need-loop-less Inv-loop μ-loop
 loop-less c = omega arith
 
 loop-again : tie.Need-loop-again Inv-loop μ-loop
-loop-again c = let turn = c .before .before in (
-  omega arith,
-  omega (arith, next-count (c .name-end .ensures)),
-  simp length-set (omega arith),
-  store-next (turn .loop .table) (turn .loop .k) (turn .loop .at) _ (omega arith)
-      ∙ ap (λ (l : List ℕ). take (turn .loop .k) (turn .loop .table) ++ l) (sym (next-start (c .name-end .ensures))) ∙ turn .loop .inv .3,
-)
+loop-again c =
+    let loop = c .before .before .loop in (
+      omega arith,
+      omega (arith, next-count (c .name-end .ensures)),
+      simp length-set (omega arith),
+      store-next (loop .table) (loop .k) (loop .at) _ (omega arith)
+          ∙ ap (λ (l : List ℕ). take (loop .k) (loop .table) ++ l) (sym (next-start (c .name-end .ensures)))
+          ∙ loop .inv .3,
+    )
 
 cast-table-2 : tie.Need-cast-table-2 Inv-loop μ-loop
 cast-table-2 c = omega arith
@@ -64,12 +68,16 @@ same-length : tie.Need-same-length Inv-loop μ-loop
 same-length c = simp length-set (omega arith)
 
 returns : tie.Need-returns Inv-loop μ-loop
-returns c = let none = past-end (c .before .before .before .before .args .names .now) (c .before .loop .at) (c .loop-test .left) in (
-  omega (arith, ap length none),
-  omega (arith, ap length none),
-  store-last (c .before .loop .table) (c .before .loop .k) (c .before .loop .at) (omega arith)
-      ∙ ap (λ (l : List Name). take (c .before .loop .k) (c .before .loop .table) ++ startsFrom (c .before .loop .at) l) (sym none) ∙ c .before .loop .inv .3,
-)
+returns c =
+    let start = c .before .before .before .before in
+    let loop = c .before .loop in
+    let none = past-end (start .args .names .now) (loop .at) (c .loop-test .left) in (
+      omega (arith, ap length none),
+      omega (arith, ap length none),
+      store-last (loop .table) (loop .k) (loop .at) (omega arith)
+          ∙ ap (λ (l : List Name). take (loop .k) (loop .table) ++ startsFrom (loop .at) l) (sym none)
+          ∙ loop .inv .3,
+    )
 
 pub find-starts-spec : {M : Type 1} → statement M
 find-starts-spec =

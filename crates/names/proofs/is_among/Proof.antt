@@ -1,4 +1,5 @@
--- `names::is_among` meets its contract. Invariant: the name is among those asked about if it is among those from `k` on. Assumes nothing.
+-- `names::is_among` meets its contract. Invariant: the name is among those asked about if it is among those from `k`
+-- on. Assumes nothing.
 use mathlib.Core.Path.{_≡_, refl, sym, ap, _∙_}
 use Prim.Native.Nat.{_-_, _<_}
 use native.Mathlib.Omega.{arith}
@@ -12,7 +13,8 @@ use Rattle.names.proofs.is_among.Statement.{statement}
 use Rattle.names.proofs.is_among.Tie as tie
 
 abbrev Inv-loop : tie.InvT-loop
-Inv-loop name names table from k₀ k = (k < length table) × (any (sameName name) (drop k (listed names)) ≡ any (sameName name) (drop from (listed names)))
+Inv-loop name names table from k₀ k =
+    (k < length table) × (any (sameName name) (drop k (listed names)) ≡ any (sameName name) (drop from (listed names)))
 
 abbrev μ-loop : tie.MeasureT-loop
 μ-loop name names table from k₀ k = length table - k
@@ -31,10 +33,13 @@ same-name-requires c κs = search needs
 
 returns : tie.Need-returns Inv-loop μ-loop
 returns c =
-    let entry = c .before .before .before .before .before .before .before .before in
-    let first = names-step (entry .args .names .now) (entry .pre .0) (c .before .before .before .before .loop .k) (omega arith) (c .before .before .name-at .ensures) in
-    sym (any-first first (sameName (entry .args .name .now)) (sym (c .if1 .taken) ∙ c .before .same-name .ensures))
-    ∙ c .before .before .before .before .loop .inv .1
+    let start = c .before .before .before .before .before .before .before .before in
+    let loop = c .before .before .before .before .loop in
+    let first =
+    names-step (start .args .names .now) (start .pre .0) (loop .k) (omega arith)
+    (c .before .before .name-at .ensures) in
+    sym (any-first first (sameName (start .args .name .now)) (sym (c .if1 .taken) ∙ c .before .same-name .ensures))
+    ∙ loop .inv .1
 
 add-k : tie.Need-add-k Inv-loop μ-loop
 add-k c = omega arith
@@ -44,14 +49,21 @@ loop-less c = omega arith
 
 loop-again : tie.Need-loop-again Inv-loop μ-loop
 loop-again c =
-    let entry = c .before .before .before .before .before .before .before .before in
-    let first = names-step (entry .args .names .now) (entry .pre .0) (c .before .before .before .before .loop .k) (omega arith) (c .before .before .name-at .ensures) in
-    (omega arith, sym (any-first first (sameName (entry .args .name .now)) (sym (c .if1 .left) ∙ c .before .same-name .ensures)) ∙ c .before .before .before .before .loop .inv .1)
+    let start = c .before .before .before .before .before .before .before .before in
+    let loop = c .before .before .before .before .loop in
+    let first =
+    names-step (start .args .names .now) (start .pre .0) (loop .k) (omega arith)
+    (c .before .before .name-at .ensures) in (
+      omega arith,
+      sym (any-first first (sameName (start .args .name .now)) (sym (c .if1 .left) ∙ c .before .same-name .ensures))
+          ∙ loop .inv .1,
+    )
 
 returns-2 : tie.Need-returns-2 Inv-loop μ-loop
 returns-2 c =
-    let entry = c .before .before .before .before .before in
-    sym (ap (any (sameName (entry .args .name .now))) (no-more (entry .args .names .now) (entry .pre .0) (c .before .loop .k) (omega arith)))
+    let start = c .before .before .before .before .before in
+    sym (ap (any (sameName (start .args .name .now)))
+    (no-more (start .args .names .now) (start .pre .0) (c .before .loop .k) (omega arith)))
     ∙ c .before .loop .inv .1
 
 pub is-among-spec : {M : Type 1} → statement M

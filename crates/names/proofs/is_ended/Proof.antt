@@ -20,8 +20,9 @@ shared-slice-read-result c = search needs
 
 returns-2 : tie.Need-returns-2
 returns-2 c =
-    let entry = c .before .before in
-    ap (λ (x : ℕ). eqb x 10) (getD-inside (entry .args .names .now) (length (entry .args .names .now) - 1) 0 10 (omega arith))
+    let start = c .before .before in
+    ap (λ (x : ℕ). eqb x 10)
+    (getD-inside (start .args .names .now) (length (start .args .names .now) - 1) 0 10 (omega arith))
 
 pub is-ended-spec : {M : Type 1} → statement M
 is-ended-spec = tie.close (tie.spec returns sub-result shared-slice-read-result returns-2)

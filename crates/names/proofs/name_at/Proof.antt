@@ -29,23 +29,29 @@ cast-end : tie.Need-cast-end
 cast-end c = omega (arith, c .shared-slice-known2 .given (c .before .before .args .k + 1))
 
 sub-end : tie.Need-sub-end
-sub-end c = let entry = c .before .before in omega (arith, cut (entry .args .names .now) (entry .pre .0) (entry .args .k) (entry .pre .1) .rises)
+sub-end c =
+    let start = c .before .before in
+    omega (arith, cut (start .args .names .now) (start .pre .0) (start .args .k) (start .pre .1) .rises)
 
 sub-result : tie.Need-sub-result
-sub-result c = let entry = c .before .before in omega (arith, cut (entry .args .names .now) (entry .pre .0) (entry .args .k) (entry .pre .1) .rises)
+sub-result c =
+    let start = c .before .before in
+    omega (arith, cut (start .args .names .now) (start .pre .0) (start .args .k) (start .pre .1) .rises)
 
 part-result-start : tie.Need-part-result-start
 part-result-start c =
-    let entry = c .before .before in
-    omega (arith, cut (entry .args .names .now) (entry .pre .0) (entry .args .k) (entry .pre .1) .rises)
+    let start = c .before .before in
+    omega (arith, cut (start .args .names .now) (start .pre .0) (start .args .k) (start .pre .1) .rises)
 
 part-result-end : tie.Need-part-result-end
 part-result-end c =
-    let entry = c .before .before in
-    omega (arith, cut (entry .args .names .now) (entry .pre .0) (entry .args .k) (entry .pre .1) .within)
+    let start = c .before .before in
+    omega (arith, cut (start .args .names .now) (start .pre .0) (start .args .k) (start .pre .1) .within)
 
 returns : tie.Need-returns
-returns c = let entry = c .before .before .before in sym (cut (entry .args .names .now) (entry .pre .0) (entry .args .k) (entry .pre .1) .bytes)
+returns c =
+    let start = c .before .before .before in
+    sym (cut (start .args .names .now) (start .pre .0) (start .args .k) (start .pre .1) .bytes)
 
 pub name-at-spec : {M : Type 1} → statement M
 name-at-spec =

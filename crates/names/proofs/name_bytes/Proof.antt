@@ -12,7 +12,8 @@ use Rattle.names.proofs.name_bytes.Statement.{statement}
 use Rattle.names.proofs.name_bytes.Tie as tie
 
 abbrev Inv-loop : tie.InvT-loop
-Inv-loop names number left₀ at₀ left at = (at ≤ length names + 1) × (getD (listed (drop at names)) left [] ≡ getD (listed names) (number - 25) [])
+Inv-loop names number left₀ at₀ left at =
+    (at ≤ length names + 1) × (getD (listed (drop at names)) left [] ≡ getD (listed names) (number - 25) [])
 
 abbrev μ-loop : tie.MeasureT-loop
 μ-loop names number left₀ at₀ left at = length names - at
@@ -43,11 +44,11 @@ part-result-end c = omega arith
 
 returns-2 : tie.Need-returns-2 Inv-loop μ-loop
 returns-2 c =
-    let entry = c .before .before .before .before .before .before .before in
-    let turn = c .before .before .before .before in
-    sym (name-here (c .before .before .name-end .ensures) (turn .loop .left) (omega arith))
-    ∙ turn .loop .inv .1
-    ∙ name-of (entry .args .names .now) (entry .args .number) (omega arith)
+    let start = c .before .before .before .before .before .before .before in
+    let loop = c .before .before .before .before .loop in
+    sym (name-here (c .before .before .name-end .ensures) (loop .left) (omega arith))
+    ∙ loop .inv .1
+    ∙ name-of (start .args .names .now) (start .args .number) (omega arith)
 
 sub-left : tie.Need-sub-left Inv-loop μ-loop
 sub-left c = omega arith
@@ -57,18 +58,20 @@ loop-less c = omega arith
 
 loop-again : tie.Need-loop-again Inv-loop μ-loop
 loop-again c =
-    let turn = c .before .before .before in
-    (omega arith, sym (name-later (c .before .name-end .ensures) (turn .loop .left) (c .if2 .left)) ∙ turn .loop .inv .1)
+    let loop = c .before .before .before .loop in
+    (omega arith, sym (name-later (c .before .name-end .ensures) (loop .left) (c .if2 .left)) ∙ loop .inv .1)
 
 slice-aggregate-result-2 : tie.Need-slice-aggregate-result-2 Inv-loop μ-loop
 slice-aggregate-result-2 c = search needs
 
 returns-3 : tie.Need-returns-3 Inv-loop μ-loop
 returns-3 c =
-    let entry = c .before .before .before .before .before in
-    sym (ap (λ (l : List Name). getD l (c .before .before .loop .left) []) (past-end (entry .args .names .now) (c .before .before .loop .at) (c .before .loop-test .left)))
-    ∙ c .before .before .loop .inv .1
-    ∙ name-of (entry .args .names .now) (entry .args .number) (omega arith)
+    let start = c .before .before .before .before .before in
+    let loop = c .before .before .loop in
+    sym (ap (λ (l : List Name). getD l (loop .left) [])
+    (past-end (start .args .names .now) (loop .at) (c .before .loop-test .left)))
+    ∙ loop .inv .1
+    ∙ name-of (start .args .names .now) (start .args .number) (omega arith)
 
 pub name-bytes-spec : {M : Type 1} → statement M
 name-bytes-spec =

@@ -1,4 +1,5 @@
--- `names::name_end` meets its contract. Invariant: what is passed and what is still before the end add up to the name's size. Assumes nothing.
+-- `names::name_end` meets its contract. Invariant: what is passed and what is still before the end add up to the name's
+-- size. Assumes nothing.
 use mathlib.Core.Path.{_≡_, refl}
 use Prim.Native.Nat.{_+_, _-_, _≤_}
 use native.Mathlib.Omega.{arith}
@@ -22,9 +23,11 @@ shared-slice-read-if1 c = omega arith
 
 returns : tie.Need-returns Inv-loop μ-loop
 returns c =
-    let entry = c .before .before .before .before in
-    let q = size-end (entry .args .names .now) (c .before .before .before .loop .i) (c .before .before .loop-test .taken) (c .if1 .taken) in
-    record { inside = entry .pre; size = omega (arith, q); within = omega arith }
+    let start = c .before .before .before .before in
+    let q =
+    size-end (start .args .names .now) (c .before .before .before .loop .i) (c .before .before .loop-test .taken)
+    (c .if1 .taken) in
+    record { inside = start .pre; size = omega (arith, q); within = omega arith }
 
 add-i : tie.Need-add-i Inv-loop μ-loop
 add-i c = omega arith
@@ -34,12 +37,21 @@ loop-less c = omega arith
 
 loop-again : tie.Need-loop-again Inv-loop μ-loop
 loop-again c =
-    omega (arith, size-more (c .before .before .before .before .args .names .now) (c .before .before .before .loop .i) (c .before .before .loop-test .taken) (c .if1 .left))
+    let start = c .before .before .before .before in
+    omega (
+      arith,
+      size-more (start .args .names .now) (c .before .before .before .loop .i) (c .before .before .loop-test .taken)
+          (c .if1 .left),
+    )
 
 returns-2 : tie.Need-returns-2 Inv-loop μ-loop
 returns-2 c =
-    let entry = c .before .before in
-    record { inside = entry .pre; size = omega (arith, size-out (entry .args .names .now) (c .before .loop .i) (c .loop-test .left)); within = omega arith }
+    let start = c .before .before in
+    record {
+      inside = start .pre;
+      size = omega (arith, size-out (start .args .names .now) (c .before .loop .i) (c .loop-test .left));
+      within = omega arith;
+    }
 
 pub name-end-spec : {M : Type 1} → statement M
 name-end-spec =

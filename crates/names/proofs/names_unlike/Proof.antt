@@ -1,4 +1,5 @@
--- `names::names_unlike` meets its contract: the fixed names, which are unlike, are compared with the listed ones, and those with each other. Assumes nothing.
+-- `names::names_unlike` meets its contract: the fixed names, which are unlike, are compared with the listed ones, and
+-- those with each other. Assumes nothing.
 use mathlib.Core.Path.{sym, _∙_}
 use borrow.Author.Needs.{needs}
 use borrow.Author.Tests.{not-true, not-false}
@@ -17,15 +18,17 @@ none-shared-requires c κs = search needs
 
 returns : tie.Need-returns
 returns c =
-    sym (fixed-first (c .before .before .before .before .before .before .args .names .now) (sym (not-true _ (c .if1 .taken)) ∙ c .before .none-shared .ensures))
+    let start = c .before .before .before .before .before .before in
+    sym (fixed-first (start .args .names .now) (sym (not-true _ (c .if1 .taken)) ∙ c .before .none-shared .ensures))
 
 none-twice-requires : tie.Need-none-twice-requires
 none-twice-requires c κs = search needs
 
 returns-2 : tie.Need-returns-2
 returns-2 c =
+    let start = c .before .before .before .before .before .before .before in
     c .none-twice .ensures
-    ∙ sym (fixed-first (c .before .before .before .before .before .before .before .args .names .now)
+    ∙ sym (fixed-first (start .args .names .now)
     (sym (not-false _ (c .before .if1 .left)) ∙ c .before .before .none-shared .ensures))
 
 pub names-unlike-spec : {M : Type 1} → statement M

@@ -13,7 +13,8 @@ use Rattle.names.proofs.none_shared.Statement.{statement}
 use Rattle.names.proofs.none_shared.Tie as tie
 
 abbrev Inv-loop : tie.InvT-loop
-Inv-loop ours places names table i₀ i = (i ≤ length places) × (all (absent names) (drop i (listed ours)) ≡ all (absent names) (listed ours))
+Inv-loop ours places names table i₀ i =
+    (i ≤ length places) × (all (absent names) (drop i (listed ours)) ≡ all (absent names) (listed ours))
 
 abbrev μ-loop : tie.MeasureT-loop
 μ-loop ours places names table i₀ i = length places - i
@@ -29,15 +30,19 @@ name-at-requires c κs = (c .before .before .before .before .before .before .pre
 
 is-among-requires : tie.Need-is-among-requires Inv-loop μ-loop
 is-among-requires c κs =
-    let entry = c .before .before .before .before .before .before .before in
-    (entry .pre .1, table-some (entry .args .names .now) (entry .pre .1))
+    let start = c .before .before .before .before .before .before .before in
+    (start .pre .1, table-some (start .args .names .now) (start .pre .1))
 
 returns : tie.Need-returns Inv-loop μ-loop
 returns c =
-    let entry = c .before .before .before .before .before .before .before .before .before in
-    let first = names-step (entry .args .ours .now) (entry .pre .0) (c .before .before .before .before .loop .i) (omega arith) (c .before .before .name-at .ensures) in
-    sym (all-first first (absent (entry .args .names .now)) (ap not (sym (c .if1 .taken) ∙ c .before .is-among .ensures)))
-    ∙ c .before .before .before .before .loop .inv .1
+    let start = c .before .before .before .before .before .before .before .before .before in
+    let loop = c .before .before .before .before .loop in
+    let first =
+    names-step (start .args .ours .now) (start .pre .0) (loop .i) (omega arith)
+    (c .before .before .name-at .ensures) in
+    sym
+    (all-first first (absent (start .args .names .now)) (ap not (sym (c .if1 .taken) ∙ c .before .is-among .ensures)))
+    ∙ loop .inv .1
 
 add-i : tie.Need-add-i Inv-loop μ-loop
 add-i c = omega arith
@@ -47,14 +52,22 @@ loop-less c = omega arith
 
 loop-again : tie.Need-loop-again Inv-loop μ-loop
 loop-again c =
-    let entry = c .before .before .before .before .before .before .before .before .before in
-    let first = names-step (entry .args .ours .now) (entry .pre .0) (c .before .before .before .before .loop .i) (omega arith) (c .before .before .name-at .ensures) in
-    (omega arith, sym (all-first first (absent (entry .args .names .now)) (ap not (sym (c .if1 .left) ∙ c .before .is-among .ensures))) ∙ c .before .before .before .before .loop .inv .1)
+    let start = c .before .before .before .before .before .before .before .before .before in
+    let loop = c .before .before .before .before .loop in
+    let first =
+    names-step (start .args .ours .now) (start .pre .0) (loop .i) (omega arith)
+    (c .before .before .name-at .ensures) in (
+      omega arith,
+      sym (all-first first (absent (start .args .names .now))
+          (ap not (sym (c .if1 .left) ∙ c .before .is-among .ensures)))
+          ∙ loop .inv .1,
+    )
 
 returns-2 : tie.Need-returns-2 Inv-loop μ-loop
 returns-2 c =
-    let entry = c .before .before .before .before .before .before in
-    sym (ap (all (absent (entry .args .names .now))) (no-more (entry .args .ours .now) (entry .pre .0) (c .before .loop .i) (omega arith)))
+    let start = c .before .before .before .before .before .before in
+    sym (ap (all (absent (start .args .names .now)))
+    (no-more (start .args .ours .now) (start .pre .0) (c .before .loop .i) (omega arith)))
     ∙ c .before .loop .inv .1
 
 pub none-shared-spec : {M : Type 1} → statement M

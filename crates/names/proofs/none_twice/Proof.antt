@@ -33,10 +33,12 @@ is-among-requires c κs = (c .before .before .before .before .before .pre, omega
 
 returns : tie.Need-returns Inv-loop μ-loop
 returns c =
-    let entry = c .before .before .before .before .before .before .before in
-    let first = names-step (entry .args .names .now) (entry .pre) (c .before .before .before .before .loop .i) (omega arith) (c .before .before .name-at .ensures) in
-    sym (unlike-first first sameName (sym (c .if1 .taken) ∙ c .before .is-among .ensures))
-    ∙ c .before .before .before .before .loop .inv .1
+    let start = c .before .before .before .before .before .before .before in
+    let loop = c .before .before .before .before .loop in
+    let first =
+    names-step (start .args .names .now) (start .pre) (loop .i) (omega arith)
+    (c .before .before .name-at .ensures) in
+    sym (unlike-first first sameName (sym (c .if1 .taken) ∙ c .before .is-among .ensures)) ∙ loop .inv .1
 
 add-i : tie.Need-add-i Inv-loop μ-loop
 add-i c = omega arith
@@ -46,14 +48,17 @@ loop-less c = omega arith
 
 loop-again : tie.Need-loop-again Inv-loop μ-loop
 loop-again c =
-    let entry = c .before .before .before .before .before .before .before in
-    let first = names-step (entry .args .names .now) (entry .pre) (c .before .before .before .before .loop .i) (omega arith) (c .before .before .name-at .ensures) in
-    (omega arith, sym (unlike-first first sameName (sym (c .if1 .left) ∙ c .before .is-among .ensures)) ∙ c .before .before .before .before .loop .inv .1)
+    let start = c .before .before .before .before .before .before .before in
+    let loop = c .before .before .before .before .loop in
+    let first =
+    names-step (start .args .names .now) (start .pre) (loop .i) (omega arith)
+    (c .before .before .name-at .ensures) in
+    (omega arith, sym (unlike-first first sameName (sym (c .if1 .left) ∙ c .before .is-among .ensures)) ∙ loop .inv .1)
 
 returns-2 : tie.Need-returns-2 Inv-loop μ-loop
 returns-2 c =
-    let entry = c .before .before .before .before in
-    sym (ap (unlike sameName) (no-more (entry .args .names .now) (entry .pre) (c .before .loop .i) (omega arith)))
+    let start = c .before .before .before .before in
+    sym (ap (unlike sameName) (no-more (start .args .names .now) (start .pre) (c .before .loop .i) (omega arith)))
     ∙ c .before .loop .inv .1
 
 pub none-twice-spec : {M : Type 1} → statement M

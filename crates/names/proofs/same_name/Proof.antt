@@ -31,23 +31,31 @@ shared-slice-read-if2-2 c = omega arith
 
 returns-2 : tie.Need-returns-2 Inv-loop μ-loop
 returns-2 c =
-    let entry = c .before .before .before .before .before .before in
-    let turn = c .before .before .before .before in
-    sym (same-not (entry .args .a .now) (entry .args .b .now) (turn .loop .i) (omega arith) (omega arith) (omega arith) (λ e. omega arith)) ∙ turn .loop .inv .2
+    let start = c .before .before .before .before .before .before in
+    let loop = c .before .before .before .before .loop in
+    sym (same-not (start .args .a .now) (start .args .b .now) (loop .i) (omega arith) (omega arith) (omega arith)
+    (λ e. omega arith))
+    ∙ loop .inv .2
 
 loop-less : tie.Need-loop-less Inv-loop μ-loop
 loop-less c = omega arith
 
 loop-again : tie.Need-loop-again Inv-loop μ-loop
 loop-again c =
-    let entry = c .before .before .before .before .before .before in
-    let turn = c .before .before .before .before in
-    (omega arith, omega arith, sym (same-so-far (entry .args .a .now) (entry .args .b .now) (turn .loop .i) (omega arith) (omega arith) (omega arith) (omega arith)) ∙ turn .loop .inv .2)
+    let start = c .before .before .before .before .before .before in
+    let loop = c .before .before .before .before .loop in (
+      omega arith,
+      omega arith,
+      sym (same-so-far (start .args .a .now) (start .args .b .now) (loop .i) (omega arith) (omega arith) (omega arith)
+          (omega arith))
+          ∙ loop .inv .2,
+    )
 
 returns-3 : tie.Need-returns-3 Inv-loop μ-loop
 returns-3 c =
-    let entry = c .before .before .before in
-    sym (same-end (entry .args .a .now) (entry .args .b .now) (c .before .loop .i) (omega arith)) ∙ c .before .loop .inv .2
+    let start = c .before .before .before in
+    sym (same-end (start .args .a .now) (start .args .b .now) (c .before .loop .i) (omega arith))
+    ∙ c .before .loop .inv .2
 
 pub same-name-spec : {M : Type 1} → statement M
 same-name-spec =

@@ -25,7 +25,17 @@ word-requires-5 c κs = search needs
 
 returns-2 : tie.Need-returns-2
 unfolding declarationOk
-returns-2 c = rw (← c .before .before .before .before .before .word .ensures, eq-eqb _ _ (c .before .before .before .before .if1 .left), c .before .word4 .ensures, c .word5 .ensures, c .before .before .before .word2 .ensures, c .before .before .word3 .ensures)
+returns-2 c =
+    let word = c .before .before .before .before .before .word in
+    let if1 = c .before .before .before .before .if1 in
+    rw (
+      ← word .ensures,
+      eq-eqb _ _ (if1 .left),
+      c .before .word4 .ensures,
+      c .word5 .ensures,
+      c .before .before .before .word2 .ensures,
+      c .before .before .word3 .ensures,
+    )
 
 pub declaration-fits-spec : {M : Type 1} → statement M
 declaration-fits-spec =

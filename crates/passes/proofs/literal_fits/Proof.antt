@@ -16,7 +16,13 @@ word-requires-2 c κs = search needs
 
 returns-2 : tie.Need-returns-2
 unfolding literalOk
-returns-2 c = rw (← c .before .before .before .word .ensures, eq-eqb _ _ (c .before .before .if1 .left), ← c .before .word2 .ensures, eq-eqb _ _ (c .if2 .taken))
+returns-2 c =
+    rw (
+      ← c .before .before .before .word .ensures,
+      eq-eqb _ _ (c .before .before .if1 .left),
+      ← c .before .word2 .ensures,
+      eq-eqb _ _ (c .if2 .taken),
+    )
 
 word-requires-3 : tie.Need-word-requires-3
 word-requires-3 c κs = search needs
@@ -26,7 +32,17 @@ word-requires-4 c κs = search needs
 
 returns-3 : tie.Need-returns-3
 unfolding literalOk
-returns-3 c = rw (← c .before .before .before .before .before .word .ensures, eq-eqb _ _ (c .before .before .before .before .if1 .left), ← c .before .before .before .word2 .ensures, ne-eqb _ _ (c .before .before .if2 .left), c .before .word3 .ensures, c .word4 .ensures)
+returns-3 c =
+    let word = c .before .before .before .before .before .word in
+    let if1 = c .before .before .before .before .if1 in
+    rw (
+      ← word .ensures,
+      eq-eqb _ _ (if1 .left),
+      ← c .before .before .before .word2 .ensures,
+      ne-eqb _ _ (c .before .before .if2 .left),
+      c .before .word3 .ensures,
+      c .word4 .ensures,
+    )
 
 pub literal-fits-spec : {M : Type 1} → statement M
 literal-fits-spec =

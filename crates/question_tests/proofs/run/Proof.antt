@@ -1,4 +1,5 @@
--- `question_tests::run` is safe and ends. Invariant: the lengths stay, and `at` is at most one past the script's end. The measure is what is left of the script. Assumes nothing.
+-- `question_tests::run` is safe and ends. Invariant: the lengths stay, and `at` is at most one past the script's end.
+-- The measure is what is left of the script. Assumes nothing.
 use mathlib.Core.Path.{_≡_}
 use Prim.Native.Nat.{_+_, _-_, _≤_}
 use borrow.Author.Needs.{needs}
@@ -7,7 +8,9 @@ use Rattle.question_tests.proofs.run.Statement.{statement}
 use Rattle.question_tests.proofs.run.Tie as tie
 
 abbrev Inv-loop : tie.InvT-loop
-Inv-loop script sheet₀ work₀ names₀ used₀ at₀ sheet work names used at = (length sheet ≡ length sheet₀) × (length work ≡ length work₀) × (length names ≡ length names₀) × (at ≤ length script + 1)
+Inv-loop script sheet₀ work₀ names₀ used₀ at₀ sheet work names used at =
+    (length sheet ≡ length sheet₀) × (length work ≡ length work₀) × (length names ≡ length names₀)
+    × (at ≤ length script + 1)
 
 abbrev μ-loop : tie.MeasureT-loop
 μ-loop script sheet₀ work₀ names₀ used₀ at₀ sheet work names used at = length script + 1 - at

@@ -13,7 +13,9 @@ slice-relend-prefix-read-full : tie.Need-slice-relend-prefix-read-full
 slice-relend-prefix-read-full c = search needs
 
 slice-aggregate-read-full : tie.Need-slice-aggregate-read-full
-slice-aggregate-read-full c = sym (length-take-le (c .before .before .before .args .n) (c .before .before .before .args .bytes .now) (search needs))
+slice-aggregate-read-full c =
+    sym
+    (length-take-le (c .before .before .before .args .n) (c .before .before .before .args .bytes .now) (search needs))
 
 read-full-requires : tie.Need-read-full-requires
 read-full-requires c κs = search needs

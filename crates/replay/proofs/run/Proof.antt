@@ -6,7 +6,8 @@ use Rattle.replay.proofs.run.Statement.{statement}
 use Rattle.replay.proofs.run.Tie as tie
 
 abbrev Inv-loop : tie.InvT-loop
-Inv-loop sheet₀ names₀ text₀ left₀ sheet names text left = (length sheet ≡ length sheet₀) × (length names ≡ length names₀) × (length text ≡ length text₀)
+Inv-loop sheet₀ names₀ text₀ left₀ sheet names text left =
+    (length sheet ≡ length sheet₀) × (length names ≡ length names₀) × (length text ≡ length text₀)
 
 abbrev μ-loop : tie.MeasureT-loop
 μ-loop sheet₀ names₀ text₀ left₀ sheet names text left = left

@@ -15,7 +15,9 @@ use Rattle.symbols.proofs.decl.define.Reads as define-reads
 use Rattle.words.proofs.word.Reads as word-reads
 
 abbrev Inv-loop : tie.InvT-loop
-Inv-loop s outside v₀ globals e₀ i₀ v e i = (scopesOf e v ≡ openNames s (namesFrom outside i i₀) (noScopes s v₀)) × (i ≤ i₀) × (min i₀ 1 ≤ i) × (length v ≡ length v₀)
+Inv-loop s outside v₀ globals e₀ i₀ v e i =
+    (scopesOf e v ≡ openNames s (namesFrom outside i i₀) (noScopes s v₀)) × (i ≤ i₀) × (min i₀ 1 ≤ i)
+    × (length v ≡ length v₀)
 
 abbrev μ-loop : tie.MeasureT-loop
 μ-loop s outside v₀ globals e₀ i₀ v e i = i
@@ -27,7 +29,14 @@ word-requires-2 : tie.Need-word-requires-2 Inv-loop μ-loop
 word-requires-2 c κs = tt
 
 loop-holds : tie.Need-loop-holds Inv-loop μ-loop
-loop-holds c = (rw (c .before .word .ensures) (names-last (c .before .before .before .before .before .args .sheet .now) (c .before .before .before .before .before .args .outside .now) (c .word2 .result) (noScopes (c .before .before .before .before .before .args .sheet .now) (c .before .before .before .before .before .args .entries .now))), omega arith, omega arith, refl)
+loop-holds c =
+    let start = c .before .before .before .before .before in (
+      rw (c .before .word .ensures) (names-last (start .args .sheet .now) (start .args .outside .now) (c .word2 .result)
+          (noScopes (start .args .sheet .now) (start .args .entries .now))),
+      omega arith,
+      omega arith,
+      refl,
+    )
 
 sub-i : tie.Need-sub-i Inv-loop μ-loop
 sub-i c = omega (arith, c .loop-test .taken)
@@ -45,13 +54,34 @@ loop-less : tie.Need-loop-less Inv-loop μ-loop
 loop-less c = omega (arith, c .before .before .before .before .before .before .loop-test .taken)
 
 loop-again : tie.Need-loop-again Inv-loop μ-loop
-loop-again c = (c .before .before .define .ensures (nameAt (c .before .before .before .before .before .before .before .before .before .before .before .before .before .args .outside .now) (c .before .before .before .before .before .before .before .loop .i - 1) .means) (c .before .before .before .before .visible-at .ensures (c .before .before .before .before .before .before .before .loop .entries)) ∙ names-more (c .before .before .before .before .before .before .before .before .before .before .before .before .before .args .sheet .now) (c .before .before .before .before .before .before .before .before .before .before .before .before .before .args .outside .now) (c .before .before .before .before .before .before .before .loop .i) (c .before .before .before .before .before .before .before .before .word2 .result) (noScopes (c .before .before .before .before .before .before .before .before .before .before .before .before .before .args .sheet .now) (c .before .before .before .before .before .before .before .before .before .before .before .before .before .args .entries .now)) (scopesOf (c .before .before .before .before .before .before .before .loop .e) (c .before .before .before .before .before .before .before .loop .entries)) (c .before .before .before .before .before .before .loop-test .taken) (c .before .before .before .before .before .before .before .loop .inv .1) (c .before .before .before .before .before .before .before .loop .inv .0) (c .before .before .before .before .before .word3 .ensures), omega (arith, c .before .before .before .before .before .before .before .loop .inv .1), omega (arith, c .before .before .before .before .before .before .loop-test .taken), omega (arith, c .before .before .define .kept, c .before .before .before .before .before .before .before .loop .inv .3))
+loop-again c =
+    let start = c .before .before .before .before .before .before .before .before .before .before .before .before .before in
+    let word2 = c .before .before .before .before .before .before .before .before .word2 in
+    let loop = c .before .before .before .before .before .before .before .loop in
+    let loop-test = c .before .before .before .before .before .before .loop-test in
+    let word3 = c .before .before .before .before .before .word3 in
+    let visible-at = c .before .before .before .before .visible-at in
+    let at-define = c .before .before .define in (
+      at-define .ensures (nameAt (start .args .outside .now) (loop .i - 1) .means) (visible-at .ensures (loop .entries))
+          ∙ names-more (start .args .sheet .now) (start .args .outside .now) (loop .i) (word2 .result)
+          (noScopes (start .args .sheet .now) (start .args .entries .now)) (scopesOf (loop .e) (loop .entries))
+          (loop-test .taken) (loop .inv .1) (loop .inv .0) (word3 .ensures),
+      omega (arith, loop .inv .1),
+      omega (arith, loop-test .taken),
+      omega (arith, at-define .kept, loop .inv .3),
+    )
 
 same-length : tie.Need-same-length Inv-loop μ-loop
 same-length c = c .before .loop .inv .3
 
 returns : tie.Need-returns Inv-loop μ-loop
-returns c = names-all (c .before .before .before .before .before .before .before .args .sheet .now) (c .before .before .before .before .before .before .before .args .outside .now) (c .before .loop .i) (c .before .before .word2 .result) (noScopes (c .before .before .before .before .before .before .before .args .sheet .now) (c .before .before .before .before .before .before .before .args .entries .now)) (omega (arith, c .loop-test .left)) (c .before .loop .inv .1) (c .before .loop .inv .2) (c .before .before .word2 .ensures) (c .before .loop .inv .0)
+returns c =
+    let start = c .before .before .before .before .before .before .before in
+    let word2 = c .before .before .word2 in
+    let loop = c .before .loop in
+    names-all (start .args .sheet .now) (start .args .outside .now) (loop .i) (word2 .result)
+    (noScopes (start .args .sheet .now) (start .args .entries .now)) (omega (arith, c .loop-test .left)) (loop .inv .1)
+    (loop .inv .2) (word2 .ensures) (loop .inv .0)
 
 pub open-names-spec : {M : Type 1} → statement M
 open-names-spec =

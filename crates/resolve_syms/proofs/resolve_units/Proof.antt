@@ -11,16 +11,29 @@ use Rattle.resolve_syms.proofs.cycle.resolve_parts.Reads as resolve-par
 use Rattle.resolve_syms.proofs.open_names.Reads as open-names-reads
 
 class-table-requires : tie.Need-class-table-requires
-class-table-requires c κs = ((over (c .before .before .before .before .before .before .before .args .outside .now), c .before .before .before .before .before .before .before .pre .0), c .before .before .before .before .before .before .before .pre .1 .for-classes, c .before .before .before .before .before .before .before .pre .1 .clear-classes)
+class-table-requires c κs =
+    let start = c .before .before .before .before .before .before .before in
+    ((over (start .args .outside .now), start .pre .0), start .pre .1 .for-classes, start .pre .1 .clear-classes)
 
 open-names-requires : tie.Need-open-names-requires
 open-names-requires c κs = search needs
 
 sub-resolve-parts : tie.Need-sub-resolve-parts
-sub-resolve-parts c = omega (arith, some-rows (over (c .before .before .before .before .before .before .before .before .before .before .before .before .before .before .before .args .outside .now)) (c .before .before .before .before .before .before .before .before .before .before .before .before .before .before .before .args .sheet .now) (c .before .before .before .before .before .before .before .before .before .before .before .before .before .before .before .pre .0))
+sub-resolve-parts c =
+    let start =
+    c .before .before .before .before .before .before .before .before .before .before .before .before .before
+    .before .before in
+    omega (arith, some-rows (over (start .args .outside .now)) (start .args .sheet .now) (start .pre .0))
 
 resolve-parts-requires : tie.Need-resolve-parts-requires
-resolve-parts-requires c κs = record { small = sheet-small (over (c .before .before .before .before .before .before .before .before .before .before .before .before .before .before .before .before .before .before .args .outside .now)) (c .before .before .before .before .before .before .before .before .before .before .before .before .before .before .before .before .before .before .args .sheet .now) (c .before .before .before .before .before .before .before .before .before .before .before .before .before .before .before .before .before .before .pre .0); classes = c .before .before .before .before .before .before .before .before .before .before .class-table .ensures }
+resolve-parts-requires c κs =
+    let at-class-table = c .before .before .before .before .before .before .before .before .before .before in
+    let start = at-class-table .before .before .before .before .before .before .before .before in
+    let class-table = at-class-table .class-table in
+    record {
+      small = sheet-small (over (start .args .outside .now)) (start .args .sheet .now) (start .pre .0);
+      classes = class-table .ensures;
+    }
 
 same-length : tie.Need-same-length
 same-length c = search needs
@@ -35,7 +48,15 @@ same-length-4 : tie.Need-same-length-4
 same-length-4 c = search needs
 
 returns : tie.Need-returns
-returns c = units-walked (over (c .before .before .before .before .before .before .before .before .before .before .before .before .before .before .before .before .before .before .before .before .before .before .before .before .before .args .outside .now)) (c .before .before .before .before .before .before .before .before .before .before .before .before .before .before .before .before .before .before .before .before .before .before .before .before .before .args .sheet .now) (c .before .before .before .before .before .before .before .before .before .before .before .before .before .before .before .before .before .before .before .before .before .before .before .before .before .args .classes .now) (c .before .before .before .before .before .before .before .before .before .before .before .before .before .before .before .before .before .before .before .before .before .before .before .before .before .args .entries .now) (c .before .before .before .before .before .before .before .before .before .before .before .before .before .before .before .before .before .before .before .before .before .before .before .before .before .args .results .now) (c .before .before .before .before .before .before .before .before .before .before .before .before .before .before .before .before .before .before .before .before .before .before .before .before .before .args .nodes .now) _ _ (c .before .before .before .before .before .before .before .before .before .before .before .before .before .before .before .before .before .before .before .before .before .before .before .before .before .pre .0) (c .before .before .before .before .before .before .before .before .before .before .before .before .before .before .before .before .before .before .before .before .before .before .before .before .before .pre .1) (c .before .before .before .before .before .before .before .before .before .before .before .before .before .open-names .ensures) (c .before .before .before .before .before .before .resolve-parts .ensures)
+returns c =
+    let at-resolve-parts = c .before .before .before .before .before .before in
+    let at-open-names = at-resolve-parts .before .before .before .before .before .before .before in
+    let start = at-open-names .before .before .before .before .before .before .before .before .before .before .before .before in
+    let open-names = at-open-names .open-names in
+    let resolve-parts = at-resolve-parts .resolve-parts in
+    units-walked (over (start .args .outside .now)) (start .args .sheet .now) (start .args .classes .now)
+    (start .args .entries .now) (start .args .results .now) (start .args .nodes .now) _ _ (start .pre .0)
+    (start .pre .1) (open-names .ensures) (resolve-parts .ensures)
 
 pub resolve-units-spec : {M : Type 1} → statement M
 resolve-units-spec =

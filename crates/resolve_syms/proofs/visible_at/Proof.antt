@@ -28,7 +28,14 @@ returns-2 c = λ v. rw (← c .before .before .word .ensures, sym (c .before .wo
 
 returns-3 : tie.Need-returns-3
 unfolding nameAt
-returns-3 c = λ v. rw (← c .before .before .before .word .ensures, ← c .word3 .ensures, ne-eqb _ 1 (λ z. c .before .match .rest .0 .1 (c .before .before .word2 .ensures ∙ z)), ne-eqb _ 2 (λ z. c .before .match .rest .1 (c .before .before .word2 .ensures ∙ z)))
+returns-3 c =
+    let word2 = c .before .before .word2 in
+    λ v. rw (
+      ← c .before .before .before .word .ensures,
+      ← c .word3 .ensures,
+      ne-eqb _ 1 (λ z. c .before .match .rest .0 .1 (word2 .ensures ∙ z)),
+      ne-eqb _ 2 (λ z. c .before .match .rest .1 (word2 .ensures ∙ z)),
+    )
 
 pub visible-at-spec : {M : Type 1} → statement M
 visible-at-spec =

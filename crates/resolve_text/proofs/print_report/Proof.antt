@@ -13,13 +13,19 @@ read-sheet-requires : tie.Need-read-sheet-requires
 read-sheet-requires c κs = search needs
 
 mul-write-report : tie.Need-mul-write-report
-mul-write-report c = omega (arith, c .before .before .before .before .before .before .before .before .before .pre .0, read-few _ _ _ (c .before .before .read-sheet .ensures .count))
+mul-write-report c =
+    let start = c .before .before .before .before .before .before .before .before .before in
+    omega (arith, start .pre .0, read-few _ _ _ (c .before .before .read-sheet .ensures .count))
 
 slice-reshare-prefix-write-report : tie.Need-slice-reshare-prefix-write-report
-slice-reshare-prefix-write-report c = omega (arith, c .before .before .read-sheet .kept .1 .0, read-few _ _ _ (c .before .before .read-sheet .ensures .count))
+slice-reshare-prefix-write-report c =
+    let read-sheet = c .before .before .read-sheet in
+    omega (arith, read-sheet .kept .1 .0, read-few _ _ _ (read-sheet .ensures .count))
 
 slice-aggregate-write-report : tie.Need-slice-aggregate-write-report
-slice-aggregate-write-report c = sym (length-take-le _ _ (omega (arith, c .before .before .before .read-sheet .kept .1 .0, read-few _ _ _ (c .before .before .before .read-sheet .ensures .count))))
+slice-aggregate-write-report c =
+    let read-sheet = c .before .before .before .read-sheet in
+    sym (length-take-le _ _ (omega (arith, read-sheet .kept .1 .0, read-few _ _ _ (read-sheet .ensures .count))))
 
 write-report-requires : tie.Need-write-report-requires
 write-report-requires c κs = search needs
@@ -28,10 +34,21 @@ mul-write-rows : tie.Need-mul-write-rows
 mul-write-rows c = omega (arith, report-few _ _ _ _ (c .before .before .write-report .ensures))
 
 slice-reshare-prefix-write-rows : tie.Need-slice-reshare-prefix-write-rows
-slice-reshare-prefix-write-rows c = omega (arith, c .before .before .before .before .before .before .before .before .before .before .before .before .before .before .pre .1, c .before .before .write-report .kept .1 .1 .0, report-few _ _ _ _ (c .before .before .write-report .ensures))
+slice-reshare-prefix-write-rows c =
+    let start =
+    c .before .before .before .before .before .before .before .before .before .before .before .before .before
+    .before in
+    let write-report = c .before .before .write-report in
+    omega (arith, start .pre .1, write-report .kept .1 .1 .0, report-few _ _ _ _ (write-report .ensures))
 
 slice-aggregate-write-rows : tie.Need-slice-aggregate-write-rows
-slice-aggregate-write-rows c = sym (length-take-le _ _ (omega (arith, c .before .before .before .before .before .before .before .before .before .before .before .before .before .before .before .pre .1, c .before .before .before .write-report .kept .1 .1 .0, report-few _ _ _ _ (c .before .before .before .write-report .ensures))))
+slice-aggregate-write-rows c =
+    let start =
+    c .before .before .before .before .before .before .before .before .before .before .before .before .before
+    .before .before in
+    let write-report = c .before .before .before .write-report in
+    sym (length-take-le _ _
+    (omega (arith, start .pre .1, write-report .kept .1 .1 .0, report-few _ _ _ _ (write-report .ensures))))
 
 write-rows-requires : tie.Need-write-rows-requires
 write-rows-requires c κs = search needs
@@ -47,11 +64,15 @@ same-length-3 c = search needs
 
 returns : tie.Need-returns
 returns c =
-    let start = c .before .before .before .before .before .before .before .before .before .before .before .before .before .before .before .before .before .before .before in
-    let read = c .before .before .before .before .before .before .before .before .before .before .before .before .read-sheet in
-    let told = c .before .before .before .before .before .before .before .write-report in
-    printed-rows (start .args .sheet .now) (start .args .names .now) (start .args .text .now) (read .result) (told .result) _ (read .last .1 .0) (told .last .1 .1 .0) _
-    (subst (λ (n : ℕ). SheetRead (start .args .sheet .now) n (read .result) (read .last .1 .0)) (start .pre .0) (read .ensures)) (told .ensures) (c .before .before .write-rows .ensures) (start .pre .2)
+    let at-read-sheet = c .before .before .before .before .before .before .before .before .before .before .before .before in
+    let start = at-read-sheet .before .before .before .before .before .before .before in
+    let read-sheet = at-read-sheet .read-sheet in
+    let write-report = c .before .before .before .before .before .before .before .write-report in
+    printed-rows (start .args .sheet .now) (start .args .names .now) (start .args .text .now) (read-sheet .result)
+    (write-report .result) _ (read-sheet .last .1 .0) (write-report .last .1 .1 .0) _
+    (subst (λ (n : ℕ). SheetRead (start .args .sheet .now) n (read-sheet .result) (read-sheet .last .1 .0))
+    (start .pre .0) (read-sheet .ensures))
+    (write-report .ensures) (c .before .before .write-rows .ensures) (start .pre .2)
 
 pub print-report-spec : {M : Type 1} → statement M
 print-report-spec =

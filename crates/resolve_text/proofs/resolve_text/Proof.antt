@@ -6,7 +6,10 @@ use Rattle.resolve_text.proofs.resolve_text.Statement.{statement}
 use Rattle.resolve_text.proofs.resolve_text.Tie as tie
 
 returns : tie.Need-returns
-returns c = printed-files (printed-none (c .before .before .before .before .args .sheet .now) (c .before .before .before .before .args .names .now) (c .before .before .before .before .args .text .now) (c .if1 .taken))
+returns c =
+    let start = c .before .before .before .before in
+    printed-files
+    (printed-none (start .args .sheet .now) (start .args .names .now) (start .args .text .now) (c .if1 .taken))
 
 slice-aggregate-print-report : tie.Need-slice-aggregate-print-report
 slice-aggregate-print-report c = search needs

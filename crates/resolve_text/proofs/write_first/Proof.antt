@@ -48,7 +48,8 @@ same-length c = search needs
 returns : tie.Need-returns
 returns c =
     let start = c .before .before .before .before .before .before in
-    first-stored (start .args .x) (start .args .row .now) _ _ _ (start .pre .0) (c .before .before .before .file-id .ensures) (c .before .before .line-no .ensures) (c .before .col-no .ensures)
+    first-stored (start .args .x) (start .args .row .now) _ _ _ (start .pre .0)
+    (c .before .before .before .file-id .ensures) (c .before .before .line-no .ensures) (c .before .col-no .ensures)
 
 pub write-first-spec : {M : Type 1} → statement M
 write-first-spec =

@@ -22,19 +22,28 @@ slice-relend-prefix-write-first : tie.Need-slice-relend-prefix-write-first
 slice-relend-prefix-write-first c = search needs
 
 slice-aggregate-write-first : tie.Need-slice-aggregate-write-first
-slice-aggregate-write-first c = sym (first-room (c .before .before .before .before .before .before .before .before .args .report .now) (c .before .before .before .resolve .last .1 .1 .0) (c .before .before .before .before .before .before .before .before .pre))
+slice-aggregate-write-first c =
+    let start = c .before .before .before .before .before .before .before .before in
+    sym (first-room (start .args .report .now) (c .before .before .before .resolve .last .1 .1 .0) (start .pre))
 
 write-first-requires : tie.Need-write-first-requires
 write-first-requires c κs =
     let start = c .before .before .before .before .before .before .before .before in
-    let call = c .before .before .before .resolve in
-    (first-room (start .args .report .now) (call .last .1 .1 .0) (start .pre), few (start .args .words .now) (start .args .names .now) (start .args .report .now) _ (call .result) (start .pre) (call .ensures))
+    let resolve = c .before .before .before .resolve in (
+      first-room (start .args .report .now) (resolve .last .1 .1 .0) (start .pre),
+      few (start .args .words .now) (start .args .names .now) (start .args .report .now) _ (resolve .result)
+          (start .pre) (resolve .ensures),
+    )
 
 add-result : tie.Need-add-result
 add-result c =
     let start = c .before .before .before .before .before .before .before .before .before .before .before .before in
-    let call = c .before .before .before .before .before .before .before .resolve in
-    omega (arith, few (start .args .words .now) (start .args .names .now) (start .args .report .now) _ (call .result) (start .pre) (call .ensures))
+    let resolve = c .before .before .before .before .before .before .before .resolve in
+    omega (
+      arith,
+      few (start .args .words .now) (start .args .names .now) (start .args .report .now) _ (resolve .result)
+          (start .pre) (resolve .ensures),
+    )
 
 same-length : tie.Need-same-length
 same-length c = search needs
@@ -42,8 +51,9 @@ same-length c = search needs
 returns : tie.Need-returns
 returns c =
     let start = c .before .before .before .before .before .before .before .before .before .before .before .before in
-    let call = c .before .before .before .before .before .before .before .resolve in
-    reported (start .args .words .now) (start .args .names .now) (start .args .report .now) _ (call .result) (start .pre) (call .ensures) _ (c .before .before .before .write-first .ensures)
+    let resolve = c .before .before .before .before .before .before .before .resolve in
+    reported (start .args .words .now) (start .args .names .now) (start .args .report .now) _ (resolve .result)
+    (start .pre) (resolve .ensures) _ (c .before .before .before .write-first .ensures)
 
 pub write-report-spec : {M : Type 1} → statement M
 write-report-spec =

@@ -11,8 +11,8 @@ resolve-units-requires c κs = search needs
 
 refuse-at-requires : tie.Need-refuse-at-requires
 refuse-at-requires c κs =
-    let call = c .before .before .before .before .before .before .before .before .before .before .before in
-    let start = call .before .before .before .before .before .before .before .before .before .before .before .before in
+    let midway = c .before .before .before .before .before .before .before .before .before .before .before .before in
+    let start = midway .before .before .before .before .before .before .before .before .before .before .before in
     files-small (start .args .sheet .now) _ (start .pre .0)
 
 same-length : tie.Need-same-length
@@ -32,16 +32,26 @@ same-length-5 c = search needs
 
 returns : tie.Need-returns
 returns c =
-    let call = c .before .before .before .before .before .before .before .before .before .before .before .before .before .before in
-    let start = call .before .before .before .before .before .before .before .before .before .before .before .before in
+    let at-if1 = c .before .before .before .before in
+    let at-resolve-units = at-if1 .before .before .before .before .before .before .before .before .before .before in
+    let start =
+    at-resolve-units .before .before .before .before .before .before .before .before .before .before .before
+    .before in
+    let resolve-units = at-resolve-units .resolve-units in
+    let if1 = at-if1 .if1 in
     let no = c .before .before .refuse-at .ensures in
-    walk-no (over-base (start .args .outside .now)) {x = stateOf _ _ _ _} (call .resolve-units .ensures) (c .before .before .before .before .if1 .taken) _ _ _ (no .0) (no .1)
+    walk-no (over-base (start .args .outside .now)) {x = stateOf _ _ _ _} (resolve-units .ensures) (if1 .taken) _ _ _
+    (no .0) (no .1)
 
 finish-requires : tie.Need-finish-requires
 finish-requires c κs =
-    let call = c .before .before .before .before .before .before .before .before .before .before .before .before .before in
-    let start = call .before .before .before .before .before .before .before .before .before .before .before .before in
-    (start .pre .0, any-entries _ _ _ (call .resolve-units .ensures), c .before .before .before .if1 .left)
+    let midway = c .before .before .before .before .before .before .before .before .before .before .before .before in
+    let at-resolve-units = midway .before in
+    let start =
+    at-resolve-units .before .before .before .before .before .before .before .before .before .before .before
+    .before in
+    let resolve-units = at-resolve-units .resolve-units in
+    (start .pre .0, any-entries _ _ _ (resolve-units .ensures), c .before .before .before .if1 .left)
 
 same-length-6 : tie.Need-same-length-6
 same-length-6 c = search needs

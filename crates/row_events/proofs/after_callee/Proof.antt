@@ -16,10 +16,24 @@ same-length-2 : tie.Need-same-length-2
 same-length-2 c = search needs
 
 returns : tie.Need-returns
-returns c = runs-one (over (c .before .before .before .before .before .before .before .before .before .before .before .before .before .args .outside .now)) (c .before .before .before .before .before .before .before .before .before .before .before .before .before .args .sheet .now) (afterPart (c .before .before .before .before .before .before .before .before .before .before .before .before .before .args .sheet .now) (c .before .before .before .before .before .before .before .before .before .before .before .before .before .args .row) (c .before .before .before .before .before .before .before .before .before .before .before .before .before .args .i)) (visit (c .before .before .before .before .before .before .before .before .before .before .before .before .before .args .row)) (stateOf (c .before .before .before .before .before .before .before .before .before .before .before .before .before .args .walk) (c .before .before .before .before .before .before .before .before .before .before .before .before .before .args .entries .now) (c .before .before .before .before .before .before .before .before .before .before .before .before .before .args .results .now) (c .before .before .before .before .before .before .before .before .before .before .before .before .before .args .nodes .now)) (part-callee (c .before .before .before .before .before .before .before .before .before .before .before .before .before .args .sheet .now) (c .before .before .before .before .before .before .before .before .before .before .before .before .before .args .row) (c .before .before .before .before .before .before .before .before .before .before .before .before .before .args .i) (c .before .before .before .before .before .before .before .before .before .before .before .before .before .pre) (c .before .before .before .before .before .before .before .if1 .taken)) (c .before .before .before .before .check-callee .ensures)
+returns c =
+    let at-if1 = c .before .before .before .before .before .before .before in
+    let start = at-if1 .before .before .before .before .before .before in
+    let if1 = at-if1 .if1 in
+    let check-callee = c .before .before .before .before .check-callee in
+    runs-one (over (start .args .outside .now)) (start .args .sheet .now)
+    (afterPart (start .args .sheet .now) (start .args .row) (start .args .i)) (visit (start .args .row))
+    (stateOf (start .args .walk) (start .args .entries .now) (start .args .results .now) (start .args .nodes .now))
+    (part-callee (start .args .sheet .now) (start .args .row) (start .args .i) (start .pre) (if1 .taken))
+    (check-callee .ensures)
 
 returns-2 : tie.Need-returns-2
-returns-2 c = runs-none (over (c .before .before .before .before .before .before .args .outside .now)) (c .before .before .before .before .before .before .args .sheet .now) (afterPart (c .before .before .before .before .before .before .args .sheet .now) (c .before .before .before .before .before .before .args .row) (c .before .before .before .before .before .before .args .i)) (stateOf (c .before .before .before .before .before .before .args .walk) (c .before .before .before .before .before .before .args .entries .now) (c .before .before .before .before .before .before .args .results .now) (c .before .before .before .before .before .before .args .nodes .now)) (part-argument (c .before .before .before .before .before .before .args .sheet .now) (c .before .before .before .before .before .before .args .row) (c .before .before .before .before .before .before .args .i) (c .before .before .before .before .before .before .pre) (c .if1 .left))
+returns-2 c =
+    let start = c .before .before .before .before .before .before in
+    runs-none (over (start .args .outside .now)) (start .args .sheet .now)
+    (afterPart (start .args .sheet .now) (start .args .row) (start .args .i))
+    (stateOf (start .args .walk) (start .args .entries .now) (start .args .results .now) (start .args .nodes .now))
+    (part-argument (start .args .sheet .now) (start .args .row) (start .args .i) (start .pre) (c .if1 .left))
 
 pub after-callee-spec : {M : Type 1} → statement M
 after-callee-spec =

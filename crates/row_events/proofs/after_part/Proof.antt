@@ -11,7 +11,9 @@ word-requires : tie.Need-word-requires
 word-requires c κs = search needs
 
 after-callee-requires : tie.Need-after-callee-requires
-after-callee-requires c κs = sym (c .before .before .before .before .word .ensures) ∙ c .before .before .before .match .keys1
+after-callee-requires c κs =
+    let word = c .before .before .before .before .word in
+    sym (word .ensures) ∙ c .before .before .before .match .keys1
 
 after-test-requires : tie.Need-after-test-requires
 after-test-requires c κs = sym (c .before .before .word .ensures) ∙ c .before .match .keys2
@@ -35,7 +37,13 @@ returns-2 : tie.Need-returns-2
 returns-2 c = c .before .before .after-test .ensures _ _ _
 
 returns-3 : tie.Need-returns-3
-returns-3 c = runs-none (over (c .before .before .before .before .before .before .before .args .outside .now)) (c .before .before .before .before .before .before .before .args .sheet .now) (afterPart (c .before .before .before .before .before .before .before .args .sheet .now) (c .before .before .before .before .before .before .before .args .row) (c .before .before .before .before .before .before .before .args .i)) (stateOf (c .before .before .before .before .before .before .before .args .walk) (c .before .before .before .before .before .before .before .args .entries .now) (c .before .before .before .before .before .before .before .args .results .now) (c .before .before .before .before .before .before .before .args .nodes .now)) (part-none (c .before .before .before .before .before .before .before .args .sheet .now) (c .before .before .before .before .before .before .before .args .row) (c .before .before .before .before .before .before .before .args .i) (λ e. c .match .rest .0 .1 (c .before .word .ensures ∙ e)) (λ e. c .match .rest .1 (c .before .word .ensures ∙ e)))
+returns-3 c =
+    let start = c .before .before .before .before .before .before .before in
+    runs-none (over (start .args .outside .now)) (start .args .sheet .now)
+    (afterPart (start .args .sheet .now) (start .args .row) (start .args .i))
+    (stateOf (start .args .walk) (start .args .entries .now) (start .args .results .now) (start .args .nodes .now))
+    (part-none (start .args .sheet .now) (start .args .row) (start .args .i)
+    (λ e. c .match .rest .0 .1 (c .before .word .ensures ∙ e)) (λ e. c .match .rest .1 (c .before .word .ensures ∙ e)))
 
 pub after-part-spec : {M : Type 1} → statement M
 after-part-spec =

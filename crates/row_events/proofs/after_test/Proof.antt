@@ -12,10 +12,22 @@ same-length : tie.Need-same-length
 same-length c = search needs
 
 returns : tie.Need-returns
-returns c = λ O t q. runs-one O (c .before .before .before .before .before .before .before .args .sheet .now) (afterPart (c .before .before .before .before .before .before .before .args .sheet .now) (c .before .before .before .before .before .before .before .args .row) (c .before .before .before .before .before .before .before .args .i)) loop (stateOf (c .before .before .before .before .before .before .before .args .walk) (c .before .before .before .before .before .before .before .args .entries .now) t q) (part-test (c .before .before .before .before .before .before .before .args .sheet .now) (c .before .before .before .before .before .before .before .args .row) (c .before .before .before .before .before .before .before .args .i) (c .before .before .before .before .before .before .before .pre) (c .before .before .before .before .if1 .taken)) (c .before .before .begin-loop .ensures O _ t q)
+returns c =
+    let start = c .before .before .before .before .before .before .before in
+    let if1 = c .before .before .before .before .if1 in
+    λ O t q. runs-one O (start .args .sheet .now)
+    (afterPart (start .args .sheet .now) (start .args .row) (start .args .i)) loop
+    (stateOf (start .args .walk) (start .args .entries .now) t q)
+    (part-test (start .args .sheet .now) (start .args .row) (start .args .i) (start .pre) (if1 .taken))
+    (c .before .before .begin-loop .ensures O _ t q)
 
 returns-2 : tie.Need-returns-2
-returns-2 c = λ O t q. runs-none O (c .before .before .before .args .sheet .now) (afterPart (c .before .before .before .args .sheet .now) (c .before .before .before .args .row) (c .before .before .before .args .i)) (stateOf (c .before .before .before .args .walk) (c .before .before .before .args .entries .now) t q) (part-clause (c .before .before .before .args .sheet .now) (c .before .before .before .args .row) (c .before .before .before .args .i) (c .before .before .before .pre) (c .if1 .left))
+returns-2 c =
+    let start = c .before .before .before in
+    λ O t q. runs-none O (start .args .sheet .now)
+    (afterPart (start .args .sheet .now) (start .args .row) (start .args .i))
+    (stateOf (start .args .walk) (start .args .entries .now) t q)
+    (part-clause (start .args .sheet .now) (start .args .row) (start .args .i) (start .pre) (c .if1 .left))
 
 pub after-test-spec : {M : Type 1} → statement M
 after-test-spec = tie.close (tie.spec begin-loop-requires same-length returns returns-2)

@@ -19,7 +19,15 @@ same-length-2 : tie.Need-same-length-2
 same-length-2 c = search needs
 
 returns : tie.Need-returns
-returns c = λ O q. rw (before-block (c .before .before .before .before .before .before .before .before .before .before .before .before .before .before .args .sheet .now) (c .before .before .before .before .before .before .before .before .before .before .before .before .before .before .args .row) (c .before .before .before .before .before .before .before .before .before .before .before .before .before .before .pre .1)) (run-first O (c .before .before .before .before .before .before .before .before .before .before .before .before .before .before .args .sheet .now) (enter (c .before .before .before .before .before .before .before .before .before .before .before .before .before .before .args .row)) _ (stateOf (c .before .before .before .before .before .before .before .before .before .before .before .before .before .before .args .walk) (c .before .before .before .before .before .before .before .before .before .before .before .before .before .before .args .entries .now) (c .before .before .before .before .before .before .before .before .before .before .before .before .before .before .args .results .now) q) (c .before .before .before .before .before .before .before .before .before .open-scope .ensures O _ q) (c .before .before .before .before .hoist-literals .ensures O q))
+returns c =
+    let at-open-scope = c .before .before .before .before .before .before .before .before .before in
+    let start = at-open-scope .before .before .before .before .before in
+    let open-scope = at-open-scope .open-scope in
+    let hoist-literals = c .before .before .before .before .hoist-literals in
+    λ O q. rw (before-block (start .args .sheet .now) (start .args .row) (start .pre .1))
+    (run-first O (start .args .sheet .now) (enter (start .args .row)) _
+    (stateOf (start .args .walk) (start .args .entries .now) (start .args .results .now) q) (open-scope .ensures O _ q)
+    (hoist-literals .ensures O q))
 
 pub before-block-spec : {M : Type 1} → statement M
 before-block-spec =

@@ -10,7 +10,9 @@ word-requires : tie.Need-word-requires
 word-requires c κs = search needs
 
 before-block-requires : tie.Need-before-block-requires
-before-block-requires c κs = (c .before .before .before .before .before .before .before .pre .0, sym (c .before .before .before .word .ensures) ∙ c .before .before .match .keys1)
+before-block-requires c κs =
+    let start = c .before .before .before .before .before .before .before in
+    (start .pre .0, sym (c .before .before .before .word .ensures) ∙ c .before .before .match .keys1)
 
 open-scope-requires : tie.Need-open-scope-requires
 open-scope-requires c κs = search needs
@@ -31,7 +33,14 @@ same-length-3 : tie.Need-same-length-3
 same-length-3 c = search needs
 
 returns-2 : tie.Need-returns-2
-returns-2 c = λ O q. runs-one O (c .before .before .before .before .before .before .before .before .before .args .sheet .now) (before (c .before .before .before .before .before .before .before .before .before .args .sheet .now) (c .before .before .before .before .before .before .before .before .before .args .row)) (enter (c .before .before .before .before .before .before .before .before .before .args .row)) (stateOf (c .before .before .before .before .before .before .before .before .before .args .walk) (c .before .before .before .before .before .before .before .before .before .args .entries .now) (c .before .before .before .before .before .before .before .before .before .args .results .now) q) (before-for (c .before .before .before .before .before .before .before .before .before .args .sheet .now) (c .before .before .before .before .before .before .before .before .before .args .row) (sym (c .before .before .before .before .before .word .ensures) ∙ c .before .before .before .before .match .keys2)) (c .before .before .open-scope .ensures O _ q)
+returns-2 c =
+    let start = c .before .before .before .before .before .before .before .before .before in
+    let word = c .before .before .before .before .before .word in
+    let match = c .before .before .before .before .match in
+    λ O q. runs-one O (start .args .sheet .now) (before (start .args .sheet .now) (start .args .row))
+    (enter (start .args .row)) (stateOf (start .args .walk) (start .args .entries .now) (start .args .results .now) q)
+    (before-for (start .args .sheet .now) (start .args .row) (sym (word .ensures) ∙ match .keys2))
+    (c .before .before .open-scope .ensures O _ q)
 
 same-length-4 : tie.Need-same-length-4
 same-length-4 c = search needs
@@ -40,10 +49,24 @@ same-length-5 : tie.Need-same-length-5
 same-length-5 c = search needs
 
 returns-3 : tie.Need-returns-3
-returns-3 c = λ O q. runs-one O (c .before .before .before .before .before .before .before .before .before .before .args .sheet .now) (before (c .before .before .before .before .before .before .before .before .before .before .args .sheet .now) (c .before .before .before .before .before .before .before .before .before .before .args .row)) (visit (c .before .before .before .before .before .before .before .before .before .before .args .row)) (stateOf (c .before .before .before .before .before .before .before .before .before .before .args .walk) (c .before .before .before .before .before .before .before .before .before .before .args .entries .now) (c .before .before .before .before .before .before .before .before .before .before .args .results .now) q) (before-class (c .before .before .before .before .before .before .before .before .before .before .args .sheet .now) (c .before .before .before .before .before .before .before .before .before .before .args .row) (sym (c .before .before .before .before .before .before .word .ensures) ∙ c .before .before .before .before .before .match .keys3)) (c .before .before .resolve-parent .ensures O q)
+returns-3 c =
+    let start = c .before .before .before .before .before .before .before .before .before .before in
+    let word = c .before .before .before .before .before .before .word in
+    let match = c .before .before .before .before .before .match in
+    λ O q. runs-one O (start .args .sheet .now) (before (start .args .sheet .now) (start .args .row))
+    (visit (start .args .row)) (stateOf (start .args .walk) (start .args .entries .now) (start .args .results .now) q)
+    (before-class (start .args .sheet .now) (start .args .row) (sym (word .ensures) ∙ match .keys3))
+    (c .before .before .resolve-parent .ensures O q)
 
 returns-4 : tie.Need-returns-4
-returns-4 c = λ O q. runs-none O (c .before .before .before .before .before .args .sheet .now) (before (c .before .before .before .before .before .args .sheet .now) (c .before .before .before .before .before .args .row)) (stateOf (c .before .before .before .before .before .args .walk) (c .before .before .before .before .before .args .entries .now) (c .before .before .before .before .before .args .results .now) q) (before-none (c .before .before .before .before .before .args .sheet .now) (c .before .before .before .before .before .args .row) (c .before .before .before .before .before .pre .1) (λ e. c .match .rest .0 .0 .1 (c .before .word .ensures ∙ e)) (λ e. c .match .rest .0 .1 (c .before .word .ensures ∙ e)) (λ e. c .match .rest .1 (c .before .word .ensures ∙ e)))
+returns-4 c =
+    let start = c .before .before .before .before .before in
+    let word = c .before .word in
+    λ O q. runs-none O (start .args .sheet .now) (before (start .args .sheet .now) (start .args .row))
+    (stateOf (start .args .walk) (start .args .entries .now) (start .args .results .now) q)
+    (before-none (start .args .sheet .now) (start .args .row) (start .pre .1)
+    (λ e. c .match .rest .0 .0 .1 (word .ensures ∙ e)) (λ e. c .match .rest .0 .1 (word .ensures ∙ e))
+    (λ e. c .match .rest .1 (word .ensures ∙ e)))
 
 pub before-stmt-spec : {M : Type 1} → statement M
 before-stmt-spec =

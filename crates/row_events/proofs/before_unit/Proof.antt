@@ -22,7 +22,19 @@ same-length-2 : tie.Need-same-length-2
 same-length-2 c = search needs
 
 returns : tie.Need-returns
-returns c = λ O q. rw (before-unit (c .before .before .before .before .before .before .before .before .before .before .before .before .before .before .before .before .before .before .args .sheet .now) (c .before .before .before .before .before .before .before .before .before .before .before .before .before .before .before .before .before .before .args .row) (c .before .before .before .before .before .before .before .before .before .before .before .before .before .before .before .before .before .before .pre .1)) (run-both O (c .before .before .before .before .before .before .before .before .before .before .before .before .before .before .before .before .before .before .args .sheet .now) _ _ (stateOf (c .before .before .before .before .before .before .before .before .before .before .before .before .before .before .before .before .before .before .args .walk) (c .before .before .before .before .before .before .before .before .before .before .before .before .before .before .before .before .before .before .args .entries .now) (c .before .before .before .before .before .before .before .before .before .before .before .before .before .before .before .before .before .before .args .results .now) q) (run-first O (c .before .before .before .before .before .before .before .before .before .before .before .before .before .before .before .before .before .before .args .sheet .now) (enter (c .before .before .before .before .before .before .before .before .before .before .before .before .before .before .before .before .before .before .args .row)) _ (stateOf (c .before .before .before .before .before .before .before .before .before .before .before .before .before .before .before .before .before .before .args .walk) (c .before .before .before .before .before .before .before .before .before .before .before .before .before .before .before .before .before .before .args .entries .now) (c .before .before .before .before .before .before .before .before .before .before .before .before .before .before .before .before .before .before .args .results .now) q) (c .before .before .before .before .before .before .before .before .before .before .before .before .before .open-scope .ensures O _ q) (c .before .before .before .before .before .before .before .before .before .define-imports .ensures O _ q)) (c .before .before .before .before .declare-kind .ensures O q))
+returns c =
+    let at-define-imports = c .before .before .before .before .before .before .before .before .before in
+    let start = at-define-imports .before .before .before .before .before .before .before .before .before in
+    let open-scope = at-define-imports .before .before .before .before .open-scope in
+    let define-imports = at-define-imports .define-imports in
+    let declare-kind = c .before .before .before .before .declare-kind in
+    λ O q. rw (before-unit (start .args .sheet .now) (start .args .row) (start .pre .1))
+    (run-both O (start .args .sheet .now) _ _
+    (stateOf (start .args .walk) (start .args .entries .now) (start .args .results .now) q)
+    (run-first O (start .args .sheet .now) (enter (start .args .row)) _
+    (stateOf (start .args .walk) (start .args .entries .now) (start .args .results .now) q) (open-scope .ensures O _ q)
+    (define-imports .ensures O _ q))
+    (declare-kind .ensures O q))
 
 pub before-unit-spec : {M : Type 1} → statement M
 before-unit-spec =

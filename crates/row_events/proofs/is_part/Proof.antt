@@ -9,13 +9,22 @@ word-requires : tie.Need-word-requires
 word-requires c κs = search needs
 
 returns : tie.Need-returns
-returns c = part-unit (c .before .before .before .args .sheet .now) (c .before .before .before .args .k) (sym (c .before .word .ensures) ∙ c .if1 .taken)
+returns c =
+    let start = c .before .before .before in
+    part-unit (start .args .sheet .now) (start .args .k) (sym (c .before .word .ensures) ∙ c .if1 .taken)
 
 returns-2 : tie.Need-returns-2
-returns-2 c = part-fun (c .before .before .before .before .args .sheet .now) (c .before .before .before .before .args .k) (sym (c .before .before .word .ensures) ∙ c .if2 .taken)
+returns-2 c =
+    let start = c .before .before .before .before in
+    part-fun (start .args .sheet .now) (start .args .k) (sym (c .before .before .word .ensures) ∙ c .if2 .taken)
 
 returns-3 : tie.Need-returns-3
-returns-3 c = ap (leb 20) (c .before .before .word .ensures) ∙ part-other (c .before .before .before .before .args .sheet .now) (c .before .before .before .before .args .k) (λ e. c .before .if1 .left (c .before .before .word .ensures ∙ e)) (λ e. c .if2 .left (c .before .before .word .ensures ∙ e))
+returns-3 c =
+    let start = c .before .before .before .before in
+    let word = c .before .before .word in
+    ap (leb 20) (word .ensures)
+    ∙ part-other (start .args .sheet .now) (start .args .k) (λ e. c .before .if1 .left (word .ensures ∙ e))
+    (λ e. c .if2 .left (word .ensures ∙ e))
 
 pub is-part-spec : {M : Type 1} → statement M
 is-part-spec = tie.close (tie.spec word-requires returns returns-2 returns-3)

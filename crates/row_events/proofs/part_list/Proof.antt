@@ -13,7 +13,9 @@ word-requires-3 : tie.Need-word-requires-3
 word-requires-3 c κs = search needs
 
 returns : tie.Need-returns
-returns c = rw (← c .before .before .before .word .ensures, c .before .before .if1 .taken, ← c .before .word2 .ensures) (c .word3 .ensures)
+returns c =
+    rw (← c .before .before .before .word .ensures, c .before .before .if1 .taken, ← c .before .word2 .ensures)
+    (c .word3 .ensures)
 
 word-requires-4 : tie.Need-word-requires-4
 word-requires-4 c κs = search needs

@@ -18,10 +18,22 @@ word-requires : tie.Need-word-requires Inv-loop μ-loop
 word-requires c κs = search needs
 
 loop-holds : tie.Need-loop-holds Inv-loop μ-loop
-loop-holds c = (omega arith, omega (arith, ap (λ (k : ℕ). length (chain (rows (c .before .before .args .sheet .now)) (c .before .before .args .sheet .now) k)) (c .word .ensures)))
+loop-holds c =
+    let start = c .before .before in (
+      omega arith,
+      omega (
+        arith,
+        ap (λ (k : ℕ). length (chain (rows (start .args .sheet .now)) (start .args .sheet .now) k)) (c .word .ensures),
+      ),
+    )
 
 returns : tie.Need-returns Inv-loop μ-loop
-returns c = all-none (c .before .before .before .before .before .args .sheet .now) (c .before .before .loop .left) (c .before .before .loop .k) (c .before .before .loop .count) (chain-end (c .before .before .before .before .before .args .sheet .now) (c .before .before .loop .left) (c .before .before .loop .k) (c .if1 .taken)) ∙ c .before .before .loop .inv .1
+returns c =
+    let start = c .before .before .before .before .before in
+    let loop = c .before .before .loop in
+    all-none (start .args .sheet .now) (loop .left) (loop .k) (loop .count)
+    (chain-end (start .args .sheet .now) (loop .left) (loop .k) (c .if1 .taken))
+    ∙ loop .inv .1
 
 add-count : tie.Need-add-count Inv-loop μ-loop
 add-count c = omega arith
@@ -36,10 +48,23 @@ loop-less : tie.Need-loop-less Inv-loop μ-loop
 loop-less c = omega arith
 
 loop-again : tie.Need-loop-again Inv-loop μ-loop
-loop-again c = (omega (arith, c .before .before .before .loop .inv .0, c .before .before .loop-test .taken), all-next (c .before .before .before .before .before .before .args .sheet .now) (c .before .before .before .loop .left) (c .before .before .before .loop .k) (c .before .before .before .loop .count) (c .before .before .loop-test .taken) (c .before .if1 .left) (c .word2 .ensures) ∙ c .before .before .before .loop .inv .1)
+loop-again c =
+    let start = c .before .before .before .before .before .before in
+    let loop = c .before .before .before .loop in
+    let loop-test = c .before .before .loop-test in (
+      omega (arith, loop .inv .0, loop-test .taken),
+      all-next (start .args .sheet .now) (loop .left) (loop .k) (loop .count) (loop-test .taken) (c .before .if1 .left)
+          (c .word2 .ensures)
+          ∙ loop .inv .1,
+    )
 
 returns-2 : tie.Need-returns-2 Inv-loop μ-loop
-returns-2 c = all-none (c .before .before .before .before .args .sheet .now) (c .before .loop .left) (c .before .loop .k) (c .before .loop .count) (chain-none (c .before .before .before .before .args .sheet .now) (c .before .loop .left) (c .before .loop .k) (c .loop-test .left)) ∙ c .before .loop .inv .1
+returns-2 c =
+    let start = c .before .before .before .before in
+    let loop = c .before .loop in
+    all-none (start .args .sheet .now) (loop .left) (loop .k) (loop .count)
+    (chain-none (start .args .sheet .now) (loop .left) (loop .k) (c .loop-test .left))
+    ∙ loop .inv .1
 
 pub count-kids-spec : {M : Type 1} → statement M
 count-kids-spec =

@@ -10,7 +10,8 @@ use Rattle.sheet.proofs.count_kind.Statement.{statement}
 use Rattle.sheet.proofs.count_kind.Tie as tie
 
 abbrev Inv-loop : tie.InvT-loop
-Inv-loop s r kind left₀ k₀ count₀ left k count = (count + left ≤ length s) × (count + length (chainOf s kind left k) ≡ length (kidsOf s kind r))
+Inv-loop s r kind left₀ k₀ count₀ left k count =
+    (count + left ≤ length s) × (count + length (chainOf s kind left k) ≡ length (kidsOf s kind r))
 
 abbrev μ-loop : tie.MeasureT-loop
 μ-loop s r kind left₀ k₀ count₀ left k count = left
@@ -19,10 +20,23 @@ word-requires : tie.Need-word-requires Inv-loop μ-loop
 word-requires c κs = search needs
 
 loop-holds : tie.Need-loop-holds Inv-loop μ-loop
-loop-holds c = (omega arith, omega (arith, ap length (of-start (c .before .before .args .sheet .now) (c .before .before .args .kind) (c .before .before .args .row) (c .word .result) (c .word .ensures))))
+loop-holds c =
+    let start = c .before .before in (
+      omega arith,
+      omega (
+        arith,
+        ap length (of-start (start .args .sheet .now) (start .args .kind) (start .args .row) (c .word .result)
+            (c .word .ensures)),
+      ),
+    )
 
 returns : tie.Need-returns Inv-loop μ-loop
-returns c = count-none (c .before .before .before .before .before .args .sheet .now) (c .before .before .before .before .before .args .kind) (c .before .before .loop .left) (c .before .before .loop .k) (c .before .before .loop .count) (of-end (c .before .before .before .before .before .args .sheet .now) (c .before .before .before .before .before .args .kind) (c .before .before .loop .left) (c .before .before .loop .k) (c .if1 .taken)) ∙ c .before .before .loop .inv .1
+returns c =
+    let start = c .before .before .before .before .before in
+    let loop = c .before .before .loop in
+    count-none (start .args .sheet .now) (start .args .kind) (loop .left) (loop .k) (loop .count)
+    (of-end (start .args .sheet .now) (start .args .kind) (loop .left) (loop .k) (c .if1 .taken))
+    ∙ loop .inv .1
 
 word-requires-2 : tie.Need-word-requires-2 Inv-loop μ-loop
 word-requires-2 c κs = search needs
@@ -40,10 +54,30 @@ loop-less : tie.Need-loop-less Inv-loop μ-loop
 loop-less c = omega arith
 
 loop-again : tie.Need-loop-again Inv-loop μ-loop
-loop-again c = (⊎-elim (λ w. omega (arith, w .1, c .before .before .before .before .before .loop .inv .0, c .before .before .before .before .loop-test .taken)) (λ w. omega (arith, w .1, c .before .before .before .before .before .loop .inv .0)) (c .before .if2 .came), ⊎-elim (λ w. count-here (c .before .before .before .before .before .before .before .before .args .sheet .now) (c .before .before .before .before .before .before .before .before .args .kind) (c .before .before .before .before .before .loop .left) (c .before .before .before .before .before .loop .k) (c .before .before .before .before .before .loop .count) (c .before .before .before .before .loop-test .taken) (c .before .before .before .if1 .left) (c .word3 .ensures) (sym (c .before .before .word2 .ensures) ∙ w .0 .taken) (w .1)) (λ w. count-skip (c .before .before .before .before .before .before .before .before .args .sheet .now) (c .before .before .before .before .before .before .before .before .args .kind) (c .before .before .before .before .before .loop .left) (c .before .before .before .before .before .loop .k) (c .before .before .before .before .before .loop .count) (c .before .before .before .before .loop-test .taken) (c .before .before .before .if1 .left) (c .word3 .ensures) (λ e. w .0 .left (c .before .before .word2 .ensures ∙ e)) (w .1)) (c .before .if2 .came) ∙ c .before .before .before .before .before .loop .inv .1)
+loop-again c =
+    let start = c .before .before .before .before .before .before .before .before in
+    let loop = c .before .before .before .before .before .loop in
+    let loop-test = c .before .before .before .before .loop-test in
+    let if1 = c .before .before .before .if1 in
+    let word2 = c .before .before .word2 in (
+      ⊎-elim (λ w. omega (arith, w .1, loop .inv .0, loop-test .taken)) (λ w. omega (arith, w .1, loop .inv .0))
+          (c .before .if2 .came),
+      ⊎-elim
+          (λ w. count-here (start .args .sheet .now) (start .args .kind) (loop .left) (loop .k) (loop .count)
+          (loop-test .taken) (if1 .left) (c .word3 .ensures) (sym (word2 .ensures) ∙ w .0 .taken) (w .1))
+          (λ w. count-skip (start .args .sheet .now) (start .args .kind) (loop .left) (loop .k) (loop .count)
+          (loop-test .taken) (if1 .left) (c .word3 .ensures) (λ e. w .0 .left (word2 .ensures ∙ e)) (w .1))
+          (c .before .if2 .came)
+          ∙ loop .inv .1,
+    )
 
 returns-2 : tie.Need-returns-2 Inv-loop μ-loop
-returns-2 c = count-none (c .before .before .before .before .args .sheet .now) (c .before .before .before .before .args .kind) (c .before .loop .left) (c .before .loop .k) (c .before .loop .count) (of-none (c .before .before .before .before .args .sheet .now) (c .before .before .before .before .args .kind) (c .before .loop .left) (c .before .loop .k) (c .loop-test .left)) ∙ c .before .loop .inv .1
+returns-2 c =
+    let start = c .before .before .before .before in
+    let loop = c .before .loop in
+    count-none (start .args .sheet .now) (start .args .kind) (loop .left) (loop .k) (loop .count)
+    (of-none (start .args .sheet .now) (start .args .kind) (loop .left) (loop .k) (c .loop-test .left))
+    ∙ loop .inv .1
 
 pub count-kind-spec : {M : Type 1} → statement M
 count-kind-spec =

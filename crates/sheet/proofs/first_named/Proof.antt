@@ -1,5 +1,6 @@
 use mathlib.Core.Logic.{⊎-elim}
-use Rattle.sheet.proofs.ListLaws.{chainOf, firstNamed, of-start, of-none, of-end, named-none, named-here, named-other, named-skip}
+use Rattle.sheet.proofs.ListLaws.{chainOf, firstNamed, of-start, of-none, of-end, named-none, named-here}
+use Rattle.sheet.proofs.ListLaws.{named-other, named-skip}
 use mathlib.Core.Path.{_≡_, sym, ap, _∙_}
 use native.Mathlib.Omega.{arith}
 use borrow.Author.Needs.{needs}
@@ -17,10 +18,18 @@ word-requires : tie.Need-word-requires Inv-loop μ-loop
 word-requires c κs = search needs
 
 loop-holds : tie.Need-loop-holds Inv-loop μ-loop
-loop-holds c = ap (firstNamed (c .before .before .args .sheet .now) (c .before .before .args .n)) (of-start (c .before .before .args .sheet .now) (c .before .before .args .kind) (c .before .before .args .row) (c .word .result) (c .word .ensures))
+loop-holds c =
+    let start = c .before .before in
+    ap (firstNamed (start .args .sheet .now) (start .args .n))
+    (of-start (start .args .sheet .now) (start .args .kind) (start .args .row) (c .word .result) (c .word .ensures))
 
 returns : tie.Need-returns Inv-loop μ-loop
-returns c = named-none (c .before .before .before .before .before .args .sheet .now) (c .before .before .before .before .before .args .kind) (c .before .before .loop .left) (c .before .before .loop .k) (c .before .before .before .before .before .args .n) (of-end (c .before .before .before .before .before .args .sheet .now) (c .before .before .before .before .before .args .kind) (c .before .before .loop .left) (c .before .before .loop .k) (c .if1 .taken)) ∙ c .before .before .loop .inv
+returns c =
+    let start = c .before .before .before .before .before in
+    let loop = c .before .before .loop in
+    named-none (start .args .sheet .now) (start .args .kind) (loop .left) (loop .k) (start .args .n)
+    (of-end (start .args .sheet .now) (start .args .kind) (loop .left) (loop .k) (c .if1 .taken))
+    ∙ loop .inv
 
 word-requires-2 : tie.Need-word-requires-2 Inv-loop μ-loop
 word-requires-2 c κs = search needs
@@ -29,7 +38,15 @@ word-requires-3 : tie.Need-word-requires-3 Inv-loop μ-loop
 word-requires-3 c κs = search needs
 
 returns-2 : tie.Need-returns-2 Inv-loop μ-loop
-returns-2 c = named-here (c .before .before .before .before .before .before .before .before .before .args .sheet .now) (c .before .before .before .before .before .before .before .before .before .args .kind) (c .before .before .before .before .before .before .loop .left) (c .before .before .before .before .before .before .loop .k) (c .before .before .before .before .before .before .before .before .before .args .n) (c .before .before .before .before .before .loop-test .taken) (c .before .before .before .before .if1 .left) (sym (c .before .before .before .word2 .ensures) ∙ c .before .before .if2 .taken) (sym (c .before .word3 .ensures) ∙ c .if3 .taken) ∙ c .before .before .before .before .before .before .loop .inv
+returns-2 c =
+    let start = c .before .before .before .before .before .before .before .before .before in
+    let loop = c .before .before .before .before .before .before .loop in
+    let loop-test = c .before .before .before .before .before .loop-test in
+    let if1 = c .before .before .before .before .if1 in
+    named-here (start .args .sheet .now) (start .args .kind) (loop .left) (loop .k) (start .args .n) (loop-test .taken)
+    (if1 .left) (sym (c .before .before .before .word2 .ensures) ∙ c .before .before .if2 .taken)
+    (sym (c .before .word3 .ensures) ∙ c .if3 .taken)
+    ∙ loop .inv
 
 word-requires-4 : tie.Need-word-requires-4 Inv-loop μ-loop
 word-requires-4 c κs = search needs
@@ -41,10 +58,28 @@ loop-less : tie.Need-loop-less Inv-loop μ-loop
 loop-less c = omega arith
 
 loop-again : tie.Need-loop-again Inv-loop μ-loop
-loop-again c = ⊎-elim (λ w. named-other (c .before .before .before .before .before .before .before .before .args .sheet .now) (c .before .before .before .before .before .before .before .before .args .kind) (c .before .before .before .before .before .loop .left) (c .before .before .before .before .before .loop .k) (c .before .before .before .before .before .before .before .before .args .n) (c .before .before .before .before .loop-test .taken) (c .before .before .before .if1 .left) (c .word4 .ensures) (sym (c .before .before .word2 .ensures) ∙ w .0 .taken) (λ e. w .2 .left (w .1 .ensures ∙ e))) (λ w. named-skip (c .before .before .before .before .before .before .before .before .args .sheet .now) (c .before .before .before .before .before .before .before .before .args .kind) (c .before .before .before .before .before .loop .left) (c .before .before .before .before .before .loop .k) (c .before .before .before .before .before .before .before .before .args .n) (c .before .before .before .before .loop-test .taken) (c .before .before .before .if1 .left) (c .word4 .ensures) (λ e. w .left (c .before .before .word2 .ensures ∙ e))) (c .before .if2 .came) ∙ c .before .before .before .before .before .loop .inv
+loop-again c =
+    let start = c .before .before .before .before .before .before .before .before in
+    let loop = c .before .before .before .before .before .loop in
+    let loop-test = c .before .before .before .before .loop-test in
+    let if1 = c .before .before .before .if1 in
+    let word2 = c .before .before .word2 in
+    ⊎-elim
+    (λ w. named-other (start .args .sheet .now) (start .args .kind) (loop .left) (loop .k) (start .args .n)
+    (loop-test .taken) (if1 .left) (c .word4 .ensures) (sym (word2 .ensures) ∙ w .0 .taken)
+    (λ e. w .2 .left (w .1 .ensures ∙ e)))
+    (λ w. named-skip (start .args .sheet .now) (start .args .kind) (loop .left) (loop .k) (start .args .n)
+    (loop-test .taken) (if1 .left) (c .word4 .ensures) (λ e. w .left (word2 .ensures ∙ e)))
+    (c .before .if2 .came)
+    ∙ loop .inv
 
 returns-3 : tie.Need-returns-3 Inv-loop μ-loop
-returns-3 c = named-none (c .before .before .before .before .args .sheet .now) (c .before .before .before .before .args .kind) (c .before .loop .left) (c .before .loop .k) (c .before .before .before .before .args .n) (of-none (c .before .before .before .before .args .sheet .now) (c .before .before .before .before .args .kind) (c .before .loop .left) (c .before .loop .k) (c .loop-test .left)) ∙ c .before .loop .inv
+returns-3 c =
+    let start = c .before .before .before .before in
+    let loop = c .before .loop in
+    named-none (start .args .sheet .now) (start .args .kind) (loop .left) (loop .k) (start .args .n)
+    (of-none (start .args .sheet .now) (start .args .kind) (loop .left) (loop .k) (c .loop-test .left))
+    ∙ loop .inv
 
 pub first-named-spec : {M : Type 1} → statement M
 first-named-spec =

@@ -7,7 +7,10 @@ first-named-requires : tie.Need-first-named-requires
 first-named-requires c κs = search needs
 
 returns : tie.Need-returns
-returns c = named-listed (c .before .before .args .sheet .now) (c .before .before .args .kind) (c .before .before .args .n) (c .before .before .args .row) (c .first-named .result) (c .first-named .ensures)
+returns c =
+    let start = c .before .before in
+    named-listed (start .args .sheet .now) (start .args .kind) (start .args .n) (start .args .row)
+    (c .first-named .result) (c .first-named .ensures)
 
 pub has-named-spec : {M : Type 1} → statement M
 has-named-spec = tie.close (tie.spec first-named-requires returns)

@@ -105,7 +105,10 @@ same-length : tie.Need-same-length
 same-length c = simp (length-set)
 
 returns : tie.Need-returns
-returns c = let a = c .before .args in emit-fits (a .n) (a .out .now) (a .x .row) (a .x .code) (a .x .one) (a .x .two) (a .x .three) (a .x .four) (c .if1 .taken)
+returns c =
+    let start = c .before in
+    emit-fits (start .args .n) (start .args .out .now) (start .args .x .row) (start .args .x .code)
+    (start .args .x .one) (start .args .x .two) (start .args .x .three) (start .args .x .four) (c .if1 .taken)
 
 add-result-2 : tie.Need-add-result-2
 add-result-2 c = search needs

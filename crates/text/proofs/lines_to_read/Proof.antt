@@ -28,14 +28,24 @@ mul-if3 c = search needs
 returns-3 : tie.Need-returns-3
 unfolding wholeLines
 returns-3 c =
-    let b = c .before .before .before .args .bytes in
-    rw (eq-eqb (81 * (b / 81)) b (omega arith), le-leb (b / 81) 2048 (omega arith), lt-leb (8 * (b / 81)) (c .before .before .before .args .lent) (omega arith))
+    let start = c .before .before .before in
+    let b = start .args .bytes in
+    rw (
+      eq-eqb (81 * (b / 81)) b (omega arith),
+      le-leb (b / 81) 2048 (omega arith),
+      lt-leb (8 * (b / 81)) (start .args .lent) (omega arith),
+    )
 
 returns-4 : tie.Need-returns-4
 unfolding wholeLines
 returns-4 c =
-    let b = c .before .before .before .args .bytes in
-    rw (eq-eqb (81 * (b / 81)) b (omega arith), le-leb (b / 81) 2048 (omega arith), le-leb (8 * (b / 81)) (c .before .before .before .args .lent) (omega arith))
+    let start = c .before .before .before in
+    let b = start .args .bytes in
+    rw (
+      eq-eqb (81 * (b / 81)) b (omega arith),
+      le-leb (b / 81) 2048 (omega arith),
+      le-leb (8 * (b / 81)) (start .args .lent) (omega arith),
+    )
 
 pub lines-to-read-spec : {M : Type 1} → statement M
 lines-to-read-spec = tie.close (tie.spec mul-if1 returns returns-2 mul-if3 returns-3 returns-4)

@@ -1,4 +1,5 @@
--- `read_digits` meets its contract. The loop's invariant: what the digits write is the same from each digit on, with the number so far. Assumes nothing.
+-- `read_digits` meets its contract. The loop's invariant: what the digits write is the same from each digit on, with
+-- the number so far. Assumes nothing.
 use mathlib.Core.Path.{sym, refl, _∙_, _≡_}
 use Prim.Native.Nat.{_≤_, _-_, _^_, _<_}
 use native.Mathlib.Nat.{one-le-pow}
@@ -10,7 +11,8 @@ use Rattle.text.proofs.read_digits.Statement.{statement}
 use Rattle.text.proofs.read_digits.Tie as tie
 
 abbrev Inv-loop : tie.InvT-loop
-Inv-loop column start v₀ i₀ v i = (i ≤ length column) × (v < 10 ^ i) × (digitsFrom v (drop i column) ≡ digitsFrom 0 (drop start column))
+Inv-loop column start v₀ i₀ v i =
+    (i ≤ length column) × (v < 10 ^ i) × (digitsFrom v (drop i column) ≡ digitsFrom 0 (drop start column))
 
 abbrev μ-loop : tie.MeasureT-loop
 μ-loop column start v₀ i₀ v i = length column - i
@@ -26,13 +28,16 @@ cast-b c = omega (arith, c .shared-slice-known .given (c .before .before .loop .
 
 returns : tie.Need-returns Inv-loop μ-loop
 returns c =
-    let head = c .before .before .before in
-    sym (digit-low (head .before .args .column .now) (head .loop .i) (head .loop .v) (omega arith) (omega arith)) ∙ head .loop .inv .2
+    let start-2 = c .before .before .before .before in
+    let loop = c .before .before .before .loop in
+    sym (digit-low (start-2 .args .column .now) (loop .i) (loop .v) (omega arith) (omega arith)) ∙ loop .inv .2
 
 returns-2 : tie.Need-returns-2 Inv-loop μ-loop
 returns-2 c =
-    let head = c .before .before .before .before in
-    sym (digit-high (head .before .args .column .now) (head .loop .i) (head .loop .v) (omega arith) (omega arith) (omega arith)) ∙ head .loop .inv .2
+    let start-2 = c .before .before .before .before .before in
+    let loop = c .before .before .before .before .loop in
+    sym (digit-high (start-2 .args .column .now) (loop .i) (loop .v) (omega arith) (omega arith) (omega arith))
+    ∙ loop .inv .2
 
 mul-v : tie.Need-mul-v Inv-loop μ-loop
 mul-v c = omega (arith, ten-power (c .before .before .before .before .loop .i) (omega arith) .0)
@@ -48,10 +53,12 @@ loop-less c = omega arith
 
 loop-again : tie.Need-loop-again Inv-loop μ-loop
 loop-again c =
-    let head = c .before .before .before .before in (
+    let start-2 = c .before .before .before .before .before in
+    let loop = c .before .before .before .before .loop in (
       omega arith,
-      omega (arith, ten-power (head .loop .i) (omega arith) .1),
-      digit-passed (head .before .args .column .now) (head .loop .i) (head .loop .v) (omega arith) (omega arith) (omega arith) ∙ head .loop .inv .2,
+      omega (arith, ten-power (loop .i) (omega arith) .1),
+      digit-passed (start-2 .args .column .now) (loop .i) (loop .v) (omega arith) (omega arith) (omega arith)
+          ∙ loop .inv .2,
     )
 
 returns-3 : tie.Need-returns-3 Inv-loop μ-loop

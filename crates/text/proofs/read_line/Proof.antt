@@ -14,7 +14,9 @@ use Rattle.text.proofs.read_line.Statement.{statement}
 use Rattle.text.proofs.read_line.Tie as tie
 
 abbrev Inv-loop : tie.InvT-loop
-Inv-loop line row₀ c₀ row c = (c ≤ 8) × (length row ≡ 8) × (all (λ k. isNumber (columnAt line k)) (from 0 c) ≡ true) × (take c row ≡ map (λ k. value (columnAt line k)) (from 0 c))
+Inv-loop line row₀ c₀ row c =
+    (c ≤ 8) × (length row ≡ 8) × (all (λ k. isNumber (columnAt line k)) (from 0 c) ≡ true)
+    × (take c row ≡ map (λ k. value (columnAt line k)) (from 0 c))
 
 abbrev μ-loop : tie.MeasureT-loop
 μ-loop line row₀ c₀ row c = 8 - c
@@ -44,14 +46,20 @@ read-number-requires : tie.Need-read-number-requires Inv-loop μ-loop
 read-number-requires c κs = simp (length-take, length-drop) (omega arith)
 
 same-length : tie.Need-same-length Inv-loop μ-loop
-same-length c = c .before .before .before .before .loop .inv .1 ∙ sym (c .before .before .before .before .before .before .before .pre .1)
+same-length c =
+    let start = c .before .before .before .before .before .before .before in
+    let loop = c .before .before .before .before .loop in
+    loop .inv .1 ∙ sym (start .pre .1)
 
 returns : tie.Need-returns Inv-loop μ-loop
 returns c =
-    let head = c .before .before .before .before in
-    let line = head .before .before .before .args .line .now in
-    let e = column-number line (head .loop .c) _ (c .before .read-number .ensures) in
-    (sym (column-bad line (head .loop .c) _ e (c .before .before .before .loop-test .taken) (c .if1 .taken)), λ f. absurd (subst T (sym f) tt))
+    let start = c .before .before .before .before .before .before .before in
+    let loop = c .before .before .before .before .loop in
+    let line = start .args .line .now in
+    let e = column-number line (loop .c) _ (c .before .read-number .ensures) in (
+      sym (column-bad line (loop .c) _ e (c .before .before .before .loop-test .taken) (c .if1 .taken)),
+      λ f. absurd (subst T (sym f) tt),
+    )
 
 cast-row : tie.Need-cast-row Inv-loop μ-loop
 cast-row c = omega arith
@@ -70,15 +78,16 @@ loop-less c = omega arith
 
 loop-again : tie.Need-loop-again Inv-loop μ-loop
 loop-again c =
-    let head = c .before .before .before .before in
-    let line = head .before .before .before .args .line .now in
-    let k = head .loop .c in
-    let h : k < length (head .loop .row) = omega arith in
+    let start = c .before .before .before .before .before .before .before in
+    let loop = c .before .before .before .before .loop in
+    let line = start .args .line .now in
+    let k = loop .c in
+    let h : k < length (loop .row) = omega arith in
     let e = column-number line k _ (c .before .read-number .ensures) in (
       omega arith,
-      simp length-set (head .loop .inv .1),
-      column-good line k _ e (c .if1 .left) (head .loop .inv .2),
-      column-read line k _ e (c .if1 .left) _ h (head .loop .inv .3),
+      simp length-set (loop .inv .1),
+      column-good line k _ e (c .if1 .left) (loop .inv .2),
+      column-read line k _ e (c .if1 .left) _ h (loop .inv .3),
     )
 
 shared-slice-read-result : tie.Need-shared-slice-read-result Inv-loop μ-loop
@@ -89,10 +98,12 @@ same-length-2 c = c .before .before .loop .inv .1 ∙ sym (c .before .before .be
 
 returns-2 : tie.Need-returns-2 Inv-loop μ-loop
 returns-2 c =
-    let head = c .before .before in
-    let line = head .before .before .before .args .line .now in
-    let v = head .loop .inv in
-    (line-end line _ (v .0) (c .before .loop-test .left) (v .2), λ e. row-end line _ _ (v .0) (c .before .loop-test .left) (v .1) (v .3))
+    let start = c .before .before .before .before .before in
+    let line = start .args .line .now in
+    let v = c .before .before .loop .inv in (
+      line-end line _ (v .0) (c .before .loop-test .left) (v .2),
+      λ e. row-end line _ _ (v .0) (c .before .loop-test .left) (v .1) (v .3),
+    )
 
 pub read-line-spec : {M : Type 1} → statement M
 read-line-spec =

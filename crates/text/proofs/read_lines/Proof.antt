@@ -1,4 +1,5 @@
--- `read_lines` meets its contract. The loop's invariant: the lines passed are lines, and the words have their numbers. Assumes nothing.
+-- `read_lines` meets its contract. The loop's invariant: the lines passed are lines, and the words have their numbers.
+-- Assumes nothing.
 use mathlib.Core.Path.{_∙_, refl, sym, subst, ap, _≡_}
 use mathlib.Core.Bool.{true}
 use Prim.Native.Nat.{_+_, ℕ, _≤_, _-_, _*_}
@@ -12,7 +13,9 @@ use Rattle.text.proofs.read_lines.Statement.{statement}
 use Rattle.text.proofs.read_lines.Tie as tie
 
 abbrev Inv-loop : tie.InvT-loop
-Inv-loop text words₀ n r₀ words r = (r ≤ n) × (length words ≡ length words₀) × (all (λ k. isLine (lineAt text k)) (from 0 r) ≡ true) × (take (8 * r) words ≡ numbersIn text r)
+Inv-loop text words₀ n r₀ words r =
+    (r ≤ n) × (length words ≡ length words₀) × (all (λ k. isLine (lineAt text k)) (from 0 r) ≡ true)
+    × (take (8 * r) words ≡ numbersIn text r)
 
 abbrev μ-loop : tie.MeasureT-loop
 μ-loop text words₀ n r₀ words r = n - r
@@ -63,15 +66,19 @@ read-line-requires : tie.Need-read-line-requires Inv-loop μ-loop
 read-line-requires c κs = simp (length-take, length-drop) (omega arith)
 
 same-length : tie.Need-same-length Inv-loop μ-loop
-same-length c = c .before .before .words .given .1 ∙ c .before .before .before .before .before .before .before .loop .inv .1
+same-length c =
+    let loop = c .before .before .before .before .before .before .before .loop in
+    c .before .before .words .given .1 ∙ loop .inv .1
 
 returns : tie.Need-returns Inv-loop μ-loop
 returns c =
-    let head = c .before .before .before .before .before .before .before in
-    let t = head .before .before .before .args .text .now in
-    let r = head .loop .r in
+    let start = c .before .before .before .before .before .before .before .before .before .before in
+    let loop = c .before .before .before .before .before .before .before .loop in
+    let loop-test = c .before .before .before .before .before .before .loop-test in
+    let t = start .args .text .now in
+    let r = loop .r in
     let e = c .before .before .before .read-line .ensures .0 ∙ ap isLine (line-number t r) in
-    (line-bad t _ r (c .before .before .before .before .before .before .loop-test .taken) (sym e ∙ not-true _ (c .if1 .taken)), none-read t)
+    (line-bad t _ r (loop-test .taken) (sym e ∙ not-true _ (c .if1 .taken)), none-read t)
 
 add-r : tie.Need-add-r Inv-loop μ-loop
 add-r c = omega arith
@@ -81,17 +88,19 @@ loop-less c = omega arith
 
 loop-again : tie.Need-loop-again Inv-loop μ-loop
 loop-again c =
-    let head = c .before .before .before .before .before .before .before in
-    let t = head .before .before .before .args .text .now in
-    let r = head .loop .r in
-    let v = head .loop .inv in
-    let h : 8 * r + 8 ≤ length (head .loop .words) = omega arith in
-    let b : c .before .before .before .read-line .result ≡ true = not-false _ (c .if1 .left) in
-    let e = c .before .before .before .read-line .ensures .0 ∙ ap isLine (line-number t r) in (
+    let start = c .before .before .before .before .before .before .before .before .before .before in
+    let loop = c .before .before .before .before .before .before .before .loop in
+    let read-line = c .before .before .before .read-line in
+    let t = start .args .text .now in
+    let r = loop .r in
+    let v = loop .inv in
+    let h : 8 * r + 8 ≤ length (loop .words) = omega arith in
+    let b : read-line .result ≡ true = not-false _ (c .if1 .left) in
+    let e = read-line .ensures .0 ∙ ap isLine (line-number t r) in (
       omega arith,
       c .before .before .words .given .1 ∙ v .1,
       line-good t r (sym e ∙ b) (v .2),
-      line-read t r _ _ h (v .3) (c .before .before .before .read-line .ensures .1 b ∙ ap numbersOf (line-number t r)),
+      line-read t r _ _ h (v .3) (read-line .ensures .1 b ∙ ap numbersOf (line-number t r)),
     )
 
 same-length-2 : tie.Need-same-length-2 Inv-loop μ-loop
@@ -99,11 +108,14 @@ same-length-2 c = c .before .loop .inv .1
 
 returns-2 : tie.Need-returns-2 Inv-loop μ-loop
 returns-2 c =
-    let head = c .before in
-    let t = head .before .before .before .args .text .now in
-    let v = head .loop .inv in
-    let e : head .loop .r ≡ head .before .before .before .args .n = omega arith in
-    (lines-end t _ _ (v .0) (c .loop-test .left) (v .2), subst (λ (k : ℕ). take (8 * k) (head .loop .words) ≡ numbersIn t k) e (v .3))
+    let start = c .before .before .before .before in
+    let loop = c .before .loop in
+    let t = start .args .text .now in
+    let v = loop .inv in
+    let e : loop .r ≡ start .args .n = omega arith in (
+      lines-end t _ _ (v .0) (c .loop-test .left) (v .2),
+      subst (λ (k : ℕ). take (8 * k) (loop .words) ≡ numbersIn t k) e (v .3),
+    )
 
 pub read-lines-spec : {M : Type 1} → statement M
 read-lines-spec =

@@ -11,22 +11,26 @@ skip-spaces-requires c κs = search needs
 
 returns : tie.Need-returns
 returns c =
-    sym (number-missing (c .before .before .before .args .column .now) (c .before .skip-spaces .result) (c .before .skip-spaces .ensures .1) (omega arith))
+    sym (number-missing (c .before .before .before .args .column .now) (c .before .skip-spaces .result)
+    (c .before .skip-spaces .ensures .1) (omega arith))
 
 read-digits-requires : tie.Need-read-digits-requires
 read-digits-requires c κs = search needs
 
 returns-2 : tie.Need-returns-2
 returns-2 c =
-    let skip = c .before .before .before .skip-spaces in
-    sym (number-large (c .before .before .before .before .before .args .column .now) (skip .result) (skip .ensures .1) (omega (arith, c .before .read-digits .ensures)))
+    let start = c .before .before .before .before .before in
+    let skip-spaces = c .before .before .before .skip-spaces in
+    sym (number-large (start .args .column .now) (skip-spaces .result) (skip-spaces .ensures .1)
+    (omega (arith, c .before .read-digits .ensures)))
 
 returns-3 : tie.Need-returns-3
 returns-3 c =
-    let skip = c .before .before .before .skip-spaces in
-    let digits = c .before .read-digits in
-    digits .ensures
-    ∙ sym (number-found (c .before .before .before .before .before .args .column .now) (skip .result) (skip .ensures .1) (omega arith) (omega (arith, digits .ensures)))
+    let start = c .before .before .before .before .before in
+    let skip-spaces = c .before .before .before .skip-spaces in
+    c .before .read-digits .ensures
+    ∙ sym (number-found (start .args .column .now) (skip-spaces .result) (skip-spaces .ensures .1) (omega arith)
+    (omega (arith, c .before .read-digits .ensures)))
 
 pub read-number-spec : {M : Type 1} → statement M
 read-number-spec =

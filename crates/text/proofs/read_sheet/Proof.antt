@@ -13,17 +13,26 @@ lines-to-read-requires : tie.Need-lines-to-read-requires
 lines-to-read-requires c κs = search needs
 
 read-lines-requires : tie.Need-read-lines-requires
-read-lines-requires c κs = whole-lent (c .before .before .before .before .args .text .now) _ _ (c .before .lines-to-read .ensures)
+read-lines-requires c κs =
+    let start = c .before .before .before .before in
+    whole-lent (start .args .text .now) _ _ (c .before .lines-to-read .ensures)
 
 -- eight words for each line to read, and for each line read
-lent : (c : tie.After-slice-known2) → (8 * c .before .before .before .before .lines-to-read .result ≤ length (c .before .before .read-lines .last .1 .0))
+lent : (c : tie.After-slice-known2)
+    → (8 * c .before .before .before .before .lines-to-read .result
+    ≤ length (c .before .before .read-lines .last .1 .0))
     × (8 * c .before .before .read-lines .result ≤ length (c .before .before .read-lines .last .1 .0))
 lent c =
     let start = c .before .before .before .before .before .before .before in
-    let e = c .before .before .before .before .lines-to-read .ensures in
+    let lines-to-read = c .before .before .before .before .lines-to-read in
+    let e = lines-to-read .ensures in
     let read = c .before .before .read-lines in (
       omega (arith, whole-lent (start .args .text .now) (length (start .args .words .now)) _ e .1, read .kept .1 .0),
-      omega (arith, count-lent (start .args .text .now) (length (start .args .words .now)) _ e _ (read .ensures .0), read .kept .1 .0),
+      omega (
+        arith,
+        count-lent (start .args .text .now) (length (start .args .words .now)) _ e _ (read .ensures .0),
+        read .kept .1 .0,
+      ),
     )
 
 mul-clear : tie.Need-mul-clear
@@ -50,8 +59,10 @@ same-length c = search needs
 returns : tie.Need-returns
 returns c =
     let start = c .before .before .before .before .before .before .before .before .before .before .before in
-    let read = c .before .before .before .before .before .before .read-lines in
-    sheet-read _ _ _ _ _ (read .ensures .0 ∙ ap (goodLines (start .args .text .now)) (c .before .before .before .before .before .before .before .before .lines-to-read .ensures)) (read .kept .1 .0) (read .ensures .1) (c .before .before .clear .ensures)
+    let lines-to-read = c .before .before .before .before .before .before .before .before .lines-to-read in
+    let read-lines = c .before .before .before .before .before .before .read-lines in
+    sheet-read _ _ _ _ _ (read-lines .ensures .0 ∙ ap (goodLines (start .args .text .now)) (lines-to-read .ensures))
+    (read-lines .kept .1 .0) (read-lines .ensures .1) (c .before .before .clear .ensures)
 
 pub read-sheet-spec : {M : Type 1} → statement M
 read-sheet-spec =

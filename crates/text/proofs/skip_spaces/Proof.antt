@@ -1,4 +1,5 @@
--- `skip_spaces` meets its contract. The loop's invariant: what is left after trimming is the same from each space on. Assumes nothing.
+-- `skip_spaces` meets its contract. The loop's invariant: what is left after trimming is the same from each space on.
+-- Assumes nothing.
 use mathlib.Core.Path.{refl, _∙_, _≡_}
 use Prim.Native.Nat.{_≤_, _-_}
 use native.Mathlib.Omega.{arith}
@@ -21,7 +22,9 @@ shared-slice-read-if1 : tie.Need-shared-slice-read-if1 Inv-loop μ-loop
 shared-slice-read-if1 c = omega arith
 
 returns : tie.Need-returns Inv-loop μ-loop
-returns c = (c .before .before .before .loop .inv .0, spaces-end _ _ (c .before .before .loop-test .taken) (c .if1 .taken) ∙ c .before .before .before .loop .inv .1)
+returns c =
+    let loop = c .before .before .before .loop in
+    (loop .inv .0, spaces-end _ _ (c .before .before .loop-test .taken) (c .if1 .taken) ∙ loop .inv .1)
 
 add-i : tie.Need-add-i Inv-loop μ-loop
 add-i c = omega arith
@@ -30,7 +33,10 @@ loop-less : tie.Need-loop-less Inv-loop μ-loop
 loop-less c = omega arith
 
 loop-again : tie.Need-loop-again Inv-loop μ-loop
-loop-again c = (omega arith, space-passed _ _ (c .before .before .loop-test .taken) (c .if1 .left) ∙ c .before .before .before .loop .inv .1)
+loop-again c = (
+  omega arith,
+  space-passed _ _ (c .before .before .loop-test .taken) (c .if1 .left) ∙ c .before .before .before .loop .inv .1,
+)
 
 returns-2 : tie.Need-returns-2 Inv-loop μ-loop
 returns-2 c = (c .before .loop .inv .0, spaces-alone _ _ (c .loop-test .left) ∙ c .before .loop .inv .1)

@@ -53,12 +53,16 @@ loop-less c = omega arith
 
 loop-again : tie.Need-loop-again Inv-loop μ-loop
 loop-again c =
-    let head = c .before .before .before .before .before .before in
-    let row = head .before .before .before .args .row .now in
-    let k = head .loop .c in
+    let start = c .before .before .before .before .before .before .before .before .before in
+    let loop = c .before .before .before .before .before .before .loop in
+    let row = start .args .row .now in
+    let k = loop .c in
     let h : k < length row = omega arith in
-    let g : 10 * k + 10 ≤ length (head .loop .line) = omega arith in
-    (omega arith, c .before .line .given .1 ∙ head .loop .inv .1, number-written row _ _ _ h g (head .loop .inv .2) (c .before .before .write-number .ensures))
+    let g : 10 * k + 10 ≤ length (loop .line) = omega arith in (
+      omega arith,
+      c .before .line .given .1 ∙ loop .inv .1,
+      number-written row _ _ _ h g (loop .inv .2) (c .before .before .write-number .ensures),
+    )
 
 slice-write-line : tie.Need-slice-write-line Inv-loop μ-loop
 slice-write-line c = omega arith
@@ -68,8 +72,9 @@ same-length c = simp length-set (c .before .loop .inv .1 ∙ sym (c .before .bef
 
 returns : tie.Need-returns Inv-loop μ-loop
 returns c =
-    let head = c .before in
-    line-written _ _ _ (head .loop .inv .0) (c .loop-test .left) (c .before .before .before .before .pre .0) (head .loop .inv .1) (head .loop .inv .2)
+    let start = c .before .before .before .before in
+    let loop = c .before .loop in
+    line-written _ _ _ (loop .inv .0) (c .loop-test .left) (start .pre .0) (loop .inv .1) (loop .inv .2)
 
 pub write-line-spec : {M : Type 1} → statement M
 write-line-spec =

@@ -1,4 +1,5 @@
--- `write_number` meets its contract. The loop's invariant: from place i on the column is that of the number, whose digits before it are left. Assumes nothing.
+-- `write_number` meets its contract. The loop's invariant: from place i on the column is that of the number, whose
+-- digits before it are left. Assumes nothing.
 use mathlib.Core.Path.{sym, subst, _∙_, _≡_}
 use Prim.Native.Nat.{ℕ, _≤_, _-_, _/_, _^_}
 use native.Mathlib.Omega.{arith}
@@ -10,13 +11,17 @@ use Rattle.text.proofs.write_number.Statement.{statement}
 use Rattle.text.proofs.write_number.Tie as tie
 
 abbrev Inv-loop : tie.InvT-loop
-Inv-loop n column₀ left₀ i₀ column left i = (i ≤ 10) × (length column ≡ 10) × (left ≡ n / 10 ^ (10 - i)) × (drop i column ≡ drop i (inTen n))
+Inv-loop n column₀ left₀ i₀ column left i =
+    (i ≤ 10) × (length column ≡ 10) × (left ≡ n / 10 ^ (10 - i)) × (drop i column ≡ drop i (inTen n))
 
 abbrev μ-loop : tie.MeasureT-loop
 μ-loop n column₀ left₀ i₀ column left i = i
 
 loop-holds : tie.Need-loop-holds Inv-loop μ-loop
-loop-holds c = let z = none-written (c .before .args .n) (c .before .args .column .now) (c .before .pre) in (omega arith, c .before .pre, z .0, z .1)
+loop-holds c =
+    let start = c .before in
+    let z = none-written (start .args .n) (start .args .column .now) (start .pre) in
+    (omega arith, start .pre, z .0, z .1)
 
 sub-i : tie.Need-sub-i Inv-loop μ-loop
 sub-i c = omega arith
@@ -32,7 +37,8 @@ loop-less c = omega arith
 
 loop-again : tie.Need-loop-again Inv-loop μ-loop
 loop-again c =
-    let n = c .before .before .before .before .args .n in
+    let start = c .before .before .before .before in
+    let n = start .args .n in
     let v = c .before .before .loop .inv in
     let h = c .before .loop-test .taken in (
       omega arith,
@@ -46,8 +52,9 @@ same-length c = c .before .loop .inv .1 ∙ sym (c .before .before .before .pre)
 
 returns : tie.Need-returns Inv-loop μ-loop
 returns c =
-    let e : c .before .loop .i ≡ 0 = omega arith in
-    subst (λ (k : ℕ). drop k (c .before .loop .column) ≡ drop k (inTen (c .before .before .before .args .n))) e (c .before .loop .inv .3)
+    let loop = c .before .loop in
+    let e : loop .i ≡ 0 = omega arith in
+    subst (λ (k : ℕ). drop k (loop .column) ≡ drop k (inTen (c .before .before .before .args .n))) e (loop .inv .3)
 
 pub write-number-spec : {M : Type 1} → statement M
 write-number-spec =

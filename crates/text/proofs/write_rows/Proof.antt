@@ -1,4 +1,5 @@
--- `write_rows` meets its contract. The loop's invariant: the lines passed are those of the rows, and the rest is as before. Assumes nothing.
+-- `write_rows` meets its contract. The loop's invariant: the lines passed are those of the rows, and the rest is as
+-- before. Assumes nothing.
 use mathlib.Core.Path.{refl, ap, _∙_, _≡_}
 use Prim.Native.Nat.{_+_, _/_, _≤_, _-_, _*_}
 use native.Mathlib.Omega.{arith}
@@ -9,13 +10,17 @@ use Rattle.text.proofs.write_rows.Statement.{statement}
 use Rattle.text.proofs.write_rows.Tie as tie
 
 abbrev Inv-loop : tie.InvT-loop
-Inv-loop words text₀ n r₀ text r = (r ≤ n) × (length text ≡ length text₀) × (take (81 * r) text ≡ linesOf words r) × (drop (81 * r) text ≡ drop (81 * r) text₀)
+Inv-loop words text₀ n r₀ text r =
+    (r ≤ n) × (length text ≡ length text₀) × (take (81 * r) text ≡ linesOf words r)
+    × (drop (81 * r) text ≡ drop (81 * r) text₀)
 
 abbrev μ-loop : tie.MeasureT-loop
 μ-loop words text₀ n r₀ text r = n - r
 
 returns : tie.Need-returns Inv-loop μ-loop
-returns c = rows-refused (c .before .before .before .args .words .now) (c .before .before .before .args .text .now) (omega arith)
+returns c =
+    let start = c .before .before .before in
+    rows-refused (start .args .words .now) (start .args .text .now) (omega arith)
 
 loop-holds : tie.Need-loop-holds Inv-loop μ-loop
 loop-holds c = (omega arith, refl, no-line _, refl)
@@ -70,17 +75,19 @@ loop-less c = omega arith
 
 loop-again : tie.Need-loop-again Inv-loop μ-loop
 loop-again c =
-    let head = c .before .before .before .before .before .before in
-    let ws = head .before .before .before .before .args .words .now in
-    let r = head .loop .r in
-    let t = head .loop .text in
-    let v = head .loop .inv in
+    let start = c .before .before .before .before .before .before .before .before .before .before in
+    let loop = c .before .before .before .before .before .before .loop in
+    let write-line = c .before .before .write-line in
+    let ws = start .args .words .now in
+    let r = loop .r in
+    let t = loop .text in
+    let v = loop .inv in
     let g = c .before .text .given in
     let h : 81 * r + 81 ≤ length t = omega arith in (
       omega arith,
       g .1 ∙ v .1,
-      row-written r t _ h (g .0) ws (v .2) (c .before .before .write-line .ensures ∙ ap lineOf (row-number ws r)),
-      rest-kept r t (c .before .before .write-line .last .1 .0) h (g .0) _ (v .3),
+      row-written r t _ h (g .0) ws (v .2) (write-line .ensures ∙ ap lineOf (row-number ws r)),
+      rest-kept r t (write-line .last .1 .0) h (g .0) _ (v .3),
     )
 
 mul-result : tie.Need-mul-result Inv-loop μ-loop
@@ -91,9 +98,10 @@ same-length c = c .before .loop .inv .1
 
 returns-2 : tie.Need-returns-2 Inv-loop μ-loop
 returns-2 c =
-    let head = c .before in
-    let e : head .loop .r ≡ length (head .before .before .before .before .args .words .now) / 8 = omega arith in
-    rows-written _ _ (head .loop .r) _ (c .before .before .if1 .left) e (head .loop .inv .2) (head .loop .inv .3)
+    let start = c .before .before .before .before .before in
+    let loop = c .before .loop in
+    let e : loop .r ≡ length (start .args .words .now) / 8 = omega arith in
+    rows-written _ _ (loop .r) _ (c .before .before .if1 .left) e (loop .inv .2) (loop .inv .3)
 
 pub write-rows-spec : {M : Type 1} → statement M
 write-rows-spec =

@@ -9,7 +9,10 @@ use Rattle.visits.proofs.check_instanceof.Statement.{statement}
 use Rattle.visits.proofs.check_instanceof.Tie as tie
 
 returns : tie.Need-returns
-returns c = λ O q. idle O (c .before .before .before .before .before .args .sheet .now) (visit (c .before .before .before .before .before .args .row)) (stateOf (c .before .before .before .before .before .args .walk) (c .before .before .before .before .before .args .entries .now) (c .before .before .before .before .before .args .results .now) q) (c .if1 .taken)
+returns c =
+    let start = c .before .before .before .before .before in
+    λ O q. idle O (start .args .sheet .now) (visit (start .args .row))
+    (stateOf (start .args .walk) (start .args .entries .now) (start .args .results .now) q) (c .if1 .taken)
 
 word-requires : tie.Need-word-requires
 word-requires c κs = search needs
@@ -24,7 +27,15 @@ refuse-requires : tie.Need-refuse-requires
 refuse-requires c κs = search needs
 
 returns-2 : tie.Need-returns-2
-returns-2 c = λ O q. instance-no O (c .before .before .before .before .before .before .before .before .before .before .before .args .sheet .now) (c .before .before .before .before .before .before .before .before .before .before .before .args .row) (stateOf (c .before .before .before .before .before .before .before .before .before .before .before .args .walk) (c .before .before .before .before .before .before .before .before .before .before .before .args .entries .now) (c .before .before .before .before .before .before .before .before .before .before .before .args .results .now) q) (c .before .before .before .before .before .before .if1 .left) (c .before .before .before .before .before .before .before .before .before .before .before .pre) _ _ (c .before .before .before .before .before .word .ensures) (c .before .before .before .class-number .ensures ∙ ap classNumber (c .before .before .before .before .lookup .ensures .0)) (c .before .if2 .taken) (c .refuse .ensures (c .before .before .before .before .before .before .before .before .before .before .before .args .entries .now) (c .before .before .before .before .before .before .before .before .before .before .before .args .results .now) q)
+returns-2 c =
+    let start = c .before .before .before .before .before .before .before .before .before .before .before in
+    let if1 = c .before .before .before .before .before .before .if1 in
+    let word = c .before .before .before .before .before .word in
+    let lookup = c .before .before .before .before .lookup in
+    λ O q. instance-no O (start .args .sheet .now) (start .args .row)
+    (stateOf (start .args .walk) (start .args .entries .now) (start .args .results .now) q) (if1 .left) (start .pre) _ _
+    (word .ensures) (c .before .before .before .class-number .ensures ∙ ap classNumber (lookup .ensures .0))
+    (c .before .if2 .taken) (c .refuse .ensures (start .args .entries .now) (start .args .results .now) q)
 
 write-decl-requires : tie.Need-write-decl-requires
 write-decl-requires c κs = search needs
@@ -33,7 +44,18 @@ same-length : tie.Need-same-length
 same-length c = search needs
 
 returns-3 : tie.Need-returns-3
-returns-3 c = λ O q. instance-yes O (c .before .before .before .before .before .before .before .before .before .before .before .before .before .before .args .sheet .now) (c .before .before .before .before .before .before .before .before .before .before .before .before .before .before .args .row) (stateOf (c .before .before .before .before .before .before .before .before .before .before .before .before .before .before .args .walk) (c .before .before .before .before .before .before .before .before .before .before .before .before .before .before .args .entries .now) (c .before .before .before .before .before .before .before .before .before .before .before .before .before .before .args .results .now) q) (c .before .before .before .before .before .before .before .before .before .if1 .left) (c .before .before .before .before .before .before .before .before .before .before .before .before .before .before .pre) _ _ (c .before .before .before .before .before .before .before .before .word .ensures) (c .before .before .before .before .before .before .class-number .ensures ∙ ap classNumber (c .before .before .before .before .before .before .before .lookup .ensures .0)) _ (c .before .before .before .before .if2 .left) (c .before .before .write-decl .ensures _ q)
+returns-3 c =
+    let at-if1 = c .before .before .before .before .before .before .before .before .before in
+    let start = at-if1 .before .before .before .before .before in
+    let if1 = at-if1 .if1 in
+    let word = c .before .before .before .before .before .before .before .before .word in
+    let lookup = c .before .before .before .before .before .before .before .lookup in
+    let class-number = c .before .before .before .before .before .before .class-number in
+    let if2 = c .before .before .before .before .if2 in
+    λ O q. instance-yes O (start .args .sheet .now) (start .args .row)
+    (stateOf (start .args .walk) (start .args .entries .now) (start .args .results .now) q) (if1 .left) (start .pre) _ _
+    (word .ensures) (class-number .ensures ∙ ap classNumber (lookup .ensures .0)) _ (if2 .left)
+    (c .before .before .write-decl .ensures _ q)
 
 pub check-instanceof-spec : {M : Type 1} → statement M
 check-instanceof-spec =

@@ -10,7 +10,11 @@ use Rattle.visits.proofs.resolve_ident.Statement.{statement}
 use Rattle.visits.proofs.resolve_ident.Tie as tie
 
 returns : tie.Need-returns
-returns c = λ O. idle O (c .before .before .before .before .before .before .args .sheet .now) (visit (c .before .before .before .before .before .before .args .row)) (stateOf (c .before .before .before .before .before .before .args .walk) (c .before .before .before .before .before .before .args .entries .now) (c .before .before .before .before .before .before .args .results .now) (c .before .before .before .before .before .before .args .nodes .now)) (c .if1 .taken)
+returns c =
+    let start = c .before .before .before .before .before .before in
+    λ O. idle O (start .args .sheet .now) (visit (start .args .row))
+    (stateOf (start .args .walk) (start .args .entries .now) (start .args .results .now) (start .args .nodes .now))
+    (c .if1 .taken)
 
 word-requires : tie.Need-word-requires
 word-requires c κs = search needs
@@ -28,17 +32,29 @@ refuse-requires : tie.Need-refuse-requires
 refuse-requires c κs = search needs
 
 returns-2 : tie.Need-returns-2
-returns-2 c = λ O. ident-no O (c .before .before .before .before .before .before .before .before .before .before .before .before .before .before .args .sheet .now) (c .before .before .before .before .before .before .before .before .before .before .before .before .before .before .args .row) (stateOf (c .before .before .before .before .before .before .before .before .before .before .before .before .before .before .args .walk) (c .before .before .before .before .before .before .before .before .before .before .before .before .before .before .args .entries .now) (c .before .before .before .before .before .before .before .before .before .before .before .before .before .before .args .results .now) (c .before .before .before .before .before .before .before .before .before .before .before .before .before .before .args .nodes .now)) (c .before .before .before .before .before .before .before .before .if1 .left) (c .before .before .before .before .before .before .before .before .before .before .before .before .before .before .pre .1) _ _ (c .before .before .before .before .before .word .ensures) (c .before .before .before .before .lookup .ensures .0) _ (c .before .undeclared .ensures) (sym (c .before .before .before .is-declared .ensures) ∙ not-true (c .before .before .before .is-declared .result) (c .before .before .if2 .taken)) (c .refuse .ensures (c .before .before .before .before .before .before .before .before .before .before .before .before .before .before .args .entries .now) (c .before .before .before .before .before .before .before .before .before .before .before .before .before .before .args .results .now) (c .before .before .before .before .before .before .before .before .before .before .before .before .before .before .args .nodes .now))
+returns-2 c =
+    let at-if1 = c .before .before .before .before .before .before .before .before in
+    let start = at-if1 .before .before .before .before .before .before in
+    let if1 = at-if1 .if1 in
+    let word = c .before .before .before .before .before .word in
+    let lookup = c .before .before .before .before .lookup in
+    let is-declared = c .before .before .before .is-declared in
+    λ O. ident-no O (start .args .sheet .now) (start .args .row)
+    (stateOf (start .args .walk) (start .args .entries .now) (start .args .results .now) (start .args .nodes .now))
+    (if1 .left) (start .pre .1) _ _ (word .ensures) (lookup .ensures .0) _ (c .before .undeclared .ensures)
+    (sym (is-declared .ensures) ∙ not-true (is-declared .result) (c .before .before .if2 .taken))
+    (c .refuse .ensures (start .args .entries .now) (start .args .results .now) (start .args .nodes .now))
 
 capture-requires : tie.Need-capture-requires
 capture-requires c κs = search needs
 
 seen-in-requires : tie.Need-seen-in-requires
-seen-in-requires c κs = (
-  c .before .before .before .before .before .before .before .before .before .before .before .before .before .before .before .before .before .before .before .before .before .before .pre .0,
-  sym (c .before .before .before .before .before .before .before .before .before .before .before .is-declared .ensures)
-      ∙ not-false (c .before .before .before .before .before .before .before .before .before .before .before .is-declared .result) (c .before .before .before .before .before .before .before .before .before .before .if2 .left),
-)
+seen-in-requires c κs =
+    let at-is-declared = c .before .before .before .before .before .before .before .before .before .before .before in
+    let start = at-is-declared .before .before .before .before .before .before .before .before .before .before .before in
+    let is-declared = at-is-declared .is-declared in
+    let if2 = c .before .before .before .before .before .before .before .before .before .before .if2 in
+    (start .pre .0, sym (is-declared .ensures) ∙ not-false (is-declared .result) (if2 .left))
 
 write-decl-requires : tie.Need-write-decl-requires
 write-decl-requires c κs = search needs
@@ -50,7 +66,22 @@ same-length-2 : tie.Need-same-length-2
 same-length-2 c = search needs
 
 returns-3 : tie.Need-returns-3
-returns-3 c = λ O. ident-yes O (c .before .before .before .before .before .before .before .before .before .before .before .before .before .before .before .before .before .before .before .before .before .before .before .before .before .before .before .args .sheet .now) (c .before .before .before .before .before .before .before .before .before .before .before .before .before .before .before .before .before .before .before .before .before .before .before .before .before .before .before .args .row) (stateOf (c .before .before .before .before .before .before .before .before .before .before .before .before .before .before .before .before .before .before .before .before .before .before .before .before .before .before .before .args .walk) (c .before .before .before .before .before .before .before .before .before .before .before .before .before .before .before .before .before .before .before .before .before .before .before .before .before .before .before .args .entries .now) (c .before .before .before .before .before .before .before .before .before .before .before .before .before .before .before .before .before .before .before .before .before .before .before .before .before .before .before .args .results .now) (c .before .before .before .before .before .before .before .before .before .before .before .before .before .before .before .before .before .before .before .before .before .before .before .before .before .before .before .args .nodes .now)) (c .before .before .before .before .before .before .before .before .before .before .before .before .before .before .before .before .before .before .before .before .before .if1 .left) (c .before .before .before .before .before .before .before .before .before .before .before .before .before .before .before .before .before .before .before .before .before .before .before .before .before .before .before .pre .1) _ _ (c .before .before .before .before .before .before .before .before .before .before .before .before .before .before .before .before .before .before .word .ensures) (c .before .before .before .before .before .before .before .before .before .before .before .before .before .before .before .before .before .lookup .ensures .0) _ _ _ _ _ (c .before .before .before .before .before .before .before .before .before .before .before .before .before .before .before .before .before .lookup .ensures .1) (c .before .before .before .before .before .before .before .before .before .before .before .before .before .before .before .before .before .lookup .ensures .2) (sym (c .before .before .before .before .before .before .before .before .before .before .before .before .before .before .before .before .is-declared .ensures) ∙ not-false (c .before .before .before .before .before .before .before .before .before .before .before .before .before .before .before .before .is-declared .result) (c .before .before .before .before .before .before .before .before .before .before .before .before .before .before .before .if2 .left)) (c .before .before .before .before .before .before .before .before .before .before .before .capture .ensures) (told-four (c .before .before .before .before .seen-in .result) ∙ c .before .before .before .before .seen-in .ensures _) (c .before .before .write-decl .ensures _ _)
+returns-3 c =
+    let at-capture = c .before .before .before .before .before .before .before .before .before .before .before in
+    let at-if1 = at-capture .before .before .before .before .before .before .before .before .before .before in
+    let start = at-if1 .before .before .before .before .before .before in
+    let if1 = at-if1 .if1 in
+    let word = at-capture .before .before .before .before .before .before .before .word in
+    let lookup = at-capture .before .before .before .before .before .before .lookup in
+    let is-declared = at-capture .before .before .before .before .before .is-declared in
+    let if2 = at-capture .before .before .before .before .if2 in
+    let capture = at-capture .capture in
+    let seen-in = c .before .before .before .before .seen-in in
+    λ O. ident-yes O (start .args .sheet .now) (start .args .row)
+    (stateOf (start .args .walk) (start .args .entries .now) (start .args .results .now) (start .args .nodes .now))
+    (if1 .left) (start .pre .1) _ _ (word .ensures) (lookup .ensures .0) _ _ _ _ _ (lookup .ensures .1)
+    (lookup .ensures .2) (sym (is-declared .ensures) ∙ not-false (is-declared .result) (if2 .left)) (capture .ensures)
+    (told-four (seen-in .result) ∙ seen-in .ensures _) (c .before .before .write-decl .ensures _ _)
 
 pub resolve-ident-spec : {M : Type 1} → statement M
 resolve-ident-spec =

@@ -10,7 +10,10 @@ use Rattle.visits.proofs.resolve_parent.Statement.{statement}
 use Rattle.visits.proofs.resolve_parent.Tie as tie
 
 returns : tie.Need-returns
-returns c = λ O q. idle O (c .before .before .before .before .before .args .sheet .now) (visit (c .before .before .before .before .before .args .row)) (stateOf (c .before .before .before .before .before .args .walk) (c .before .before .before .before .before .args .entries .now) (c .before .before .before .before .before .args .results .now) q) (c .if1 .taken)
+returns c =
+    let start = c .before .before .before .before .before in
+    λ O q. idle O (start .args .sheet .now) (visit (start .args .row))
+    (stateOf (start .args .walk) (start .args .entries .now) (start .args .results .now) q) (c .if1 .taken)
 
 word-requires : tie.Need-word-requires
 word-requires c κs = search needs
@@ -31,7 +34,19 @@ refuse-requires : tie.Need-refuse-requires
 refuse-requires c κs = search needs
 
 returns-2 : tie.Need-returns-2
-returns-2 c = λ O q. parent-no O (c .before .before .before .before .before .before .before .before .before .before .before .before .args .sheet .now) (c .before .before .before .before .before .before .before .before .before .before .before .before .args .row) (stateOf (c .before .before .before .before .before .before .before .before .before .before .before .before .args .walk) (c .before .before .before .before .before .before .before .before .before .before .before .before .args .entries .now) (c .before .before .before .before .before .before .before .before .before .before .before .before .args .results .now) q) (c .before .before .before .before .before .before .before .if1 .left) (c .before .before .before .before .before .before .before .before .before .before .before .before .pre) _ _ _ (c .before .before .before .before .before .before .word .ensures) (c .before .before .before .before .before .word2 .ensures) (c .before .before .before .class-number .ensures ∙ ap classNumber (c .before .before .before .before .lookup .ensures .0)) (sym (c .before .before .names-class .ensures) ∙ not-true (c .before .before .names-class .result) (c .before .if2 .taken)) (c .refuse .ensures (c .before .before .before .before .before .before .before .before .before .before .before .before .args .entries .now) (c .before .before .before .before .before .before .before .before .before .before .before .before .args .results .now) q)
+returns-2 c =
+    let start = c .before .before .before .before .before .before .before .before .before .before .before .before in
+    let if1 = c .before .before .before .before .before .before .before .if1 in
+    let word = c .before .before .before .before .before .before .word in
+    let word2 = c .before .before .before .before .before .word2 in
+    let lookup = c .before .before .before .before .lookup in
+    let names-class = c .before .before .names-class in
+    λ O q. parent-no O (start .args .sheet .now) (start .args .row)
+    (stateOf (start .args .walk) (start .args .entries .now) (start .args .results .now) q) (if1 .left) (start .pre) _ _
+    _ (word .ensures) (word2 .ensures)
+    (c .before .before .before .class-number .ensures ∙ ap classNumber (lookup .ensures .0))
+    (sym (names-class .ensures) ∙ not-true (names-class .result) (c .before .if2 .taken))
+    (c .refuse .ensures (start .args .entries .now) (start .args .results .now) q)
 
 write-parent-requires : tie.Need-write-parent-requires
 write-parent-requires c κs = search needs
@@ -40,7 +55,21 @@ same-length : tie.Need-same-length
 same-length c = search needs
 
 returns-3 : tie.Need-returns-3
-returns-3 c = λ O q. parent-yes O (c .before .before .before .before .before .before .before .before .before .before .before .before .before .before .before .args .sheet .now) (c .before .before .before .before .before .before .before .before .before .before .before .before .before .before .before .args .row) (stateOf (c .before .before .before .before .before .before .before .before .before .before .before .before .before .before .before .args .walk) (c .before .before .before .before .before .before .before .before .before .before .before .before .before .before .before .args .entries .now) (c .before .before .before .before .before .before .before .before .before .before .before .before .before .before .before .args .results .now) q) (c .before .before .before .before .before .before .before .before .before .before .if1 .left) (c .before .before .before .before .before .before .before .before .before .before .before .before .before .before .before .pre) _ _ _ (c .before .before .before .before .before .before .before .before .before .word .ensures) (c .before .before .before .before .before .before .before .before .word2 .ensures) (c .before .before .before .before .before .before .class-number .ensures ∙ ap classNumber (c .before .before .before .before .before .before .before .lookup .ensures .0)) _ (sym (c .before .before .before .before .before .names-class .ensures) ∙ not-false (c .before .before .before .before .before .names-class .result) (c .before .before .before .before .if2 .left)) (c .before .before .write-parent .ensures _ q)
+returns-3 c =
+    let at-if1 = c .before .before .before .before .before .before .before .before .before .before in
+    let start = at-if1 .before .before .before .before .before in
+    let if1 = at-if1 .if1 in
+    let word = c .before .before .before .before .before .before .before .before .before .word in
+    let word2 = c .before .before .before .before .before .before .before .before .word2 in
+    let lookup = c .before .before .before .before .before .before .before .lookup in
+    let class-number = c .before .before .before .before .before .before .class-number in
+    let names-class = c .before .before .before .before .before .names-class in
+    let if2 = c .before .before .before .before .if2 in
+    λ O q. parent-yes O (start .args .sheet .now) (start .args .row)
+    (stateOf (start .args .walk) (start .args .entries .now) (start .args .results .now) q) (if1 .left) (start .pre) _ _
+    _ (word .ensures) (word2 .ensures) (class-number .ensures ∙ ap classNumber (lookup .ensures .0)) _
+    (sym (names-class .ensures) ∙ not-false (names-class .result) (if2 .left))
+    (c .before .before .write-parent .ensures _ q)
 
 pub resolve-parent-spec : {M : Type 1} → statement M
 resolve-parent-spec =

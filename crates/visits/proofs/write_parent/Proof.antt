@@ -17,7 +17,12 @@ same-length : tie.Need-same-length
 same-length c = search needs
 
 returns : tie.Need-returns
-returns c = λ o q. rw (← c .before .before .before .before .before .word .ensures, c .before .before .before .before .if1 .taken) (c .before .before .write-decl .ensures o q ∙ same-row (c .before .before .before .before .before .before .before .before .args .c) _ (2 ∷ c .before .before .before .before .before .before .before .before .args .class .0 ∷ []) (storeOf o (c .before .before .before .before .before .before .before .before .args .results .now) q) refl)
+returns c =
+    let start = c .before .before .before .before .before .before .before .before in
+    let word = c .before .before .before .before .before .word in
+    let if1 = c .before .before .before .before .if1 in
+    λ o q. rw (← word .ensures, if1 .taken) (c .before .before .write-decl .ensures o q
+    ∙ same-row (start .args .c) _ (2 ∷ start .args .class .0 ∷ []) (storeOf o (start .args .results .now) q) refl)
 
 returns-2 : tie.Need-returns-2
 returns-2 c = λ o q. rw (← c .before .word .ensures, ne-eqb _ _ (c .if1 .left))

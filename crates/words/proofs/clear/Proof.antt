@@ -32,10 +32,11 @@ loop-less c = omega arith
 
 loop-again : tie.Need-loop-again Inv-loop μ-loop
 loop-again c =
-    let h : c .before .loop .i < length (c .before .before .args .words .now) = omega arith in (
+    let loop = c .before .loop in
+    let h : loop .i < length (c .before .before .args .words .now) = omega arith in (
       omega arith,
-      simp length-set (c .before .loop .inv .1),
-      ap (λ (l : List ℕ). set l (c .before .loop .i) 0) (c .before .loop .inv .2) ∙ fill-more _ _ _ h,
+      simp length-set (loop .inv .1),
+      ap (λ (l : List ℕ). set l (loop .i) 0) (loop .inv .2) ∙ fill-more _ _ _ h,
     )
 
 same-length : tie.Need-same-length Inv-loop μ-loop
@@ -43,8 +44,9 @@ same-length c = c .before .loop .inv .1
 
 returns : tie.Need-returns Inv-loop μ-loop
 returns c =
-    let h : length (c .before .before .args .words .now) ≤ c .before .loop .i = omega arith in
-    c .before .loop .inv .2 ∙ filled _ _ h (c .before .loop .inv .0)
+    let loop = c .before .loop in
+    let h : length (c .before .before .args .words .now) ≤ loop .i = omega arith in
+    loop .inv .2 ∙ filled _ _ h (loop .inv .0)
 
 pub clear-spec : {M : Type 1} → statement M
 clear-spec =

@@ -29,12 +29,13 @@ returns-5 c = let h : c .before .args .code ≡ 5 = omega arith in rw h
 returns-6 : tie.Need-returns-6
 unfolding declOf
 returns-6 c =
+    let start = c .before in
     rw (
-      ne-eqb (c .before .args .code) 1 (omega arith),
-      ne-eqb (c .before .args .code) 2 (omega arith),
-      ne-eqb (c .before .args .code) 3 (omega arith),
-      ne-eqb (c .before .args .code) 4 (omega arith),
-      ne-eqb (c .before .args .code) 5 (omega arith),
+      ne-eqb (start .args .code) 1 (omega arith),
+      ne-eqb (start .args .code) 2 (omega arith),
+      ne-eqb (start .args .code) 3 (omega arith),
+      ne-eqb (start .args .code) 4 (omega arith),
+      ne-eqb (start .args .code) 5 (omega arith),
     )
 
 pub from-words-spec : {M : Type 1} → statement M

@@ -16,19 +16,31 @@ is-class-row-requires : tie.Need-is-class-row-requires
 is-class-row-requires c κs = search needs
 
 sub-is-row-name : tie.Need-sub-is-row-name
-sub-is-row-name c = row-number (c .before .before .before .before .before .before .before .args .sheet .now) (c .before .before .before .before .before .before .before .args .c .0) (sym (c .before .before .is-class-row .ensures) ∙ c .before .if1 .taken)
+sub-is-row-name c =
+    let start = c .before .before .before .before .before .before .before in
+    row-number (start .args .sheet .now) (start .args .c .0)
+    (sym (c .before .before .is-class-row .ensures) ∙ c .before .if1 .taken)
 
 is-row-name-requires : tie.Need-is-row-name-requires
 is-row-name-requires c κs = search needs
 
 returns : tie.Need-returns
-returns c = λ o. let a = c .before .before .before .before .before .before .before .before .args in own-row (over (a .outside .now)) (a .sheet .now) (storeOf o (a .results .now) (a .nodes .now)) (a .kind) (a .c .0) (a .m) (sym (c .before .before .if1 .taken) ∙ c .before .before .before .is-class-row .ensures) (c .is-row-name .ensures o)
+returns c =
+    let start = c .before .before .before .before .before .before .before .before in
+    λ o. own-row (over (start .args .outside .now)) (start .args .sheet .now)
+    (storeOf o (start .args .results .now) (start .args .nodes .now)) (start .args .kind) (start .args .c .0)
+    (start .args .m) (sym (c .before .before .if1 .taken) ∙ c .before .before .before .is-class-row .ensures)
+    (c .is-row-name .ensures o)
 
 is-recorded-requires : tie.Need-is-recorded-requires
 is-recorded-requires c κs = search needs
 
 returns-2 : tie.Need-returns-2
-returns-2 c = λ o. let a = c .before .before .before .before .before .before .before .args in own-record (over (a .outside .now)) (a .sheet .now) (storeOf o (a .results .now) (a .nodes .now)) (a .kind) (a .c .0) (a .m) (sym (c .before .if1 .left) ∙ c .before .before .is-class-row .ensures) (c .is-recorded .ensures)
+returns-2 c =
+    let start = c .before .before .before .before .before .before .before in
+    λ o. own-record (over (start .args .outside .now)) (start .args .sheet .now)
+    (storeOf o (start .args .results .now) (start .args .nodes .now)) (start .args .kind) (start .args .c .0)
+    (start .args .m) (sym (c .before .if1 .left) ∙ c .before .before .is-class-row .ensures) (c .is-recorded .ensures)
 
 pub is-own-spec : {M : Type 1} → statement M
 is-own-spec =

@@ -17,7 +17,9 @@ is-listed-requires : tie.Need-is-listed-requires
 is-listed-requires c κs = search needs
 
 returns : tie.Need-returns
-returns c = c .is-listed .ensures ∙ ap (λ (l : List ℕ). c .before .before .before .args .m ∈? l) (c .before .recorded-names .ensures)
+returns c =
+    c .is-listed .ensures
+    ∙ ap (λ (l : List ℕ). c .before .before .before .args .m ∈? l) (c .before .recorded-names .ensures)
 
 pub is-recorded-spec : {M : Type 1} → statement M
 is-recorded-spec = tie.close (tie.spec recorded-names-requires is-listed-requires returns)

@@ -14,7 +14,10 @@ has-named-requires : tie.Need-has-named-requires
 has-named-requires c κs = search needs
 
 returns : tie.Need-returns
-returns c = λ o. let a = c .before .before .before .before .before .args in row-listed (a .sheet .now) (storeOf o (a .results .now) (a .nodes .now)) (a .kind) (a .row) (a .m) (sym (c .if1 .taken) ∙ c .before .has-named .ensures)
+returns c =
+    let start = c .before .before .before .before .before in
+    λ o. row-listed (start .args .sheet .now) (storeOf o (start .args .results .now) (start .args .nodes .now))
+    (start .args .kind) (start .args .row) (start .args .m) (sym (c .if1 .taken) ∙ c .before .has-named .ensures)
 
 word-requires : tie.Need-word-requires
 word-requires c κs = search needs
@@ -23,10 +26,20 @@ has-key-requires : tie.Need-has-key-requires
 has-key-requires c κs = search needs
 
 returns-2 : tie.Need-returns-2
-returns-2 c = λ o. let a = c .before .before .before .before .before .before .before .before .args in row-stored (a .sheet .now) (storeOf o (a .results .now) (a .nodes .now)) (a .kind) (a .row) (a .m) (sym (c .before .before .before .if1 .left) ∙ c .before .before .before .before .has-named .ensures) (c .before .before .if2 .taken) (c .before .word .ensures) (c .has-key .ensures)
+returns-2 c =
+    let start = c .before .before .before .before .before .before .before .before in
+    let has-named = c .before .before .before .before .has-named in
+    λ o. row-stored (start .args .sheet .now) (storeOf o (start .args .results .now) (start .args .nodes .now))
+    (start .args .kind) (start .args .row) (start .args .m)
+    (sym (c .before .before .before .if1 .left) ∙ has-named .ensures) (c .before .before .if2 .taken)
+    (c .before .word .ensures) (c .has-key .ensures)
 
 returns-3 : tie.Need-returns-3
-returns-3 c = λ o. let a = c .before .before .before .before .before .before .args in row-none (a .sheet .now) (storeOf o (a .results .now) (a .nodes .now)) (a .kind) (a .row) (a .m) (sym (c .before .if1 .left) ∙ c .before .before .has-named .ensures) (c .if2 .left)
+returns-3 c =
+    let start = c .before .before .before .before .before .before in
+    λ o. row-none (start .args .sheet .now) (storeOf o (start .args .results .now) (start .args .nodes .now))
+    (start .args .kind) (start .args .row) (start .args .m)
+    (sym (c .before .if1 .left) ∙ c .before .before .has-named .ensures) (c .if2 .left)
 
 pub is-row-name-spec : {M : Type 1} → statement M
 is-row-name-spec =

@@ -22,16 +22,32 @@ same-length : tie.Need-same-length
 same-length c = search needs
 
 returns : tie.Need-returns
-returns c = let a = c .before .before .before .before .before .before .before .before .args in mark-set (a .sheet .now) (a .results .now) (a .row) (a .subclassed .now) (c .before .before .before .before .word .ensures) (c .before .before .before .if1 .taken) (c .before .before .word2 .ensures) (c .before .if2 .taken)
+returns c =
+    let start = c .before .before .before .before .before .before .before .before in
+    let word = c .before .before .before .before .word in
+    mark-set (start .args .sheet .now) (start .args .results .now) (start .args .row) (start .args .subclassed .now)
+    (word .ensures) (c .before .before .before .if1 .taken) (c .before .before .word2 .ensures) (c .before .if2 .taken)
 
 returns-2 : tie.Need-returns-2
-returns-2 c = let a = c .before .before .before .before .before .before .before .before .args in mark-past (a .sheet .now) (a .results .now) (a .row) (a .subclassed .now) (c .before .before .before .before .word .ensures) (c .before .before .before .if1 .taken) (c .before .before .word2 .ensures) (c .before .if2 .taken) (c .if3 .left)
+returns-2 c =
+    let start = c .before .before .before .before .before .before .before .before in
+    let word = c .before .before .before .before .word in
+    mark-past (start .args .sheet .now) (start .args .results .now) (start .args .row) (start .args .subclassed .now)
+    (word .ensures) (c .before .before .before .if1 .taken) (c .before .before .word2 .ensures) (c .before .if2 .taken)
+    (c .if3 .left)
 
 returns-3 : tie.Need-returns-3
-returns-3 c = let a = c .before .before .before .before .before .before .before .args in mark-outside (a .sheet .now) (a .results .now) (a .row) (a .subclassed .now) (c .before .before .before .word .ensures) (c .before .before .if1 .taken) (c .before .word2 .ensures) (c .if2 .left)
+returns-3 c =
+    let start = c .before .before .before .before .before .before .before in
+    mark-outside (start .args .sheet .now) (start .args .results .now) (start .args .row) (start .args .subclassed .now)
+    (c .before .before .before .word .ensures) (c .before .before .if1 .taken) (c .before .word2 .ensures)
+    (c .if2 .left)
 
 returns-4 : tie.Need-returns-4
-returns-4 c = let a = c .before .before .before .before .before .args in mark-none (a .sheet .now) (a .results .now) (a .row) (a .subclassed .now) (c .before .word .ensures) (c .if1 .left)
+returns-4 c =
+    let start = c .before .before .before .before .before in
+    mark-none (start .args .sheet .now) (start .args .results .now) (start .args .row) (start .args .subclassed .now)
+    (c .before .word .ensures) (c .if1 .left)
 
 pub mark-parent-spec : {M : Type 1} → statement M
 mark-parent-spec =

@@ -17,25 +17,46 @@ cast-n : tie.Need-cast-n Inv-loop μ-loop
 cast-n c = omega (arith, c .before .before .before .pre .0)
 
 loop-holds : tie.Need-loop-holds Inv-loop μ-loop
-loop-holds c = let a = c .before .before .before .args in (marked-start (a .sheet .now) (a .results .now) (a .subclassed .now) (c .before .before .before .pre .2), omega arith, refl)
+loop-holds c =
+    let start = c .before .before .before in (
+      marked-start (start .args .sheet .now) (start .args .results .now) (start .args .subclassed .now) (start .pre .2),
+      omega arith,
+      refl,
+    )
 
 mark-parent-requires : tie.Need-mark-parent-requires Inv-loop μ-loop
 mark-parent-requires c κs = search needs
 
 add-r : tie.Need-add-r Inv-loop μ-loop
-add-r c = omega (arith, c .before .before .before .before .loop-test .taken, c .before .before .before .before .before .before .before .before .before .pre .0)
+add-r c =
+    let start = c .before .before .before .before .before .before .before .before .before in
+    let loop-test = c .before .before .before .before .loop-test in
+    omega (arith, loop-test .taken, start .pre .0)
 
 loop-less : tie.Need-loop-less Inv-loop μ-loop
 loop-less c = omega (arith, c .before .before .before .before .loop-test .taken)
 
 loop-again : tie.Need-loop-again Inv-loop μ-loop
-loop-again c = let a = c .before .before .before .before .before .before .before .before .before .args in (marked-next (a .sheet .now) (a .results .now) (c .before .before .before .before .before .loop .subclassed) (c .before .before .before .before .before .loop .r) (c .before .before .before .before .loop-test .taken) (omega (arith, c .before .before .before .before .before .before .before .before .before .pre .1, c .before .before .before .before .before .loop .inv .2)) (c .before .before .mark-parent .ensures) (c .before .before .before .before .before .loop .inv .0), omega (arith, c .before .before .before .before .loop-test .taken), omega (arith, c .before .before .mark-parent .kept, c .before .before .before .before .before .loop .inv .2))
+loop-again c =
+    let start = c .before .before .before .before .before .before .before .before .before in
+    let loop = c .before .before .before .before .before .loop in
+    let loop-test = c .before .before .before .before .loop-test in
+    let mark-parent = c .before .before .mark-parent in (
+      marked-next (start .args .sheet .now) (start .args .results .now) (loop .subclassed) (loop .r) (loop-test .taken)
+          (omega (arith, start .pre .1, loop .inv .2)) (mark-parent .ensures) (loop .inv .0),
+      omega (arith, loop-test .taken),
+      omega (arith, mark-parent .kept, loop .inv .2),
+    )
 
 same-length : tie.Need-same-length Inv-loop μ-loop
 same-length c = c .before .loop .inv .2
 
 returns : tie.Need-returns Inv-loop μ-loop
-returns c = let a = c .before .before .before .before .before .args in marked-end (a .sheet .now) (a .results .now) (c .before .loop .subclassed) (c .before .loop .r) (c .loop-test .left) (omega (arith, c .before .before .before .before .before .pre .1, c .before .loop .inv .2)) (c .before .loop .inv .0)
+returns c =
+    let start = c .before .before .before .before .before in
+    let loop = c .before .loop in
+    marked-end (start .args .sheet .now) (start .args .results .now) (loop .subclassed) (loop .r) (c .loop-test .left)
+    (omega (arith, start .pre .1, loop .inv .2)) (loop .inv .0)
 
 pub mark-parents-spec : {M : Type 1} → statement M
 mark-parents-spec =

@@ -17,7 +17,10 @@ shared-slice-read-last : tie.Need-shared-slice-read-last
 shared-slice-read-last c = search needs
 
 returns : tie.Need-returns
-returns c = copied-field (over (c .before .before .before .before .before .before .args .outside .now)) (c .before .before .before .before .before .before .args .sheet .now) (c .before .before .before .before .before .before .args .wanted) (c .before .before .before .before .before .before .args .out .now) (c .before .before .before .before .before .before .args .at) (c .before .before .before .before .before .before .args .i) (c .if1 .taken)
+returns c =
+    let start = c .before .before .before .before .before .before in
+    copied-field (over (start .args .outside .now)) (start .args .sheet .now) (start .args .wanted)
+    (start .args .out .now) (start .args .at) (start .args .i) (c .if1 .taken)
 
 mul-m : tie.Need-mul-m
 mul-m c = search needs
@@ -35,7 +38,11 @@ own-or-requires : tie.Need-own-or-requires
 own-or-requires c κs = search needs
 
 returns-2 : tie.Need-returns-2
-returns-2 c = copied-method (over (c .before .before .before .before .before .before .before .before .args .outside .now)) (c .before .before .before .before .before .before .before .before .args .sheet .now) (c .before .before .before .before .before .before .before .before .args .wanted) (c .before .before .before .before .before .before .before .before .args .out .now) (c .before .before .before .before .before .before .before .before .args .at) (c .before .before .before .before .before .before .before .before .args .i) (c .own-or .result .0) (c .before .before .if1 .left) (c .own-or .ensures)
+returns-2 c =
+    let start = c .before .before .before .before .before .before .before .before in
+    copied-method (over (start .args .outside .now)) (start .args .sheet .now) (start .args .wanted)
+    (start .args .out .now) (start .args .at) (start .args .i) (c .own-or .result .0) (c .before .before .if1 .left)
+    (c .own-or .ensures)
 
 pub copied-row-spec : {M : Type 1} → statement M
 copied-row-spec =

@@ -18,7 +18,13 @@ same-length : tie.Need-same-length
 same-length c = search needs
 
 returns : tie.Need-returns
-returns c = put-one (copiedRow (over (c .before .before .before .before .before .before .before .before .before .before .args .outside .now)) (c .before .before .before .before .before .before .before .before .before .before .args .sheet .now) (c .before .before .before .before .before .before .before .before .before .before .args .wanted) (c .before .before .before .before .before .before .before .before .before .before .args .out .now)) (c .before .before .before .before .before .before .before .before .before .before .args .at) (filled (c .before .before .before .before .before .before .before .before .before .before .args .k) (c .before .before .before .before .before .before .before .before .before .before .args .out .now)) (c .before .before .before .before .before .copied-row .ensures) (c .before .before .before .emit .ensures) (c .one-more .ensures)
+returns c =
+    let start = c .before .before .before .before .before .before .before .before .before .before in
+    let copied-row = c .before .before .before .before .before .copied-row in
+    put-one (copiedRow (over (start .args .outside .now)) (start .args .sheet .now) (start .args .wanted)
+    (start .args .out .now))
+    (start .args .at) (filled (start .args .k) (start .args .out .now)) (copied-row .ensures)
+    (c .before .before .before .emit .ensures) (c .one-more .ensures)
 
 pub put-copy-spec : {M : Type 1} → statement M
 put-copy-spec =

@@ -26,7 +26,15 @@ put-own-requires : tie.Need-put-own-requires
 put-own-requires c κs = search needs
 
 returns-2 : tie.Need-returns-2
-returns-2 c = λ o. let a = c .before .before .before .before .before .before .before .before .before .before .before .args in line-counted _ (nameRow (over (a .outside .now)) (a .sheet .now) (storeOf o (a .results .now) (a .nodes .now)) (a .wanted)) (a .sheet .now) (storeOf o (a .results .now) (a .nodes .now)) (a .wanted .kind) (a .wanted .class .0) _ (c .before .before .before .before .before .before .before .before .before .before .before .pre .0) (c .before .before .before .parent-of .ensures o (a .nodes .now)) (c .before .before .before .before .before .before .before .before .before .before .before .pre .1 (c .before .before .before .before .if1 .left) o .0) (omega arith) (c .before .before .before .before .before .before .before .before .before .before .before .pre .1 (c .before .before .before .before .if1 .left) o .1) (c .before .put-own .ensures o)
+returns-2 c =
+    let start = c .before .before .before .before .before .before .before .before .before .before .before in
+    let if1 = c .before .before .before .before .if1 in
+    λ o. line-counted _ (nameRow (over (start .args .outside .now)) (start .args .sheet .now)
+    (storeOf o (start .args .results .now) (start .args .nodes .now)) (start .args .wanted))
+    (start .args .sheet .now) (storeOf o (start .args .results .now) (start .args .nodes .now))
+    (start .args .wanted .kind) (start .args .wanted .class .0) _ (start .pre .0)
+    (c .before .before .before .parent-of .ensures o (start .args .nodes .now)) (start .pre .1 (if1 .left) o .0)
+    (omega arith) (start .pre .1 (if1 .left) o .1) (c .before .put-own .ensures o)
 
 pub count-line-spec : {M : Type 1} → statement M
 count-line-spec =

@@ -23,7 +23,12 @@ sub-t13 : tie.Need-sub-t13
 sub-t13 c = search needs
 
 put-copied-requires : tie.Need-put-copied-requires
-put-copied-requires c κs = (c .before .before .before .before .before .before .before .before .before .before .pre .1 (c .before .before .if1 .left) (record { used = 0; calls = 0 }) .below, c .before .before .before .before .before .before .before .before .before .before .pre .1 (c .before .before .if1 .left) (record { used = 0; calls = 0 }) .within)
+put-copied-requires c κs =
+    let start = c .before .before .before .before .before .before .before .before .before .before in
+    let if1 = c .before .before .if1 in (
+      start .pre .1 (if1 .left) (record { used = 0; calls = 0 }) .below,
+      start .pre .1 (if1 .left) (record { used = 0; calls = 0 }) .within,
+    )
 
 put-own-requires : tie.Need-put-own-requires
 put-own-requires c κs = search needs
@@ -32,8 +37,25 @@ same-length-2 : tie.Need-same-length-2
 same-length-2 c = search needs
 
 returns-2 : tie.Need-returns-2
-returns-2 c = λ o. let a = c .before .before .before .before .before .before .before .before .before .before .before .before .before .before .before .before .before .args in let h = c .before .before .before .before .before .before .before .before .before .before .before .before .before .before .before .before .before .pre .1 (c .before .before .before .before .before .before .before .before .before .if1 .left) o in line-after _ (nameRow (over (a .outside .now)) (a .sheet .now) (storeOf o (a .results .now) (a .nodes .now)) (a .wanted)) (a .sheet .now) (storeOf o (a .results .now) (a .nodes .now)) (a .wanted .kind) (a .wanted .class .0) (filled (a .k) (a .out .now)) (c .before .before .before .before .before .before .before .before .before .before .before .before .before .before .before .before .before .pre .0) (c .before .before .before .before .before .before .before .before .parent-of .ensures o (a .nodes .now)) (h .parent) refl
-    (c .before .before .before .before .before .before .put-copied .ensures ∙ copied-all (over (a .outside .now)) (a .sheet .now) (storeOf o (a .results .now) (a .nodes .now)) (a .wanted) (c .before .before .before .before .before .before .before .before .before .before .before .before .before .before .before .before .before .pre .0) (h .parent) (a .out .now) _ (a .a .row) (a .a .count) (filled (a .k) (a .out .now)) (h .names) (h .functions)) (c .before .before .put-own .ensures o)
+returns-2 c =
+    let at-if1 = c .before .before .before .before .before .before .before .before .before in
+    let start = at-if1 .before .before .before .before .before .before .before .before in
+    let if1 = at-if1 .if1 in
+    let parent-of = c .before .before .before .before .before .before .before .before .parent-of in
+    let put-copied = c .before .before .before .before .before .before .put-copied in
+    λ o.
+    let h = start .pre .1 (if1 .left) o in
+    line-after _ (nameRow (over (start .args .outside .now)) (start .args .sheet .now)
+    (storeOf o (start .args .results .now) (start .args .nodes .now)) (start .args .wanted))
+    (start .args .sheet .now) (storeOf o (start .args .results .now) (start .args .nodes .now))
+    (start .args .wanted .kind) (start .args .wanted .class .0) (filled (start .args .k) (start .args .out .now))
+    (start .pre .0) (parent-of .ensures o (start .args .nodes .now)) (h .parent) refl
+    (put-copied .ensures
+    ∙ copied-all (over (start .args .outside .now)) (start .args .sheet .now)
+    (storeOf o (start .args .results .now) (start .args .nodes .now)) (start .args .wanted) (start .pre .0) (h .parent)
+    (start .args .out .now) _ (start .args .a .row) (start .args .a .count)
+    (filled (start .args .k) (start .args .out .now)) (h .names) (h .functions))
+    (c .before .before .put-own .ensures o)
 
 pub put-line-spec : {M : Type 1} → statement M
 put-line-spec =

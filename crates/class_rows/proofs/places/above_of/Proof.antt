@@ -6,7 +6,9 @@ use Rattle.class_rows.proofs.places.above_of.Statement.{statement}
 use Rattle.class_rows.proofs.places.above_of.Tie as tie
 
 returns : tie.Need-returns
-returns c = above-none (c .before .args .out .now) (c .before .args .at) (c .before .args .kind) (c .if1 .taken)
+returns c =
+    let start = c .before in
+    above-none (start .args .out .now) (start .args .at) (start .args .kind) (c .if1 .taken)
 
 sub-first : tie.Need-sub-first
 sub-first c = search needs
@@ -24,13 +26,18 @@ shared-slice-read-fields : tie.Need-shared-slice-read-fields
 shared-slice-read-fields c = search needs
 
 returns-2 : tie.Need-returns-2
-returns-2 c = above-fields (c .before .before .before .args .out .now) (c .before .before .before .args .at) (c .before .before .before .args .kind) (c .before .before .if1 .left) (c .if2 .taken)
+returns-2 c =
+    let start = c .before .before .before in
+    above-fields (start .args .out .now) (start .args .at) (start .args .kind) (c .before .before .if1 .left)
+    (c .if2 .taken)
 
 cast-t7 : tie.Need-cast-t7
 cast-t7 c = omega (arith, c .before .shared-slice-known .given (8 * (c .before .before .before .args .at - 1) + 4))
 
 add-t8 : tie.Need-add-t8
-add-t8 c = omega (arith, c .before .before .before .pre, c .before .shared-slice-known .given (8 * (c .before .before .before .args .at - 1) + 4))
+add-t8 c =
+    let start = c .before .before .before in
+    omega (arith, start .pre, c .before .shared-slice-known .given (8 * (start .args .at - 1) + 4))
 
 add-t11 : tie.Need-add-t11
 add-t11 c = search needs
@@ -42,7 +49,10 @@ shared-slice-read-t10 : tie.Need-shared-slice-read-t10
 shared-slice-read-t10 c = search needs
 
 returns-3 : tie.Need-returns-3
-returns-3 c = above-methods (c .before .before .before .before .args .out .now) (c .before .before .before .before .args .at) (c .before .before .before .before .args .kind) (c .before .before .before .if1 .left) (c .before .if2 .left)
+returns-3 c =
+    let start = c .before .before .before .before in
+    above-methods (start .args .out .now) (start .args .at) (start .args .kind) (c .before .before .before .if1 .left)
+    (c .before .if2 .left)
 
 pub above-of-spec : {M : Type 1} → statement M
 above-of-spec =

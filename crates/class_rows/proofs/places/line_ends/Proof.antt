@@ -13,10 +13,22 @@ is-class-row-requires : tie.Need-is-class-row-requires
 is-class-row-requires c κs = search needs
 
 returns-2 : tie.Need-returns-2
-returns-2 c = rw (eq-eqb (c .before .before .before .before .args .at) 0 (c .before .before .if1 .left), ← c .before .is-class-row .ensures, not-true (c .before .is-class-row .result) (c .if2 .taken))
+returns-2 c =
+    let start = c .before .before .before .before in
+    rw (
+      eq-eqb (start .args .at) 0 (c .before .before .if1 .left),
+      ← c .before .is-class-row .ensures,
+      not-true (c .before .is-class-row .result) (c .if2 .taken),
+    )
 
 returns-3 : tie.Need-returns-3
-returns-3 c = rw (eq-eqb (c .before .before .before .before .args .at) 0 (c .before .before .if1 .left), ← c .before .is-class-row .ensures, not-false (c .before .is-class-row .result) (c .if2 .left))
+returns-3 c =
+    let start = c .before .before .before .before in
+    rw (
+      eq-eqb (start .args .at) 0 (c .before .before .if1 .left),
+      ← c .before .is-class-row .ensures,
+      not-false (c .before .is-class-row .result) (c .if2 .left),
+    )
 
 pub line-ends-spec : {M : Type 1} → statement M
 line-ends-spec = tie.close (tie.spec returns is-class-row-requires returns-2 returns-3)

@@ -13,13 +13,19 @@ shared-slice-read-result : tie.Need-shared-slice-read-result
 shared-slice-read-result c = search needs
 
 returns : tie.Need-returns
-returns c = place-here (c .before .before .before .before .before .args .starts .now) (c .before .before .before .before .before .args .c .0) (c .before .before .before .if1 .taken)
+returns c =
+    let start = c .before .before .before .before .before in
+    place-here (start .args .starts .now) (start .args .c .0) (c .before .before .before .if1 .taken)
 
 returns-2 : tie.Need-returns-2
-returns-2 c = place-past (c .before .before .before .before .args .starts .now) (c .before .before .before .before .args .c .0) (c .before .before .if1 .taken) (c .if2 .left)
+returns-2 c =
+    let start = c .before .before .before .before in
+    place-past (start .args .starts .now) (start .args .c .0) (c .before .before .if1 .taken) (c .if2 .left)
 
 returns-3 : tie.Need-returns-3
-returns-3 c = place-outside (c .before .before .args .starts .now) (c .before .before .args .c .0) (c .if1 .left)
+returns-3 c =
+    let start = c .before .before in
+    place-outside (start .args .starts .now) (start .args .c .0) (c .if1 .left)
 
 pub place-of-spec : {M : Type 1} → statement M
 place-of-spec =

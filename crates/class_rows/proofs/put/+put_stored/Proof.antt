@@ -29,32 +29,68 @@ put-stored-below t =
     and 5 put-stored-kinds.ps (falls 5 put-stored-kinds.ps _<_ μ-put-stored t) put-stored.Pre
 
 abbrev put-stored-claims : ℕ → put-stored-lts.Claims
-put-stored-claims t =
-    (node-before-reads.Asked, node-before-reads.Learnt, put-stored-below t, put-stored.Post, node-word-reads.Asked, node-word-reads.Learnt, put-new-reads.Asked, put-new-reads.Learnt)
+put-stored-claims t = (
+  node-before-reads.Asked,
+  node-before-reads.Learnt,
+  put-stored-below t,
+  put-stored.Post,
+  node-word-reads.Asked,
+  node-word-reads.Learnt,
+  put-new-reads.Asked,
+  put-new-reads.Learnt,
+)
 
 put-stored-returns : (t : ℕ) → put-stored-lts.Need-returns (put-stored-claims t) (put-stored-at t) put-stored.Post
-put-stored-returns t c = λ o. let a = c .before .before .before .before .before .before .args in stored-none (nameRow (over (a .outside .now)) (a .sheet .now) (storeOf o (a .results .now) (a .nodes .now)) (a .wanted)) (inherited (over (a .outside .now)) (a .sheet .now) (storeOf o (a .results .now) (a .nodes .now)) (a .wanted .kind) (a .p .left) (a .p .class .0)) (a .nodes .now) (a .last) (filled (a .k) (a .out .now)) (c .if1 .taken)
+put-stored-returns t c =
+    let start = c .before .before .before .before .before .before in
+    λ o. stored-none (nameRow (over (start .args .outside .now)) (start .args .sheet .now)
+    (storeOf o (start .args .results .now) (start .args .nodes .now)) (start .args .wanted))
+    (inherited (over (start .args .outside .now)) (start .args .sheet .now)
+    (storeOf o (start .args .results .now) (start .args .nodes .now)) (start .args .wanted .kind) (start .args .p .left)
+    (start .args .p .class .0))
+    (start .args .nodes .now) (start .args .last) (filled (start .args .k) (start .args .out .now)) (c .if1 .taken)
 
 put-stored-sub-i : (t : ℕ) → put-stored-lts.Need-sub-i (put-stored-claims t) (put-stored-at t) put-stored.Post
 put-stored-sub-i t c = omega (arith, c .if1 .left)
 
-put-stored-node-before-requires : (t : ℕ) → put-stored-lts.Need-node-before-requires (put-stored-claims t) (put-stored-at t) put-stored.Post
+put-stored-node-before-requires : (t : ℕ)
+    → put-stored-lts.Need-node-before-requires (put-stored-claims t) (put-stored-at t) put-stored.Post
 put-stored-node-before-requires t c κs = search needs
 
-put-stored-put-stored-requires : (t : ℕ) → put-stored-lts.Need-put-stored-requires (put-stored-claims t) (put-stored-at t) put-stored.Post
-put-stored-put-stored-requires t c κs = (omega (arith, c .before .before .before .before .before .before .before .before .pre .0, c .before .before .if1 .left, c .before .node-before .ensures), tt)
+put-stored-put-stored-requires : (t : ℕ)
+    → put-stored-lts.Need-put-stored-requires (put-stored-claims t) (put-stored-at t) put-stored.Post
+put-stored-put-stored-requires t c κs =
+    let start = c .before .before .before .before .before .before .before .before in
+    (omega (arith, start .pre .0, c .before .before .if1 .left, c .before .node-before .ensures), tt)
 
-put-stored-node-word-requires : (t : ℕ) → put-stored-lts.Need-node-word-requires (put-stored-claims t) (put-stored-at t) put-stored.Post
+put-stored-node-word-requires : (t : ℕ)
+    → put-stored-lts.Need-node-word-requires (put-stored-claims t) (put-stored-at t) put-stored.Post
 put-stored-node-word-requires t c κs = search needs
 
-put-stored-put-new-requires : (t : ℕ) → put-stored-lts.Need-put-new-requires (put-stored-claims t) (put-stored-at t) put-stored.Post
+put-stored-put-new-requires : (t : ℕ)
+    → put-stored-lts.Need-put-new-requires (put-stored-claims t) (put-stored-at t) put-stored.Post
 put-stored-put-new-requires t c κs = search needs
 
 put-stored-same-length : (t : ℕ) → put-stored-lts.Need-same-length (put-stored-claims t) (put-stored-at t) put-stored.Post
-put-stored-same-length t c = omega (arith, c .before .before .put-new .kept, c .before .before .before .before .before .before .before .put-stored .kept)
+put-stored-same-length t c =
+    let at-put-stored = c .before .before .before .before .before .before .before .put-stored in
+    omega (arith, c .before .before .put-new .kept, at-put-stored .kept)
 
 put-stored-returns-2 : (t : ℕ) → put-stored-lts.Need-returns-2 (put-stored-claims t) (put-stored-at t) put-stored.Post
-put-stored-returns-2 t c = λ o. let a = c .before .before .before .before .before .before .before .before .before .before .before .before .before .before .before .before .args in stored-last (nameRow (over (a .outside .now)) (a .sheet .now) (storeOf o (a .results .now) (a .nodes .now)) (a .wanted)) (inherited (over (a .outside .now)) (a .sheet .now) (storeOf o (a .results .now) (a .nodes .now)) (a .wanted .kind) (a .p .left) (a .p .class .0)) (a .nodes .now) (a .last) (filled (a .k) (a .out .now)) (c .before .before .before .before .before .before .before .before .before .before .if1 .left) (c .before .before .before .before .before .before .before .before .before .node-before .ensures) (c .before .before .before .before .node-word .ensures) (c .before .before .before .before .before .before .before .put-stored .ensures o) (c .before .before .put-new .ensures o)
+put-stored-returns-2 t c =
+    let at-if1 = c .before .before .before .before .before .before .before .before .before .before in
+    let start = at-if1 .before .before .before .before .before .before in
+    let if1 = at-if1 .if1 in
+    let node-before = c .before .before .before .before .before .before .before .before .before .node-before in
+    let at-put-stored = c .before .before .before .before .before .before .before .put-stored in
+    let node-word = c .before .before .before .before .node-word in
+    λ o. stored-last (nameRow (over (start .args .outside .now)) (start .args .sheet .now)
+    (storeOf o (start .args .results .now) (start .args .nodes .now)) (start .args .wanted))
+    (inherited (over (start .args .outside .now)) (start .args .sheet .now)
+    (storeOf o (start .args .results .now) (start .args .nodes .now)) (start .args .wanted .kind) (start .args .p .left)
+    (start .args .p .class .0))
+    (start .args .nodes .now) (start .args .last) (filled (start .args .k) (start .args .out .now)) (if1 .left)
+    (node-before .ensures) (node-word .ensures) (at-put-stored .ensures o) (c .before .before .put-new .ensures o)
 
 pub +put-stored-spec : {M : Type 1} → statement M
 +put-stored-spec = close μ-put-stored λ t. put-stored-lts.spec (put-stored-claims t)

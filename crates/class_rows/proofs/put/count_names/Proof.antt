@@ -15,7 +15,14 @@ put-names-requires : tie.Need-put-names-requires
 put-names-requires c κs = search needs
 
 returns : tie.Need-returns
-returns c = λ o. let a = c .before .before .before .before .before .before .before .args in names-counted (nameRow (over (a .outside .now)) (a .sheet .now) (storeOf o (a .results .now) (a .nodes .now)) (a .wanted)) (namesIn (over (a .outside .now)) (a .sheet .now) (storeOf o (a .results .now) (a .nodes .now)) (a .wanted .kind) (a .n) (a .c .0)) _ refl (c .before .put-names .ensures o)
+returns c =
+    let start = c .before .before .before .before .before .before .before in
+    λ o. names-counted (nameRow (over (start .args .outside .now)) (start .args .sheet .now)
+    (storeOf o (start .args .results .now) (start .args .nodes .now)) (start .args .wanted))
+    (namesIn (over (start .args .outside .now)) (start .args .sheet .now)
+    (storeOf o (start .args .results .now) (start .args .nodes .now)) (start .args .wanted .kind) (start .args .n)
+    (start .args .c .0))
+    _ refl (c .before .put-names .ensures o)
 
 pub count-names-spec : {M : Type 1} → statement M
 count-names-spec = tie.close (tie.spec slice-aggregate-put-names put-names-requires returns)

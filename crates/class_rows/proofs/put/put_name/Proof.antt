@@ -19,7 +19,13 @@ same-length : tie.Need-same-length
 same-length c = search needs
 
 returns : tie.Need-returns
-returns c = λ o q. let a = c .before .before .before .before .before .before .before .before .before .before .args in put-one (nameRow (over (a .outside .now)) (a .sheet .now) (storeOf o (a .results .now) q) (a .wanted)) (a .m) (filled (a .k) (a .out .now)) (c .before .before .before .before .before .name-row .ensures o q) (c .before .before .before .emit .ensures) (c .one-more .ensures)
+returns c =
+    let start = c .before .before .before .before .before .before .before .before .before .before in
+    let name-row = c .before .before .before .before .before .name-row in
+    λ o q. put-one (nameRow (over (start .args .outside .now)) (start .args .sheet .now)
+    (storeOf o (start .args .results .now) q) (start .args .wanted))
+    (start .args .m) (filled (start .args .k) (start .args .out .now)) (name-row .ensures o q)
+    (c .before .before .before .emit .ensures) (c .one-more .ensures)
 
 pub put-name-spec : {M : Type 1} → statement M
 put-name-spec =

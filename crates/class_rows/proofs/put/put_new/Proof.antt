@@ -12,7 +12,15 @@ is-inherited-requires : tie.Need-is-inherited-requires
 is-inherited-requires c κs = search needs
 
 returns : tie.Need-returns
-returns c = λ o. let a = c .before .before .before .before .before .before .before .args in new-old (nameRow (over (a .outside .now)) (a .sheet .now) (storeOf o (a .results .now) (a .nodes .now)) (a .wanted)) (inherited (over (a .outside .now)) (a .sheet .now) (storeOf o (a .results .now) (a .nodes .now)) (a .wanted .kind) (a .p .left) (a .p .class .0)) (a .m) (filled (a .k) (a .out .now)) (sym (c .if1 .taken) ∙ c .before .is-inherited .ensures o)
+returns c =
+    let start = c .before .before .before .before .before .before .before in
+    λ o. new-old (nameRow (over (start .args .outside .now)) (start .args .sheet .now)
+    (storeOf o (start .args .results .now) (start .args .nodes .now)) (start .args .wanted))
+    (inherited (over (start .args .outside .now)) (start .args .sheet .now)
+    (storeOf o (start .args .results .now) (start .args .nodes .now)) (start .args .wanted .kind) (start .args .p .left)
+    (start .args .p .class .0))
+    (start .args .m) (filled (start .args .k) (start .args .out .now))
+    (sym (c .if1 .taken) ∙ c .before .is-inherited .ensures o)
 
 put-name-requires : tie.Need-put-name-requires
 put-name-requires c κs = search needs
@@ -21,7 +29,17 @@ same-length : tie.Need-same-length
 same-length c = search needs
 
 returns-2 : tie.Need-returns-2
-returns-2 c = λ o. let a = c .before .before .before .before .before .before .before .before .before .before .before .args in new-put (nameRow (over (a .outside .now)) (a .sheet .now) (storeOf o (a .results .now) (a .nodes .now)) (a .wanted)) (inherited (over (a .outside .now)) (a .sheet .now) (storeOf o (a .results .now) (a .nodes .now)) (a .wanted .kind) (a .p .left) (a .p .class .0)) (a .m) (filled (a .k) (a .out .now)) (sym (c .before .before .before .before .if1 .left) ∙ c .before .before .before .before .before .is-inherited .ensures o) (c .before .before .put-name .ensures o (a .nodes .now))
+returns-2 c =
+    let start = c .before .before .before .before .before .before .before .before .before .before .before in
+    let is-inherited = c .before .before .before .before .before .is-inherited in
+    let if1 = c .before .before .before .before .if1 in
+    λ o. new-put (nameRow (over (start .args .outside .now)) (start .args .sheet .now)
+    (storeOf o (start .args .results .now) (start .args .nodes .now)) (start .args .wanted))
+    (inherited (over (start .args .outside .now)) (start .args .sheet .now)
+    (storeOf o (start .args .results .now) (start .args .nodes .now)) (start .args .wanted .kind) (start .args .p .left)
+    (start .args .p .class .0))
+    (start .args .m) (filled (start .args .k) (start .args .out .now)) (sym (if1 .left) ∙ is-inherited .ensures o)
+    (c .before .before .put-name .ensures o (start .args .nodes .now))
 
 pub put-new-spec : {M : Type 1} → statement M
 put-new-spec =

@@ -21,7 +21,10 @@ is-class-row-requires : tie.Need-is-class-row-requires
 is-class-row-requires c κs = search needs
 
 sub-r : tie.Need-sub-r
-sub-r c = row-number (c .before .before .before .before .before .before .before .before .args .sheet .now) (c .before .before .before .before .before .before .before .before .args .c .0) (sym (c .before .before .is-class-row .ensures) ∙ c .before .if1 .taken)
+sub-r c =
+    let start = c .before .before .before .before .before .before .before .before in
+    row-number (start .args .sheet .now) (start .args .c .0)
+    (sym (c .before .before .is-class-row .ensures) ∙ c .before .if1 .taken)
 
 put-listed-requires : tie.Need-put-listed-requires
 put-listed-requires c κs = search needs
@@ -36,21 +39,43 @@ same-length : tie.Need-same-length
 same-length c = search needs
 
 returns : tie.Need-returns
-returns c = λ o. let a = c .before .before .before .before .before .before .before .before .before .before .before .before .before .before .before .before .before .before .before .args in
-    let O = over (a .outside .now) in
-    let st = storeOf o (a .results .now) (a .nodes .now) in
-    own-stored O (nameRow O (a .sheet .now) st (a .wanted)) (inherited O (a .sheet .now) st (a .wanted .kind) (a .p .left) (a .p .class .0)) (a .sheet .now) st (a .wanted .kind) (a .c .0) (filled (a .k) (a .out .now))
-    (sym (c .before .before .before .before .before .before .before .before .before .before .before .before .if1 .taken) ∙ c .before .before .before .before .before .before .before .before .before .before .before .before .before .is-class-row .ensures) (c .before .before .before .before .before .before .before .before .before .put-listed .ensures o) (c .before .before .before .before .before .if2 .taken) (c .before .before .before .before .word .ensures) (c .before .before .put-stored .ensures o)
+returns c =
+    let at-if1 = c .before .before .before .before .before .before .before .before .before .before .before .before in
+    let start = at-if1 .before .before .before .before .before .before .before in
+    let is-class-row = at-if1 .before .is-class-row in
+    let if1 = at-if1 .if1 in
+    let put-listed = c .before .before .before .before .before .before .before .before .before .put-listed in
+    let if2 = c .before .before .before .before .before .if2 in
+    let at-word = c .before .before .before .before .word in
+    λ o.
+    let O = over (start .args .outside .now) in
+    let st = storeOf o (start .args .results .now) (start .args .nodes .now) in
+    own-stored O (nameRow O (start .args .sheet .now) st (start .args .wanted))
+    (inherited O (start .args .sheet .now) st (start .args .wanted .kind) (start .args .p .left)
+    (start .args .p .class .0))
+    (start .args .sheet .now) st (start .args .wanted .kind) (start .args .c .0)
+    (filled (start .args .k) (start .args .out .now)) (sym (if1 .taken) ∙ is-class-row .ensures) (put-listed .ensures o)
+    (if2 .taken) (at-word .ensures) (c .before .before .put-stored .ensures o)
 
 same-length-2 : tie.Need-same-length-2
 same-length-2 c = search needs
 
 returns-2 : tie.Need-returns-2
-returns-2 c = λ o. let a = c .before .before .before .before .before .before .before .before .before .before .before .before .before .before .args in
-    let O = over (a .outside .now) in
-    let st = storeOf o (a .results .now) (a .nodes .now) in
-    own-listed O (nameRow O (a .sheet .now) st (a .wanted)) (inherited O (a .sheet .now) st (a .wanted .kind) (a .p .left) (a .p .class .0)) (a .sheet .now) st (a .wanted .kind) (a .c .0) (filled (a .k) (a .out .now))
-    (sym (c .before .before .before .before .before .before .before .if1 .taken) ∙ c .before .before .before .before .before .before .before .before .is-class-row .ensures) (c .before .before .before .before .put-listed .ensures o) (c .if2 .left)
+returns-2 c =
+    let at-is-class-row = c .before .before .before .before .before .before .before .before in
+    let start = at-is-class-row .before .before .before .before .before .before in
+    let is-class-row = at-is-class-row .is-class-row in
+    let if1 = c .before .before .before .before .before .before .before .if1 in
+    let put-listed = c .before .before .before .before .put-listed in
+    λ o.
+    let O = over (start .args .outside .now) in
+    let st = storeOf o (start .args .results .now) (start .args .nodes .now) in
+    own-listed O (nameRow O (start .args .sheet .now) st (start .args .wanted))
+    (inherited O (start .args .sheet .now) st (start .args .wanted .kind) (start .args .p .left)
+    (start .args .p .class .0))
+    (start .args .sheet .now) st (start .args .wanted .kind) (start .args .c .0)
+    (filled (start .args .k) (start .args .out .now)) (sym (if1 .taken) ∙ is-class-row .ensures) (put-listed .ensures o)
+    (c .if2 .left)
 
 recorded-names-requires : tie.Need-recorded-names-requires
 recorded-names-requires c κs = search needs
@@ -62,11 +87,20 @@ same-length-3 : tie.Need-same-length-3
 same-length-3 c = search needs
 
 returns-3 : tie.Need-returns-3
-returns-3 c = λ o. let a = c .before .before .before .before .before .before .before .before .before .before .before .before .args in
-    let O = over (a .outside .now) in
-    let st = storeOf o (a .results .now) (a .nodes .now) in
-    own-recorded O (nameRow O (a .sheet .now) st (a .wanted)) (inherited O (a .sheet .now) st (a .wanted .kind) (a .p .left) (a .p .class .0)) (a .sheet .now) st (a .wanted .kind) (a .c .0) (filled (a .k) (a .out .now))
-    (sym (c .before .before .before .before .before .if1 .left) ∙ c .before .before .before .before .before .before .is-class-row .ensures) (c .before .before .before .before .recorded-names .ensures) (c .before .before .put-recorded .ensures o)
+returns-3 c =
+    let start = c .before .before .before .before .before .before .before .before .before .before .before .before in
+    let is-class-row = c .before .before .before .before .before .before .is-class-row in
+    let if1 = c .before .before .before .before .before .if1 in
+    let recorded-names = c .before .before .before .before .recorded-names in
+    λ o.
+    let O = over (start .args .outside .now) in
+    let st = storeOf o (start .args .results .now) (start .args .nodes .now) in
+    own-recorded O (nameRow O (start .args .sheet .now) st (start .args .wanted))
+    (inherited O (start .args .sheet .now) st (start .args .wanted .kind) (start .args .p .left)
+    (start .args .p .class .0))
+    (start .args .sheet .now) st (start .args .wanted .kind) (start .args .c .0)
+    (filled (start .args .k) (start .args .out .now)) (sym (if1 .left) ∙ is-class-row .ensures)
+    (recorded-names .ensures) (c .before .before .put-recorded .ensures o)
 
 pub put-own-spec : {M : Type 1} → statement M
 put-own-spec =

@@ -20,7 +20,11 @@ use Rattle.outside.proofs.records.step_of.Reads as step-of-reads
 use Rattle.words.proofs.word_at.Reads as word-at-reads
 
 abbrev Inv-loop : tie.InvT-loop
-Inv-loop s outside t q w p out₀ step done₀ at₀ left₀ out done at left = ((o : Store) → putNew (over outside) s (storeOf o t q) w p (spacedAt outside step at left) (filled done out) ≡ putNew (over outside) s (storeOf o t q) w p (spacedAt outside step at₀ left₀) (filled done₀ out₀)) × (at + 3 * left ≤ 17179869180) × (step ≤ 3) × (length out ≡ length out₀)
+Inv-loop s outside t q w p out₀ step done₀ at₀ left₀ out done at left =
+    ((o : Store)
+    → putNew (over outside) s (storeOf o t q) w p (spacedAt outside step at left) (filled done out)
+    ≡ putNew (over outside) s (storeOf o t q) w p (spacedAt outside step at₀ left₀) (filled done₀ out₀))
+    × (at + 3 * left ≤ 17179869180) × (step ≤ 3) × (length out ≡ length out₀)
 
 abbrev μ-loop : tie.MeasureT-loop
 μ-loop s outside t q w p out₀ step done₀ at₀ left₀ out done at left = left
@@ -32,7 +36,13 @@ cast-at : tie.Need-cast-at Inv-loop μ-loop
 cast-at c = search needs
 
 loop-holds : tie.Need-loop-holds Inv-loop μ-loop
-loop-holds c = (λ o. refl, omega (arith, c .struct-known .given), omega (arith, c .before .step-of .ensures, step-few (c .before .before .before .before .before .before .before .args .names .kind)), refl)
+loop-holds c =
+    let start = c .before .before .before .before .before .before .before in (
+      λ o. refl,
+      omega (arith, c .struct-known .given),
+      omega (arith, c .before .step-of .ensures, step-few (start .args .names .kind)),
+      refl,
+    )
 
 word-at-requires : tie.Need-word-at-requires Inv-loop μ-loop
 word-at-requires c κs = tt
@@ -41,7 +51,9 @@ put-new-requires : tie.Need-put-new-requires Inv-loop μ-loop
 put-new-requires c κs = tt
 
 add-at : tie.Need-add-at Inv-loop μ-loop
-add-at c = omega (arith, c .before .before .before .before .before .before .loop .inv .1, c .before .before .before .before .before .before .loop .inv .2)
+add-at c =
+    let loop = c .before .before .before .before .before .before .loop in
+    omega (arith, loop .inv .1, loop .inv .2)
 
 sub-left : tie.Need-sub-left Inv-loop μ-loop
 sub-left c = omega (arith, c .before .before .before .before .before .loop-test .taken)
@@ -50,19 +62,49 @@ loop-less : tie.Need-loop-less Inv-loop μ-loop
 loop-less c = omega (arith, c .before .before .before .before .before .loop-test .taken)
 
 loop-again : tie.Need-loop-again Inv-loop μ-loop
-loop-again c = (
-  λ o. let a = c .before .before .before .before .before .before .before .before .before .before .before .before .before .before .args in spaced-next (nameRow (over (a .outside .now)) (a .sheet .now) (storeOf o (a .results .now) (a .nodes .now)) (a .wanted)) (inherited (over (a .outside .now)) (a .sheet .now) (storeOf o (a .results .now) (a .nodes .now)) (a .wanted .kind) (a .p .left) (a .p .class .0))
-      (a .outside .now) (c .before .before .before .before .before .before .before .before .step-of .result) (c .before .before .before .before .before .before .loop .at) (c .before .before .before .before .before .before .loop .left) (filled (c .before .before .before .before .before .before .loop .done) (c .before .before .before .before .before .before .loop .out)) (c .before .before .before .before .before .loop-test .taken) (c .before .before .before .before .word-at .ensures) (c .before .before .put-new .ensures o) ∙ c .before .before .before .before .before .before .loop .inv .0 o,
-  omega (arith, c .before .before .before .before .before .before .loop .inv .1, c .before .before .before .before .before .before .loop .inv .2, c .before .before .before .before .before .loop-test .taken),
-  c .before .before .before .before .before .before .loop .inv .2,
-  omega (arith, c .before .before .put-new .kept, c .before .before .before .before .before .before .loop .inv .3),
-)
+loop-again c =
+    let start =
+    c .before .before .before .before .before .before .before .before .before .before .before .before .before
+    .before in
+    let step-of = c .before .before .before .before .before .before .before .before .step-of in
+    let loop = c .before .before .before .before .before .before .loop in
+    let loop-test = c .before .before .before .before .before .loop-test in
+    let word-at = c .before .before .before .before .word-at in
+    let put-new = c .before .before .put-new in (
+      λ o. spaced-next (nameRow (over (start .args .outside .now)) (start .args .sheet .now)
+          (storeOf o (start .args .results .now) (start .args .nodes .now)) (start .args .wanted))
+          (inherited (over (start .args .outside .now)) (start .args .sheet .now)
+          (storeOf o (start .args .results .now) (start .args .nodes .now)) (start .args .wanted .kind)
+          (start .args .p .left) (start .args .p .class .0))
+          (start .args .outside .now) (step-of .result) (loop .at) (loop .left) (filled (loop .done) (loop .out))
+          (loop-test .taken) (word-at .ensures) (put-new .ensures o)
+          ∙ loop .inv .0 o,
+      omega (arith, loop .inv .1, loop .inv .2, loop-test .taken),
+      loop .inv .2,
+      omega (arith, put-new .kept, loop .inv .3),
+    )
 
 same-length : tie.Need-same-length Inv-loop μ-loop
 same-length c = c .before .loop .inv .3
 
 returns : tie.Need-returns Inv-loop μ-loop
-returns c = λ o. let a = c .before .before .before .before .before .before .before .before .before .args in spaced-end (nameRow (over (a .outside .now)) (a .sheet .now) (storeOf o (a .results .now) (a .nodes .now)) (a .wanted)) (inherited (over (a .outside .now)) (a .sheet .now) (storeOf o (a .results .now) (a .nodes .now)) (a .wanted .kind) (a .p .left) (a .p .class .0)) (a .outside .now) (c .before .before .before .step-of .result) (c .before .loop .at) (c .before .loop .left) (filled (c .before .loop .done) (c .before .loop .out)) (c .loop-test .left) ∙ c .before .loop .inv .0 o ∙ ap (λ (i : ℕ). putNew (over (a .outside .now)) (a .sheet .now) (storeOf o (a .results .now) (a .nodes .now)) (a .wanted) (a .p) (spacedAt (a .outside .now) i (a .names .at) (a .names .count)) (filled (a .k) (a .out .now))) (c .before .before .before .step-of .ensures)
+returns c =
+    let start = c .before .before .before .before .before .before .before .before .before in
+    let step-of = c .before .before .before .step-of in
+    let loop = c .before .loop in
+    λ o. spaced-end (nameRow (over (start .args .outside .now)) (start .args .sheet .now)
+    (storeOf o (start .args .results .now) (start .args .nodes .now)) (start .args .wanted))
+    (inherited (over (start .args .outside .now)) (start .args .sheet .now)
+    (storeOf o (start .args .results .now) (start .args .nodes .now)) (start .args .wanted .kind) (start .args .p .left)
+    (start .args .p .class .0))
+    (start .args .outside .now) (step-of .result) (loop .at) (loop .left) (filled (loop .done) (loop .out))
+    (c .loop-test .left)
+    ∙ loop .inv .0 o
+    ∙ ap (λ (i : ℕ). putNew (over (start .args .outside .now)) (start .args .sheet .now)
+    (storeOf o (start .args .results .now) (start .args .nodes .now)) (start .args .wanted) (start .args .p)
+    (spacedAt (start .args .outside .now) i (start .args .names .at) (start .args .names .count))
+    (filled (start .args .k) (start .args .out .now)))
+    (step-of .ensures)
 
 pub put-recorded-spec : {M : Type 1} → statement M
 put-recorded-spec =

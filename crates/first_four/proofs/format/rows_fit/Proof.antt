@@ -17,7 +17,9 @@ same-length c = search needs
 
 returns : tie.Need-returns
 unfolding rowsAll
-returns c = (rw (← c .before .before .before .fill .ensures .0, not-true (c .before .before .before .fill .result) (c .if1 .taken)), λ e. absurd (subst T (sym e) tt))
+returns c =
+    let fill = c .before .before .before .fill in
+    (rw (← fill .ensures .0, not-true (fill .result) (c .if1 .taken)), λ e. absurd (subst T (sym e) tt))
 
 all-apart-requires : tie.Need-all-apart-requires
 all-apart-requires c κs = search needs
@@ -30,7 +32,18 @@ same-length-3 c = search needs
 
 returns-2 : tie.Need-returns-2
 unfolding rowsAll
-returns-2 c = (rw (← c .before .before .before .before .before .before .before .before .fill .ensures .0, not-false (c .before .before .before .before .before .before .before .before .fill .result) (c .before .before .before .before .before .if1 .left), ← c .before .before .before .all-apart .ensures, not-true (c .before .before .before .all-apart .result) (c .if2 .taken)), λ e. absurd (subst T (sym e) tt))
+returns-2 c =
+    let fill = c .before .before .before .before .before .before .before .before .fill in
+    let if1 = c .before .before .before .before .before .if1 in
+    let all-apart = c .before .before .before .all-apart in (
+      rw (
+        ← fill .ensures .0,
+        not-false (fill .result) (if1 .left),
+        ← all-apart .ensures,
+        not-true (all-apart .result) (c .if2 .taken),
+      ),
+      λ e. absurd (subst T (sym e) tt),
+    )
 
 all-cross-requires : tie.Need-all-cross-requires
 all-cross-requires c κs = search needs
@@ -43,7 +56,20 @@ same-length-5 c = search needs
 
 returns-3 : tie.Need-returns-3
 unfolding rowsAll
-returns-3 c = (rw (← c .before .before .before .before .before .before .before .before .before .before .fill .ensures .0, not-false (c .before .before .before .before .before .before .before .before .before .before .fill .result) (c .before .before .before .before .before .before .before .if1 .left), ← c .before .before .before .before .before .all-apart .ensures, not-false (c .before .before .before .before .before .all-apart .result) (c .before .before .if2 .left), ← c .before .before .before .before .before .before .before .before .before .before .fill .ensures .1 (not-false (c .before .before .before .before .before .before .before .before .before .before .fill .result) (c .before .before .before .before .before .before .before .if1 .left)), c .all-cross .ensures), λ e. c .before .before .before .before .before .before .before .before .before .before .fill .ensures .1 (not-false (c .before .before .before .before .before .before .before .before .before .before .fill .result) (c .before .before .before .before .before .before .before .if1 .left)))
+returns-3 c =
+    let fill = c .before .before .before .before .before .before .before .before .before .before .fill in
+    let if1 = c .before .before .before .before .before .before .before .if1 in
+    let all-apart = c .before .before .before .before .before .all-apart in (
+      rw (
+        ← fill .ensures .0,
+        not-false (fill .result) (if1 .left),
+        ← all-apart .ensures,
+        not-false (all-apart .result) (c .before .before .if2 .left),
+        ← fill .ensures .1 (not-false (fill .result) (if1 .left)),
+        c .all-cross .ensures,
+      ),
+      λ e. fill .ensures .1 (not-false (fill .result) (if1 .left)),
+    )
 
 pub rows-fit-spec : {M : Type 1} → statement M
 rows-fit-spec =

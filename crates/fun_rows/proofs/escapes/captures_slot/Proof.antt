@@ -23,7 +23,12 @@ is-slot-requires : tie.Need-is-slot-requires Inv-loop μ-loop
 is-slot-requires c κs = tt
 
 returns : tie.Need-returns Inv-loop μ-loop
-returns c = hands-here (c .before .before .before .before .before .before .args .sheet .now) (c .before .before .before .before .before .before .args .nodes .now) (c .before .before .before .before .before .before .args .f .0) (c .before .before .before .before .before .before .args .j) (c .before .before .before .loop .i) (c .before .before .loop-test .taken) (sym (c .if1 .taken) ∙ c .before .is-slot .ensures) ∙ c .before .before .before .loop .inv .1
+returns c =
+    let start = c .before .before .before .before .before .before in
+    let loop = c .before .before .before .loop in
+    hands-here (start .args .sheet .now) (start .args .nodes .now) (start .args .f .0) (start .args .j) (loop .i)
+    (c .before .before .loop-test .taken) (sym (c .if1 .taken) ∙ c .before .is-slot .ensures)
+    ∙ loop .inv .1
 
 node-before-requires : tie.Need-node-before-requires Inv-loop μ-loop
 node-before-requires c κs = tt
@@ -32,10 +37,22 @@ loop-less : tie.Need-loop-less Inv-loop μ-loop
 loop-less c = omega (arith, c .node-before .ensures, c .before .before .before .loop-test .taken)
 
 loop-again : tie.Need-loop-again Inv-loop μ-loop
-loop-again c = (omega (arith, c .node-before .ensures, c .before .before .before .before .loop .inv .0), hands-other (c .before .before .before .before .before .before .before .args .sheet .now) (c .before .before .before .before .before .before .before .args .nodes .now) (c .before .before .before .before .before .before .before .args .f .0) (c .before .before .before .before .before .before .before .args .j) (c .before .before .before .before .loop .i) (c .before .before .before .loop-test .taken) (sym (c .before .if1 .left) ∙ c .before .before .is-slot .ensures) (c .node-before .ensures) ∙ c .before .before .before .before .loop .inv .1)
+loop-again c =
+    let start = c .before .before .before .before .before .before .before in
+    let loop = c .before .before .before .before .loop in (
+      omega (arith, c .node-before .ensures, loop .inv .0),
+      hands-other (start .args .sheet .now) (start .args .nodes .now) (start .args .f .0) (start .args .j) (loop .i)
+          (c .before .before .before .loop-test .taken)
+          (sym (c .before .if1 .left) ∙ c .before .before .is-slot .ensures) (c .node-before .ensures)
+          ∙ loop .inv .1,
+    )
 
 returns-2 : tie.Need-returns-2 Inv-loop μ-loop
-returns-2 c = hands-none (c .before .before .before .before .args .sheet .now) (c .before .before .before .before .args .nodes .now) (c .before .before .before .before .args .f .0) (c .before .before .before .before .args .j) (c .before .loop .i) (c .loop-test .left) ∙ c .before .loop .inv .1
+returns-2 c =
+    let start = c .before .before .before .before in
+    hands-none (start .args .sheet .now) (start .args .nodes .now) (start .args .f .0) (start .args .j)
+    (c .before .loop .i) (c .loop-test .left)
+    ∙ c .before .loop .inv .1
 
 pub captures-slot-spec : {M : Type 1} → statement M
 captures-slot-spec =

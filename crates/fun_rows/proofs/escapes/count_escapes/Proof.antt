@@ -10,7 +10,9 @@ use Rattle.fun_rows.proofs.escapes.count_escapes.Statement.{statement}
 use Rattle.fun_rows.proofs.escapes.count_escapes.Tie as tie
 
 abbrev Inv-loop : tie.InvT-loop
-Inv-loop s t q heads nexts f n j₀ x₀ j x = (j ≤ n) × (x ≤ j) × (x + length (filter (escapes s t q (f .0)) (from j (n - j))) ≡ length (filter (escapes s t q (f .0)) (from 0 n)))
+Inv-loop s t q heads nexts f n j₀ x₀ j x =
+    (j ≤ n) × (x ≤ j)
+    × (x + length (filter (escapes s t q (f .0)) (from j (n - j))) ≡ length (filter (escapes s t q (f .0)) (from 0 n)))
 
 abbrev μ-loop : tie.MeasureT-loop
 μ-loop s t q heads nexts f n j₀ x₀ j x = n - j
@@ -19,31 +21,69 @@ slots-asked-requires : tie.Need-slots-asked-requires Inv-loop μ-loop
 slots-asked-requires c κs = tt
 
 loop-holds : tie.Need-loop-holds Inv-loop μ-loop
-loop-holds c = (omega arith, omega arith, count-start (escapes (c .before .before .before .before .before .before .args .sheet .now) (c .before .before .before .before .before .before .args .results .now) (c .before .before .before .before .before .before .args .nodes .now) (c .before .before .before .before .before .before .args .f .0)) (c .slots-asked .result))
+loop-holds c =
+    let start = c .before .before .before .before .before .before in (
+      omega arith,
+      omega arith,
+      count-start
+          (escapes (start .args .sheet .now) (start .args .results .now) (start .args .nodes .now) (start .args .f .0))
+          (c .slots-asked .result),
+    )
 
 add-j : tie.Need-add-j Inv-loop μ-loop
 add-j c = omega arith
 
 hands-on-requires : tie.Need-hands-on-requires Inv-loop μ-loop
-hands-on-requires c κs = (c .before .before .before .before .before .before .before .before .pre .0, c .before .before .before .before .before .before .before .before .pre .1)
+hands-on-requires c κs =
+    let start = c .before .before .before .before .before .before .before .before in
+    (start .pre .0, start .pre .1)
 
 add-x : tie.Need-add-x Inv-loop μ-loop
-add-x c = omega (arith, c .before .before .before .loop .inv .0, c .before .before .before .loop .inv .1, c .before .before .loop-test .taken)
+add-x c =
+    let loop = c .before .before .before .loop in
+    omega (arith, loop .inv .0, loop .inv .1, c .before .before .loop-test .taken)
 
 loop-less : tie.Need-loop-less Inv-loop μ-loop
 loop-less c = omega (arith, c .before .before .loop-test .taken)
 
 loop-again : tie.Need-loop-again Inv-loop μ-loop
-loop-again c = (omega (arith, c .before .before .loop-test .taken), omega (arith, c .before .before .before .loop .inv .1), count-in (escapes (c .before .before .before .before .before .before .before .before .before .before .args .sheet .now) (c .before .before .before .before .before .before .before .before .before .before .args .results .now) (c .before .before .before .before .before .before .before .before .before .before .args .nodes .now) (c .before .before .before .before .before .before .before .before .before .before .args .f .0)) _ (c .before .before .before .loop .x) (c .before .before .before .loop .j) _ (c .before .before .loop-test .taken) (sym (c .if1 .taken) ∙ c .before .hands-on .ensures) (c .before .before .before .loop .inv .2))
+loop-again c =
+    let start = c .before .before .before .before .before .before .before .before .before .before in
+    let loop = c .before .before .before .loop in
+    let loop-test = c .before .before .loop-test in (
+      omega (arith, loop-test .taken),
+      omega (arith, loop .inv .1),
+      count-in
+          (escapes (start .args .sheet .now) (start .args .results .now) (start .args .nodes .now) (start .args .f .0))
+          _ (loop .x) (loop .j) _ (loop-test .taken) (sym (c .if1 .taken) ∙ c .before .hands-on .ensures)
+          (loop .inv .2),
+    )
 
 loop-less-2 : tie.Need-loop-less-2 Inv-loop μ-loop
 loop-less-2 c = omega (arith, c .before .before .loop-test .taken)
 
 loop-again-2 : tie.Need-loop-again-2 Inv-loop μ-loop
-loop-again-2 c = (omega (arith, c .before .before .loop-test .taken), omega (arith, c .before .before .before .loop .inv .1), count-out (escapes (c .before .before .before .before .before .before .before .before .before .before .args .sheet .now) (c .before .before .before .before .before .before .before .before .before .before .args .results .now) (c .before .before .before .before .before .before .before .before .before .before .args .nodes .now) (c .before .before .before .before .before .before .before .before .before .before .args .f .0)) _ (c .before .before .before .loop .x) (c .before .before .before .loop .j) _ (c .before .before .loop-test .taken) (sym (c .if1 .left) ∙ c .before .hands-on .ensures) (c .before .before .before .loop .inv .2))
+loop-again-2 c =
+    let start = c .before .before .before .before .before .before .before .before .before .before in
+    let loop = c .before .before .before .loop in
+    let loop-test = c .before .before .loop-test in (
+      omega (arith, loop-test .taken),
+      omega (arith, loop .inv .1),
+      count-out
+          (escapes (start .args .sheet .now) (start .args .results .now) (start .args .nodes .now) (start .args .f .0))
+          _ (loop .x) (loop .j) _ (loop-test .taken) (sym (c .if1 .left) ∙ c .before .hands-on .ensures) (loop .inv .2),
+    )
 
 returns : tie.Need-returns Inv-loop μ-loop
-returns c = λ o. count-end (escapes (c .before .before .before .before .before .before .before .before .args .sheet .now) (c .before .before .before .before .before .before .before .before .args .results .now) (c .before .before .before .before .before .before .before .before .args .nodes .now) (c .before .before .before .before .before .before .before .before .args .f .0)) _ (c .before .loop .x) (c .before .loop .j) _ (c .loop-test .left) (c .before .loop .inv .2) ∙ ap length (slots-found (c .before .before .before .before .before .before .before .before .args .sheet .now) (storeOf o (c .before .before .before .before .before .before .before .before .args .results .now) (c .before .before .before .before .before .before .before .before .args .nodes .now)) (c .before .before .before .before .before .before .before .before .args .literals .now) (c .before .before .before .before .before .before .before .before .args .siblings .now) (c .before .before .before .before .before .before .before .before .args .f .0) _ (c .before .before .before .before .before .before .before .before .pre .0) (c .before .before .before .before .before .before .before .before .pre .1) (c .before .before .slots-asked .ensures))
+returns c =
+    let start = c .before .before .before .before .before .before .before .before in
+    let loop = c .before .loop in
+    λ o. count-end
+    (escapes (start .args .sheet .now) (start .args .results .now) (start .args .nodes .now) (start .args .f .0)) _
+    (loop .x) (loop .j) _ (c .loop-test .left) (loop .inv .2)
+    ∙ ap length (slots-found (start .args .sheet .now) (storeOf o (start .args .results .now) (start .args .nodes .now))
+    (start .args .literals .now) (start .args .siblings .now) (start .args .f .0) _ (start .pre .0) (start .pre .1)
+    (c .before .before .slots-asked .ensures))
 
 pub count-escapes-spec : {M : Type 1} → statement M
 count-escapes-spec =

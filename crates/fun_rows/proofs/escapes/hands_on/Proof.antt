@@ -15,10 +15,19 @@ entry-at-requires : tie.Need-entry-at-requires Inv-loop μ-loop
 entry-at-requires c κs = tt
 
 loop-holds : tie.Need-loop-holds Inv-loop μ-loop
-loop-holds c = captured-start (c .before .before .before .before .before .before .args .sheet .now) (c .before .before .before .before .before .before .args .results .now) (c .before .before .before .before .before .before .args .nodes .now) (c .before .before .before .before .before .before .args .f .0) (c .before .before .before .before .before .before .args .j) (c .before .before .before .before .before .before .args .literals .now) (c .before .before .before .before .before .before .args .siblings .now) _ (c .before .before .before .before .before .before .pre .0) (c .before .before .before .before .before .before .pre .1) (c .entry-at .ensures)
+loop-holds c =
+    let start = c .before .before .before .before .before .before in
+    captured-start (start .args .sheet .now) (start .args .results .now) (start .args .nodes .now) (start .args .f .0)
+    (start .args .j) (start .args .literals .now) (start .args .siblings .now) _ (start .pre .0) (start .pre .1)
+    (c .entry-at .ensures)
 
 returns : tie.Need-returns Inv-loop μ-loop
-returns c = captured-end (c .before .before .before .before .before .before .before .before .before .args .sheet .now) (c .before .before .before .before .before .before .before .before .before .args .results .now) (c .before .before .before .before .before .before .before .before .before .args .nodes .now) (c .before .before .before .before .before .before .before .before .before .args .f .0) (c .before .before .before .before .before .before .before .before .before .args .j) (c .before .before .loop .n) (c .before .before .before .before .before .before .before .before .before .args .siblings .now) (c .before .before .loop .l) (c .if1 .taken) ∙ c .before .before .loop .inv
+returns c =
+    let start = c .before .before .before .before .before .before .before .before .before in
+    let loop = c .before .before .loop in
+    captured-end (start .args .sheet .now) (start .args .results .now) (start .args .nodes .now) (start .args .f .0)
+    (start .args .j) (loop .n) (start .args .siblings .now) (loop .l) (c .if1 .taken)
+    ∙ loop .inv
 
 sub-n : tie.Need-sub-n Inv-loop μ-loop
 sub-n c = omega arith
@@ -33,7 +42,17 @@ captures-slot-requires : tie.Need-captures-slot-requires Inv-loop μ-loop
 captures-slot-requires c κs = tt
 
 returns-2 : tie.Need-returns-2 Inv-loop μ-loop
-returns-2 c = captured-here (c .before .before .before .before .before .before .before .before .before .before .before .before .before .args .sheet .now) (c .before .before .before .before .before .before .before .before .before .before .before .before .before .args .results .now) (c .before .before .before .before .before .before .before .before .before .before .before .before .before .args .nodes .now) (c .before .before .before .before .before .before .before .before .before .before .before .before .before .args .f .0) (c .before .before .before .before .before .before .before .before .before .before .before .before .before .args .j) (c .before .before .before .before .before .before .loop .n) (c .before .before .before .before .before .before .before .before .before .before .before .before .before .args .siblings .now) (c .before .before .before .before .before .before .loop .l) _ _ (c .before .before .before .before .before .loop-test .taken) (c .before .before .before .before .if1 .left) (c .before .before .before .word .ensures) (c .before .before .word2 .ensures) (sym (c .if2 .taken) ∙ c .before .captures-slot .ensures) ∙ c .before .before .before .before .before .before .loop .inv
+returns-2 c =
+    let at-loop = c .before .before .before .before .before .before in
+    let start = at-loop .before .before .before .before .before .before .before in
+    let loop = at-loop .loop in
+    let loop-test = c .before .before .before .before .before .loop-test in
+    let if1 = c .before .before .before .before .if1 in
+    captured-here (start .args .sheet .now) (start .args .results .now) (start .args .nodes .now) (start .args .f .0)
+    (start .args .j) (loop .n) (start .args .siblings .now) (loop .l) _ _ (loop-test .taken) (if1 .left)
+    (c .before .before .before .word .ensures) (c .before .before .word2 .ensures)
+    (sym (c .if2 .taken) ∙ c .before .captures-slot .ensures)
+    ∙ loop .inv
 
 entry-at-requires-2 : tie.Need-entry-at-requires-2 Inv-loop μ-loop
 entry-at-requires-2 c κs = tt
@@ -42,10 +61,26 @@ loop-less : tie.Need-loop-less Inv-loop μ-loop
 loop-less c = omega (arith, c .before .before .before .before .before .before .loop-test .taken)
 
 loop-again : tie.Need-loop-again Inv-loop μ-loop
-loop-again c = captured-other (c .before .before .before .before .before .before .before .before .before .before .before .before .before .before .args .sheet .now) (c .before .before .before .before .before .before .before .before .before .before .before .before .before .before .args .results .now) (c .before .before .before .before .before .before .before .before .before .before .before .before .before .before .args .nodes .now) (c .before .before .before .before .before .before .before .before .before .before .before .before .before .before .args .f .0) (c .before .before .before .before .before .before .before .before .before .before .before .before .before .before .args .j) (c .before .before .before .before .before .before .before .loop .n) (c .before .before .before .before .before .before .before .before .before .before .before .before .before .before .args .siblings .now) (c .before .before .before .before .before .before .before .loop .l) _ _ _ (c .before .before .before .before .before .before .loop-test .taken) (c .before .before .before .before .before .if1 .left) (c .before .before .before .before .word .ensures) (c .before .before .before .word2 .ensures) (sym (c .before .if2 .left) ∙ c .before .before .captures-slot .ensures) (c .entry-at2 .ensures) ∙ c .before .before .before .before .before .before .before .loop .inv
+loop-again c =
+    let at-loop = c .before .before .before .before .before .before .before in
+    let start = at-loop .before .before .before .before .before .before .before in
+    let loop = at-loop .loop in
+    let loop-test = c .before .before .before .before .before .before .loop-test in
+    let if1 = c .before .before .before .before .before .if1 in
+    let word = c .before .before .before .before .word in
+    captured-other (start .args .sheet .now) (start .args .results .now) (start .args .nodes .now) (start .args .f .0)
+    (start .args .j) (loop .n) (start .args .siblings .now) (loop .l) _ _ _ (loop-test .taken) (if1 .left)
+    (word .ensures) (c .before .before .before .word2 .ensures)
+    (sym (c .before .if2 .left) ∙ c .before .before .captures-slot .ensures) (c .entry-at2 .ensures)
+    ∙ loop .inv
 
 returns-3 : tie.Need-returns-3 Inv-loop μ-loop
-returns-3 c = captured-none (c .before .before .before .before .before .before .before .before .args .sheet .now) (c .before .before .before .before .before .before .before .before .args .results .now) (c .before .before .before .before .before .before .before .before .args .nodes .now) (c .before .before .before .before .before .before .before .before .args .f .0) (c .before .before .before .before .before .before .before .before .args .j) (c .before .loop .n) (c .before .before .before .before .before .before .before .before .args .siblings .now) (c .before .loop .l) (c .loop-test .left) ∙ c .before .loop .inv
+returns-3 c =
+    let start = c .before .before .before .before .before .before .before .before in
+    let loop = c .before .loop in
+    captured-none (start .args .sheet .now) (start .args .results .now) (start .args .nodes .now) (start .args .f .0)
+    (start .args .j) (loop .n) (start .args .siblings .now) (loop .l) (c .loop-test .left)
+    ∙ loop .inv
 
 pub hands-on-spec : {M : Type 1} → statement M
 hands-on-spec =

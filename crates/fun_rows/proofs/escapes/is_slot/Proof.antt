@@ -10,13 +10,28 @@ is-mutable-requires : tie.Need-is-mutable-requires
 is-mutable-requires c κs = search needs
 
 returns : tie.Need-returns
-returns c = slot-fixed (c .before .before .before .before .before .args .sheet .now) (c .before .before .before .before .before .args .nodes .now) (c .before .before .before .before .before .args .f .0) (c .before .before .before .before .before .args .j) (c .before .before .before .before .before .args .i) _ (c .before .before .captured-at .ensures) (c .before .is-mutable .ensures) (c .if1 .taken)
+returns c =
+    let start = c .before .before .before .before .before in
+    slot-fixed (start .args .sheet .now) (start .args .nodes .now) (start .args .f .0) (start .args .j) (start .args .i)
+    _ (c .before .before .captured-at .ensures) (c .before .is-mutable .ensures) (c .if1 .taken)
 
 returns-2 : tie.Need-returns-2
-returns-2 c = slot-foreign (c .before .before .before .before .before .before .before .before .args .sheet .now) (c .before .before .before .before .before .before .before .before .args .nodes .now) (c .before .before .before .before .before .before .before .before .args .f .0) (c .before .before .before .before .before .before .before .before .args .j) (c .before .before .before .before .before .before .before .before .args .i) _ (c .before .before .before .before .before .captured-at .ensures) (c .before .before .before .before .is-mutable .ensures) (c .before .before .before .if1 .left) (c .if2 .taken)
+returns-2 c =
+    let start = c .before .before .before .before .before .before .before .before in
+    let captured-at = c .before .before .before .before .before .captured-at in
+    let is-mutable = c .before .before .before .before .is-mutable in
+    slot-foreign (start .args .sheet .now) (start .args .nodes .now) (start .args .f .0) (start .args .j)
+    (start .args .i) _ (captured-at .ensures) (is-mutable .ensures) (c .before .before .before .if1 .left)
+    (c .if2 .taken)
 
 returns-3 : tie.Need-returns-3
-returns-3 c = slot-own (c .before .before .before .before .before .before .before .before .before .args .sheet .now) (c .before .before .before .before .before .before .before .before .before .args .nodes .now) (c .before .before .before .before .before .before .before .before .before .args .f .0) (c .before .before .before .before .before .before .before .before .before .args .j) (c .before .before .before .before .before .before .before .before .before .args .i) _ (c .before .before .before .before .before .before .captured-at .ensures) (c .before .before .before .before .before .is-mutable .ensures) (c .before .before .before .before .if1 .left) (c .before .if2 .left)
+returns-3 c =
+    let start = c .before .before .before .before .before .before .before .before .before in
+    let captured-at = c .before .before .before .before .before .before .captured-at in
+    let is-mutable = c .before .before .before .before .before .is-mutable in
+    let if1 = c .before .before .before .before .if1 in
+    slot-own (start .args .sheet .now) (start .args .nodes .now) (start .args .f .0) (start .args .j) (start .args .i) _
+    (captured-at .ensures) (is-mutable .ensures) (if1 .left) (c .before .if2 .left)
 
 pub is-slot-spec : {M : Type 1} → statement M
 is-slot-spec =

@@ -1,4 +1,5 @@
--- `lexer::SrcPos::new` meets its contract. Of its three returns the first has a file out of range, the second a column to clamp. Assumes nothing.
+-- `lexer::SrcPos::new` meets its contract. Of its three returns the first has a file out of range, the second a column
+-- to clamp. Assumes nothing.
 use Prim.Native.Nat.{_<_, _≤_}
 use native.Mathlib.Omega.{arith}
 use borrow.Author.Needs.{needs}

@@ -12,19 +12,28 @@ is-class-row-requires : tie.Need-is-class-row-requires
 is-class-row-requires c κs = search needs
 
 sub-word : tie.Need-sub-word
-sub-word c = own-number (c .before .before .before .before .before .args .sheet .now) (c .before .before .before .before .before .args .outside .now) (c .before .before .before .before .before .args .c .0) (c .before .before .is-class-row .ensures) (c .before .if1 .taken)
+sub-word c =
+    let start = c .before .before .before .before .before in
+    own-number (start .args .sheet .now) (start .args .outside .now) (start .args .c .0)
+    (c .before .before .is-class-row .ensures) (c .before .if1 .taken)
 
 word-requires : tie.Need-word-requires
 word-requires c κs = search needs
 
 returns : tie.Need-returns
-returns c = name-own (c .before .before .before .before .before .before .args .sheet .now) (c .before .before .before .before .before .before .args .outside .now) (c .before .before .before .before .before .before .args .c .0) (c .before .before .before .is-class-row .ensures) (c .before .before .if1 .taken) (c .word .ensures)
+returns c =
+    let start = c .before .before .before .before .before .before in
+    name-own (start .args .sheet .now) (start .args .outside .now) (start .args .c .0)
+    (c .before .before .before .is-class-row .ensures) (c .before .before .if1 .taken) (c .word .ensures)
 
 find-record-requires : tie.Need-find-record-requires
 find-record-requires c κs = search needs
 
 returns-2 : tie.Need-returns-2
-returns-2 c = name-record (c .before .before .before .before .before .args .sheet .now) (c .before .before .before .before .before .args .outside .now) (c .before .before .before .before .before .args .c .0) (c .before .before .is-class-row .ensures) (c .before .if1 .left) (c .find-record .ensures)
+returns-2 c =
+    let start = c .before .before .before .before .before in
+    name-record (start .args .sheet .now) (start .args .outside .now) (start .args .c .0)
+    (c .before .before .is-class-row .ensures) (c .before .if1 .left) (c .find-record .ensures)
 
 pub class-name-spec : {M : Type 1} → statement M
 class-name-spec =

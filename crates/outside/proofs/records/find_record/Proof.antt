@@ -32,7 +32,17 @@ record-at-requires : tie.Need-record-at-requires Inv-loop μ-loop
 record-at-requires c κs = tt
 
 returns : tie.Need-returns Inv-loop μ-loop
-returns c = all-sought (c .before .before .before .before .before .before .before .before .before .args .outside .now) (c .before .before .before .before .before .before .before .before .before .args .c .0) _ (c .before .before .before .before .before .before .word2 .ensures) (c .before .before .before .before .before .before .before .word .ensures) (ap (told (c .before .before .before .before .before .before .before .before .before .args .outside .now)) (c .record-at .ensures) ∙ sought-here (c .before .before .before .before .before .before .before .before .before .args .outside .now) (c .before .before .before .before .before .before .before .before .before .args .c .0) (c .before .before .before .before .before .loop .i) (c .before .before .before .before .before .before .before .word .result - c .before .before .before .before .before .loop .i) (omega (arith, c .before .before .before .before .loop-test .taken)) (c .before .before .before .word3 .ensures) (c .before .if1 .taken) ∙ c .before .before .before .before .before .loop .inv)
+returns c =
+    let start = c .before .before .before .before .before .before .before .before .before in
+    let at-word = c .before .before .before .before .before .before .before .word in
+    let word2 = c .before .before .before .before .before .before .word2 in
+    let loop = c .before .before .before .before .before .loop in
+    let loop-test = c .before .before .before .before .loop-test in
+    all-sought (start .args .outside .now) (start .args .c .0) _ (word2 .ensures) (at-word .ensures)
+    (ap (told (start .args .outside .now)) (c .record-at .ensures)
+    ∙ sought-here (start .args .outside .now) (start .args .c .0) (loop .i) (at-word .result - loop .i)
+    (omega (arith, loop-test .taken)) (c .before .before .before .word3 .ensures) (c .before .if1 .taken)
+    ∙ loop .inv)
 
 add-i : tie.Need-add-i Inv-loop μ-loop
 add-i c = search needs
@@ -41,10 +51,25 @@ loop-less : tie.Need-loop-less Inv-loop μ-loop
 loop-less c = omega (arith, c .before .before .before .loop-test .taken)
 
 loop-again : tie.Need-loop-again Inv-loop μ-loop
-loop-again c = let z : c .before .before .before .before .before .before .word .result - (c .before .before .before .before .loop .i + 1) ≡ c .before .before .before .before .before .before .word .result - c .before .before .before .before .loop .i - 1 = omega arith in ap (sought (c .before .before .before .before .before .before .before .before .args .outside .now) (c .before .before .before .before .before .before .before .before .args .c .0) (c .before .before .before .before .loop .i + 1)) z ∙ sought-next (c .before .before .before .before .before .before .before .before .args .outside .now) (c .before .before .before .before .before .before .before .before .args .c .0) (c .before .before .before .before .loop .i) (c .before .before .before .before .before .before .word .result - c .before .before .before .before .loop .i) (omega (arith, c .before .before .before .loop-test .taken)) (c .before .before .word3 .ensures) (c .if1 .left) ∙ c .before .before .before .before .loop .inv
+loop-again c =
+    let start = c .before .before .before .before .before .before .before .before in
+    let at-word = c .before .before .before .before .before .before .word in
+    let loop = c .before .before .before .before .loop in
+    let z : at-word .result - (loop .i + 1) ≡ at-word .result - loop .i - 1 = omega arith in
+    ap (sought (start .args .outside .now) (start .args .c .0) (loop .i + 1)) z
+    ∙ sought-next (start .args .outside .now) (start .args .c .0) (loop .i) (at-word .result - loop .i)
+    (omega (arith, c .before .before .before .loop-test .taken)) (c .before .before .word3 .ensures) (c .if1 .left)
+    ∙ loop .inv
 
 returns-2 : tie.Need-returns-2 Inv-loop μ-loop
-returns-2 c = all-sought (c .before .before .before .before .before .args .outside .now) (c .before .before .before .before .before .args .c .0) _ (c .before .before .word2 .ensures) (c .before .before .before .word .ensures) (sought-none (c .before .before .before .before .before .args .outside .now) (c .before .before .before .before .before .args .c .0) (c .before .loop .i) (c .before .before .before .word .result - c .before .loop .i) (omega (arith, c .loop-test .left)) ∙ c .before .loop .inv)
+returns-2 c =
+    let start = c .before .before .before .before .before in
+    let at-word = c .before .before .before .word in
+    let loop = c .before .loop in
+    all-sought (start .args .outside .now) (start .args .c .0) _ (c .before .before .word2 .ensures) (at-word .ensures)
+    (sought-none (start .args .outside .now) (start .args .c .0) (loop .i) (at-word .result - loop .i)
+    (omega (arith, c .loop-test .left))
+    ∙ loop .inv)
 
 pub find-record-spec : {M : Type 1} → statement M
 find-record-spec =

@@ -11,13 +11,19 @@ is-class-row-requires : tie.Need-is-class-row-requires
 is-class-row-requires c κs = search needs
 
 returns : tie.Need-returns
-returns c = has-own (c .before .before .before .before .args .sheet .now) (c .before .before .before .before .args .outside .now) (c .before .before .before .before .args .c .0) (c .before .is-class-row .ensures) (c .if1 .taken)
+returns c =
+    let start = c .before .before .before .before in
+    has-own (start .args .sheet .now) (start .args .outside .now) (start .args .c .0) (c .before .is-class-row .ensures)
+    (c .if1 .taken)
 
 find-record-requires : tie.Need-find-record-requires
 find-record-requires c κs = search needs
 
 returns-2 : tie.Need-returns-2
-returns-2 c = has-record (c .before .before .before .before .before .args .sheet .now) (c .before .before .before .before .before .args .outside .now) (c .before .before .before .before .before .args .c .0) (c .before .before .is-class-row .ensures) (c .before .if1 .left) (c .find-record .ensures)
+returns-2 c =
+    let start = c .before .before .before .before .before in
+    has-record (start .args .sheet .now) (start .args .outside .now) (start .args .c .0)
+    (c .before .before .is-class-row .ensures) (c .before .if1 .left) (c .find-record .ensures)
 
 pub has-record-spec : {M : Type 1} → statement M
 has-record-spec = tie.close (tie.spec is-class-row-requires returns find-record-requires returns-2)

@@ -14,7 +14,9 @@ use Rattle.outside.proofs.records.step_of.Reads as step-of-reads
 use Rattle.words.proofs.word_at.Reads as word-at-reads
 
 abbrev Inv-loop : tie.InvT-loop
-Inv-loop outside m step p₀ left₀ p left = ((m ∈? spacedAt outside step p left) ≡ (m ∈? spacedAt outside step p₀ left₀)) × (p + 3 * left ≤ 17179869180) × (step ≤ 3)
+Inv-loop outside m step p₀ left₀ p left =
+    ((m ∈? spacedAt outside step p left) ≡ (m ∈? spacedAt outside step p₀ left₀)) × (p + 3 * left ≤ 17179869180)
+    × (step ≤ 3)
 
 abbrev μ-loop : tie.MeasureT-loop
 μ-loop outside m step p₀ left₀ p left = left
@@ -26,16 +28,29 @@ cast-p : tie.Need-cast-p Inv-loop μ-loop
 cast-p c = omega (arith, c .before .before .before .fits)
 
 loop-holds : tie.Need-loop-holds Inv-loop μ-loop
-loop-holds c = (refl, omega (arith, c .before .before .before .fits), omega (arith, c .before .step-of .ensures, step-few (c .before .before .before .args .names .kind)))
+loop-holds c =
+    let start = c .before .before .before in
+    (refl, omega (arith, start .fits), omega (arith, c .before .step-of .ensures, step-few (start .args .names .kind)))
 
 word-at-requires : tie.Need-word-at-requires Inv-loop μ-loop
 word-at-requires c κs = tt
 
 returns : tie.Need-returns Inv-loop μ-loop
-returns c = spaced-here (c .before .before .before .before .before .before .before .args .outside .now) (c .before .before .before .before .before .step-of .result) (c .before .before .before .before .before .before .before .args .m) (c .before .before .before .loop .p) (c .before .before .before .loop .left) (c .before .before .loop-test .taken) (c .before .word-at .ensures) (c .if1 .taken) ∙ c .before .before .before .loop .inv .0 ∙ ap (λ (k : ℕ). c .before .before .before .before .before .before .before .args .m ∈? spacedAt (c .before .before .before .before .before .before .before .args .outside .now) k (c .before .before .before .before .before .before .before .args .names .at) (c .before .before .before .before .before .before .before .args .names .count)) (c .before .before .before .before .before .step-of .ensures)
+returns c =
+    let start = c .before .before .before .before .before .before .before in
+    let step-of = c .before .before .before .before .before .step-of in
+    let loop = c .before .before .before .loop in
+    spaced-here (start .args .outside .now) (step-of .result) (start .args .m) (loop .p) (loop .left)
+    (c .before .before .loop-test .taken) (c .before .word-at .ensures) (c .if1 .taken)
+    ∙ loop .inv .0
+    ∙ ap (λ (k : ℕ). start .args .m ∈? spacedAt (start .args .outside .now) k (start .args .names .at)
+    (start .args .names .count))
+    (step-of .ensures)
 
 add-p : tie.Need-add-p Inv-loop μ-loop
-add-p c = omega (arith, c .before .before .before .loop .inv .1, c .before .before .before .loop .inv .2)
+add-p c =
+    let loop = c .before .before .before .loop in
+    omega (arith, loop .inv .1, loop .inv .2)
 
 sub-left : tie.Need-sub-left Inv-loop μ-loop
 sub-left c = omega (arith, c .before .before .loop-test .taken)
@@ -44,10 +59,29 @@ loop-less : tie.Need-loop-less Inv-loop μ-loop
 loop-less c = omega (arith, c .before .before .loop-test .taken)
 
 loop-again : tie.Need-loop-again Inv-loop μ-loop
-loop-again c = (spaced-next (c .before .before .before .before .before .before .before .args .outside .now) (c .before .before .before .before .before .step-of .result) (c .before .before .before .before .before .before .before .args .m) (c .before .before .before .loop .p) (c .before .before .before .loop .left) (c .before .before .loop-test .taken) (c .before .word-at .ensures) (c .if1 .left) ∙ c .before .before .before .loop .inv .0, omega (arith, c .before .before .before .loop .inv .1, c .before .before .before .loop .inv .2, c .before .before .loop-test .taken), c .before .before .before .loop .inv .2)
+loop-again c =
+    let start = c .before .before .before .before .before .before .before in
+    let step-of = c .before .before .before .before .before .step-of in
+    let loop = c .before .before .before .loop in
+    let loop-test = c .before .before .loop-test in (
+      spaced-next (start .args .outside .now) (step-of .result) (start .args .m) (loop .p) (loop .left)
+          (loop-test .taken) (c .before .word-at .ensures) (c .if1 .left)
+          ∙ loop .inv .0,
+      omega (arith, loop .inv .1, loop .inv .2, loop-test .taken),
+      loop .inv .2,
+    )
 
 returns-2 : tie.Need-returns-2 Inv-loop μ-loop
-returns-2 c = spaced-none (c .before .before .before .before .before .args .outside .now) (c .before .before .before .step-of .result) (c .before .before .before .before .before .args .m) (c .before .loop .p) (c .before .loop .left) (c .loop-test .left) ∙ c .before .loop .inv .0 ∙ ap (λ (k : ℕ). c .before .before .before .before .before .args .m ∈? spacedAt (c .before .before .before .before .before .args .outside .now) k (c .before .before .before .before .before .args .names .at) (c .before .before .before .before .before .args .names .count)) (c .before .before .before .step-of .ensures)
+returns-2 c =
+    let start = c .before .before .before .before .before in
+    let step-of = c .before .before .before .step-of in
+    let loop = c .before .loop in
+    spaced-none (start .args .outside .now) (step-of .result) (start .args .m) (loop .p) (loop .left)
+    (c .loop-test .left)
+    ∙ loop .inv .0
+    ∙ ap (λ (k : ℕ). start .args .m ∈? spacedAt (start .args .outside .now) k (start .args .names .at)
+    (start .args .names .count))
+    (step-of .ensures)
 
 pub is-listed-spec : {M : Type 1} → statement M
 is-listed-spec =

@@ -15,7 +15,10 @@ is-class-row-requires : tie.Need-is-class-row-requires
 is-class-row-requires c κs = search needs
 
 sub-first-named : tie.Need-sub-first-named
-sub-first-named c = own-number (c .before .before .before .before .before .args .sheet .now) (c .before .before .before .before .before .args .outside .now) (c .before .before .before .before .before .args .c .0) (c .before .before .is-class-row .ensures) (c .before .if1 .taken)
+sub-first-named c =
+    let start = c .before .before .before .before .before in
+    own-number (start .args .sheet .now) (start .args .outside .now) (start .args .c .0)
+    (c .before .before .is-class-row .ensures) (c .before .if1 .taken)
 
 first-named-requires : tie.Need-first-named-requires
 first-named-requires c κs = search needs
@@ -24,7 +27,12 @@ listed-method-requires : tie.Need-listed-method-requires
 listed-method-requires c κs = search needs
 
 returns : tie.Need-returns
-returns c = own-listed (c .before .before .before .before .before .before .before .args .sheet .now) (c .before .before .before .before .before .before .before .args .outside .now) (c .before .before .before .before .before .before .before .args .c .0) (c .before .before .before .before .is-class-row .ensures) (c .before .before .before .if1 .taken) (c .before .first-named .ensures) (c .listed-method .ensures .0) (c .listed-method .ensures .1)
+returns c =
+    let start = c .before .before .before .before .before .before .before in
+    let is-class-row = c .before .before .before .before .is-class-row in
+    own-listed (start .args .sheet .now) (start .args .outside .now) (start .args .c .0) (is-class-row .ensures)
+    (c .before .before .before .if1 .taken) (c .before .first-named .ensures) (c .listed-method .ensures .0)
+    (c .listed-method .ensures .1)
 
 find-record-requires : tie.Need-find-record-requires
 find-record-requires c κs = search needs
@@ -33,7 +41,11 @@ recorded-method-requires : tie.Need-recorded-method-requires
 recorded-method-requires c κs = search needs
 
 returns-2 : tie.Need-returns-2
-returns-2 c = own-recorded (c .before .before .before .before .before .before .args .sheet .now) (c .before .before .before .before .before .before .args .outside .now) (c .before .before .before .before .before .before .args .c .0) (c .before .before .before .is-class-row .ensures) (c .before .before .if1 .left) (c .before .find-record .ensures) (c .recorded-method .ensures)
+returns-2 c =
+    let start = c .before .before .before .before .before .before in
+    own-recorded (start .args .sheet .now) (start .args .outside .now) (start .args .c .0)
+    (c .before .before .before .is-class-row .ensures) (c .before .before .if1 .left) (c .before .find-record .ensures)
+    (c .recorded-method .ensures)
 
 pub own-method-spec : {M : Type 1} → statement M
 own-method-spec =

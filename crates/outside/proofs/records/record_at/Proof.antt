@@ -21,7 +21,15 @@ word-requires-5 : tie.Need-word-requires-5
 word-requires-5 c κs = search needs
 
 returns : tie.Need-returns
-returns c = rw (c .before .before .before .before .word .ensures, c .before .before .before .word2 .ensures, c .before .before .word3 .ensures, c .before .word4 .ensures, c .word5 .ensures)
+returns c =
+    let at-word = c .before .before .before .before .word in
+    rw (
+      at-word .ensures,
+      c .before .before .before .word2 .ensures,
+      c .before .before .word3 .ensures,
+      c .before .word4 .ensures,
+      c .word5 .ensures,
+    )
 
 pub record-at-spec : {M : Type 1} → statement M
 record-at-spec =

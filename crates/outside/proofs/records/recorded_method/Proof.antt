@@ -13,7 +13,8 @@ use Rattle.outside.proofs.records.recorded_method.Lts as lts
 use Rattle.words.proofs.word_at.Reads as word-at-reads
 
 abbrev Inv-loop : tie.InvT-loop
-Inv-loop outside at count n p₀ left₀ p left = (methodOf n (methodsAt outside p left) ≡ methodOf n (methodsAt outside at count)) × (p + 3 * left ≤ 17179869180)
+Inv-loop outside at count n p₀ left₀ p left =
+    (methodOf n (methodsAt outside p left) ≡ methodOf n (methodsAt outside at count)) × (p + 3 * left ≤ 17179869180)
 
 abbrev μ-loop : tie.MeasureT-loop
 μ-loop outside at count n p₀ left₀ p left = left
@@ -40,7 +41,18 @@ cast-t14 : tie.Need-cast-t14 Inv-loop μ-loop
 cast-t14 c = search needs
 
 returns : tie.Need-returns Inv-loop μ-loop
-returns c = let found = methods-here (c .before .before .before .before .before .before .before .args .outside .now) (c .before .before .before .before .before .before .before .args .n) (c .before .before .before .before .before .loop .p) (c .before .before .before .before .before .loop .left) (c .before .before .before .before .loop-test .taken) (c .before .before .before .word-at .ensures) (c .before .before .if1 .taken) ∙ c .before .before .before .before .before .loop .inv .0 in record { funIs = c .before .word-at2 .ensures ∙ ap (λ (y : Method). y .fun) found; paramsAre = c .word-at3 .ensures ∙ ap (λ (y : Method). y .params) found }
+returns c =
+    let start = c .before .before .before .before .before .before .before in
+    let loop = c .before .before .before .before .before .loop in
+    let loop-test = c .before .before .before .before .loop-test in
+    let found =
+    methods-here (start .args .outside .now) (start .args .n) (loop .p) (loop .left) (loop-test .taken)
+    (c .before .before .before .word-at .ensures) (c .before .before .if1 .taken)
+    ∙ loop .inv .0 in
+    record {
+      funIs = c .before .word-at2 .ensures ∙ ap (λ (y : Method). y .fun) found;
+      paramsAre = c .word-at3 .ensures ∙ ap (λ (y : Method). y .params) found;
+    }
 
 add-p : tie.Need-add-p Inv-loop μ-loop
 add-p c = omega (arith, c .before .before .before .loop .inv .1)
@@ -52,10 +64,24 @@ loop-less : tie.Need-loop-less Inv-loop μ-loop
 loop-less c = omega (arith, c .before .before .loop-test .taken)
 
 loop-again : tie.Need-loop-again Inv-loop μ-loop
-loop-again c = (methods-next (c .before .before .before .before .before .args .outside .now) (c .before .before .before .before .before .args .n) (c .before .before .before .loop .p) (c .before .before .before .loop .left) (c .before .before .loop-test .taken) (c .before .word-at .ensures) (c .if1 .left) ∙ c .before .before .before .loop .inv .0, omega (arith, c .before .before .before .loop .inv .1, c .before .before .loop-test .taken))
+loop-again c =
+    let start = c .before .before .before .before .before in
+    let loop = c .before .before .before .loop in
+    let loop-test = c .before .before .loop-test in (
+      methods-next (start .args .outside .now) (start .args .n) (loop .p) (loop .left) (loop-test .taken)
+          (c .before .word-at .ensures) (c .if1 .left)
+          ∙ loop .inv .0,
+      omega (arith, loop .inv .1, loop-test .taken),
+    )
 
 returns-2 : tie.Need-returns-2 Inv-loop μ-loop
-returns-2 c = let found = methods-none (c .before .before .before .args .outside .now) (c .before .before .before .args .n) (c .before .loop .p) (c .before .loop .left) (c .loop-test .left) ∙ c .before .loop .inv .0 in record { funIs = ap (λ (y : Method). y .fun) found; paramsAre = ap (λ (y : Method). y .params) found }
+returns-2 c =
+    let start = c .before .before .before in
+    let loop = c .before .loop in
+    let found =
+    methods-none (start .args .outside .now) (start .args .n) (loop .p) (loop .left) (c .loop-test .left)
+    ∙ loop .inv .0 in
+    record { funIs = ap (λ (y : Method). y .fun) found; paramsAre = ap (λ (y : Method). y .params) found }
 
 pub recorded-method-spec : {M : Type 1} → statement M
 recorded-method-spec =

@@ -18,7 +18,11 @@ returns : tie.Need-returns
 returns c = rw (eq-eqb _ 10 (c .if1 .taken)) (c .before .find-record .ensures .fieldsAre)
 
 returns-2 : tie.Need-returns-2
-returns-2 c = rw (ne-eqb _ 10 (c .if1 .left)) (method-names (c .before .before .before .args .outside .now) (c .before .find-record .result .method) (c .before .find-record .result .methods) ∙ ap (map (λ (m : Method). m .name)) (c .before .find-record .ensures .methodsAre))
+returns-2 c =
+    let find-record = c .before .find-record in
+    rw (ne-eqb _ 10 (c .if1 .left)) (method-names (c .before .before .before .args .outside .now)
+    (find-record .result .method) (find-record .result .methods)
+    ∙ ap (map (λ (m : Method). m .name)) (find-record .ensures .methodsAre))
 
 pub recorded-names-spec : {M : Type 1} → statement M
 recorded-names-spec = tie.close (tie.spec find-record-requires returns returns-2)

@@ -18,7 +18,15 @@ start-of-requires : tie.Need-start-of-requires
 start-of-requires c κs = search needs
 
 returns : tie.Need-returns
-returns c = rw (c .start-of .ensures, c .before .class-here .ensures, c .before .before .fun-inside .ensures, c .before .before .before .unit-here .ensures, c .before .before .before .before .deeper .ensures)
+returns c =
+    let deeper = c .before .before .before .before .deeper in
+    rw (
+      c .start-of .ensures,
+      c .before .class-here .ensures,
+      c .before .before .fun-inside .ensures,
+      c .before .before .before .unit-here .ensures,
+      deeper .ensures,
+    )
 
 pub child-entry-spec : {M : Type 1} → statement M
 child-entry-spec =

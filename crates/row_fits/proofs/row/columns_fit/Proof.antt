@@ -18,7 +18,15 @@ holds-requires-2 c κs = search needs
 
 returns : tie.Need-returns
 unfolding columnsOk
-returns c = rw (← c .before .before .before .before .rule-a .ensures, ← c .before .rule-b .ensures, ← c .before .before .before .holds .ensures, ← c .holds2 .ensures, c .before .before .if1 .taken)
+returns c =
+    let rule-a = c .before .before .before .before .rule-a in
+    rw (
+      ← rule-a .ensures,
+      ← c .before .rule-b .ensures,
+      ← c .before .before .before .holds .ensures,
+      ← c .holds2 .ensures,
+      c .before .before .if1 .taken,
+    )
 
 returns-2 : tie.Need-returns-2
 unfolding columnsOk

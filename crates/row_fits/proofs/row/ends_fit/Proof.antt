@@ -16,7 +16,9 @@ list-ends-requires c κs = search needs
 
 returns-2 : tie.Need-returns-2
 unfolding endsOk
-returns-2 c = rw (← c .before .before .child-list-ends .ensures, not-false (c .before .before .child-list-ends .result) (c .before .if1 .left), c .list-ends .ensures)
+returns-2 c =
+    let child-list-ends = c .before .before .child-list-ends in
+    rw (← child-list-ends .ensures, not-false (child-list-ends .result) (c .before .if1 .left), c .list-ends .ensures)
 
 pub ends-fit-spec : {M : Type 1} → statement M
 ends-fit-spec = tie.close (tie.spec child-list-ends-requires returns list-ends-requires returns-2)

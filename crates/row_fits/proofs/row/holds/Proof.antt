@@ -58,7 +58,10 @@ returns-3 : tie.Need-returns-3
 returns-3 c = rw (c .before .match .keys3) (c .is-name .ensures)
 
 returns-4 : tie.Need-returns-4
-returns-4 c = rw (c .before .before .match .keys4) (c .zero-or .ensures ∙ ap (λ (x : Bool). eqb (c .before .before .before .before .args .value) 0 || x) (c .before .is-name2 .ensures))
+returns-4 c =
+    let start = c .before .before .before .before in
+    rw (c .before .before .match .keys4)
+    (c .zero-or .ensures ∙ ap (λ (x : Bool). eqb (start .args .value) 0 || x) (c .before .is-name2 .ensures))
 
 returns-5 : tie.Need-returns-5
 returns-5 c = rw (c .match .keys5)
@@ -73,19 +76,33 @@ returns-8 : tie.Need-returns-8
 returns-8 c = rw (c .before .match .keys8) (c .is-row3 .ensures)
 
 returns-9 : tie.Need-returns-9
-returns-9 c = rw (c .before .before .match .keys9) (c .zero-or2 .ensures ∙ ap (λ (x : Bool). eqb (c .before .before .before .before .args .value) 0 || x) (c .before .is-row4 .ensures))
+returns-9 c =
+    let start = c .before .before .before .before in
+    rw (c .before .before .match .keys9)
+    (c .zero-or2 .ensures ∙ ap (λ (x : Bool). eqb (start .args .value) 0 || x) (c .before .is-row4 .ensures))
 
 returns-10 : tie.Need-returns-10
-returns-10 c = rw (c .before .before .match .keys10) (c .zero-or3 .ensures ∙ ap (λ (x : Bool). eqb (c .before .before .before .before .args .value) 0 || x) (c .before .is-row5 .ensures))
+returns-10 c =
+    let start = c .before .before .before .before in
+    rw (c .before .before .match .keys10)
+    (c .zero-or3 .ensures ∙ ap (λ (x : Bool). eqb (start .args .value) 0 || x) (c .before .is-row5 .ensures))
 
 returns-11 : tie.Need-returns-11
 returns-11 c = rw (c .before .match .keys11) (ap (λ (x : ℕ). ltb (c .before .before .before .args .value) x) (c .word .ensures))
 
 returns-12 : tie.Need-returns-12
-returns-12 c = rw (c .before .before .match .keys12) (c .is-mode .ensures ∙ ap (λ (x : ℕ). leb (c .before .before .before .before .args .value) 1 || ltb (c .before .before .before .before .args .value - 2) x) (c .before .word2 .ensures))
+returns-12 c =
+    let start = c .before .before .before .before in
+    rw (c .before .before .match .keys12) (c .is-mode .ensures
+    ∙ ap (λ (x : ℕ). leb (start .args .value) 1 || ltb (start .args .value - 2) x) (c .before .word2 .ensures))
 
 returns-13 : tie.Need-returns-13
-returns-13 c = rw (rule-rest (c .before .before .args .rule) (c .match .rest .0 .0 .0 .0 .0 .0 .0 .0 .0 .0 .0 .1) (c .match .rest .0 .0 .0 .0 .0 .0 .0 .0 .0 .0 .1) (c .match .rest .0 .0 .0 .0 .0 .0 .0 .0 .0 .1) (c .match .rest .0 .0 .0 .0 .0 .0 .0 .0 .1) (c .match .rest .0 .0 .0 .0 .0 .0 .0 .1) (c .match .rest .0 .0 .0 .0 .0 .0 .1) (c .match .rest .0 .0 .0 .0 .0 .1) (c .match .rest .0 .0 .0 .0 .1) (c .match .rest .0 .0 .0 .1) (c .match .rest .0 .0 .1) (c .match .rest .0 .1) (c .match .rest .1))
+returns-13 c =
+    rw (rule-rest (c .before .before .args .rule) (c .match .rest .0 .0 .0 .0 .0 .0 .0 .0 .0 .0 .0 .1)
+    (c .match .rest .0 .0 .0 .0 .0 .0 .0 .0 .0 .0 .1) (c .match .rest .0 .0 .0 .0 .0 .0 .0 .0 .0 .1)
+    (c .match .rest .0 .0 .0 .0 .0 .0 .0 .0 .1) (c .match .rest .0 .0 .0 .0 .0 .0 .0 .1)
+    (c .match .rest .0 .0 .0 .0 .0 .0 .1) (c .match .rest .0 .0 .0 .0 .0 .1) (c .match .rest .0 .0 .0 .0 .1)
+    (c .match .rest .0 .0 .0 .1) (c .match .rest .0 .0 .1) (c .match .rest .0 .1) (c .match .rest .1))
 
 pub holds-spec : {M : Type 1} → statement M
 holds-spec =

@@ -18,7 +18,14 @@ may-end-requires c κs = search needs
 
 returns-3 : tie.Need-returns-3
 unfolding endsIn
-returns-3 c = rw (ne-eqb _ _ (c .before .before .before .before .if1 .left), eq-eqb _ _ (c .before .before .if2 .left), c .may-end .ensures, c .before .state-after .ensures)
+returns-3 c =
+    let if1 = c .before .before .before .before .if1 in
+    rw (
+      ne-eqb _ _ (if1 .left),
+      eq-eqb _ _ (c .before .before .if2 .left),
+      c .may-end .ensures,
+      c .before .state-after .ensures,
+    )
 
 pub list-ends-spec : {M : Type 1} → statement M
 list-ends-spec =

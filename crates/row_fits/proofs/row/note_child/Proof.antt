@@ -15,7 +15,9 @@ same-length c = search needs
 
 returns : tie.Need-returns
 unfolding noteChild
-returns c = rw (ne-eqb _ _ (c .before .before .before .before .before .if1 .taken), c .before .before .put-entry .ensures, c .before .before .before .child-entry .ensures)
+returns c =
+    let if1 = c .before .before .before .before .before .if1 in
+    rw (ne-eqb _ _ (if1 .taken), c .before .before .put-entry .ensures, c .before .before .before .child-entry .ensures)
 
 returns-2 : tie.Need-returns-2
 unfolding noteChild

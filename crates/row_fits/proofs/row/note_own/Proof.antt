@@ -20,7 +20,11 @@ same-length c = search needs
 
 returns : tie.Need-returns
 unfolding noteOwn
-returns c = rw (c .before .before .put2 .ensures, c .before .before .before .before .before .before .put .ensures, c .before .before .before .before .before .before .before .before .before .unit-here .ensures, c .before .before .before .before .before .before .before .before .class-here .ensures)
+returns c =
+    let unit-here = c .before .before .before .before .before .before .before .before .before .unit-here in
+    let class-here = c .before .before .before .before .before .before .before .before .class-here in
+    let put = c .before .before .before .before .before .before .put in
+    rw (c .before .before .put2 .ensures, put .ensures, unit-here .ensures, class-here .ensures)
 
 pub note-own-spec : {M : Type 1} → statement M
 note-own-spec =

@@ -26,7 +26,21 @@ same-length c = search needs
 
 returns : tie.Need-returns
 unfolding noteAll
-returns c = rw (c .before .before .note-declared .ensures, c .before .before .before .before .before .before .note-own .ensures, c .before .before .before .before .before .before .before .before .before .before .note-child .ensures, c .before .before .before .before .before .before .before .before .before .before .before .before .before .before .note-next .ensures, c .before .before .before .before .before .before .before .before .before .before .before .before .before .before .before .before .entry-at .ensures, c .before .before .before .before .before .before .before .before .before .before .before .before .before .before .before .before .before .before .row-at .ensures)
+returns c =
+    let at-note-child = c .before .before .before .before .before .before .before .before .before .before in
+    let row-at = at-note-child .before .before .before .before .before .before .before .before .row-at in
+    let entry-at = at-note-child .before .before .before .before .before .before .entry-at in
+    let note-next = at-note-child .before .before .before .before .note-next in
+    let note-child = at-note-child .note-child in
+    let note-own = c .before .before .before .before .before .before .note-own in
+    rw (
+      c .before .before .note-declared .ensures,
+      note-own .ensures,
+      note-child .ensures,
+      note-next .ensures,
+      entry-at .ensures,
+      row-at .ensures,
+    )
 
 pub note-row-spec : {M : Type 1} → statement M
 note-row-spec =

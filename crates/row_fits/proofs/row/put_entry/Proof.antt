@@ -26,7 +26,14 @@ same-length c = search needs
 
 returns : tie.Need-returns
 unfolding putEntry
-returns c = rw (c .before .before .put6 .ensures, c .before .before .before .before .before .before .put5 .ensures, c .before .before .before .before .before .before .before .before .before .before .put4 .ensures, c .before .before .before .before .before .before .before .before .before .before .before .before .before .before .put3 .ensures, c .before .before .before .before .before .before .before .before .before .before .before .before .before .before .before .before .before .before .put2 .ensures, c .before .before .before .before .before .before .before .before .before .before .before .before .before .before .before .before .before .before .before .before .before .before .put .ensures)
+returns c =
+    let at-put4 = c .before .before .before .before .before .before .before .before .before .before in
+    let put = at-put4 .before .before .before .before .before .before .before .before .before .before .before .before .put in
+    let put2 = at-put4 .before .before .before .before .before .before .before .before .put2 in
+    let put3 = at-put4 .before .before .before .before .put3 in
+    let put4 = at-put4 .put4 in
+    let put5 = c .before .before .before .before .before .before .put5 in
+    rw (c .before .before .put6 .ensures, put5 .ensures, put4 .ensures, put3 .ensures, put2 .ensures, put .ensures)
 
 pub put-entry-spec : {M : Type 1} → statement M
 put-entry-spec =

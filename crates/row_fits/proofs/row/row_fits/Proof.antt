@@ -15,7 +15,13 @@ row-asked-requires : tie.Need-row-asked-requires
 row-asked-requires c κs = search needs
 
 returns : tie.Need-returns
-returns c = rw (c .row-asked .ensures, c .before .before .before .row-at .ensures, c .before .before .word .ensures, c .before .word2 .ensures)
+returns c =
+    rw (
+      c .row-asked .ensures,
+      c .before .before .before .row-at .ensures,
+      c .before .before .word .ensures,
+      c .before .word2 .ensures,
+    )
 
 pub row-fits-spec : {M : Type 1} → statement M
 row-fits-spec =

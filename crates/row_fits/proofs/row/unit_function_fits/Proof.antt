@@ -16,7 +16,13 @@ word-requires-2 : tie.Need-word-requires-2
 word-requires-2 c κs = search needs
 
 returns-3 : tie.Need-returns-3
-returns-3 c = rw (eq-eqb _ _ (c .before .before .before .if1 .left), ← c .before .before .word .ensures, eq-eqb _ _ (c .before .if2 .left), c .word2 .ensures)
+returns-3 c =
+    rw (
+      eq-eqb _ _ (c .before .before .before .if1 .left),
+      ← c .before .before .word .ensures,
+      eq-eqb _ _ (c .before .if2 .left),
+      c .word2 .ensures,
+    )
 
 pub unit-function-fits-spec : {M : Type 1} → statement M
 unit-function-fits-spec =

@@ -79,7 +79,13 @@ returns-23 : tie.Need-returns-23
 returns-23 c = sym (at-key (λ k. entryOf kindTable k 2) 57 1 tt (c .before .args .kind) (c .match .keys23))
 
 returns-24 : tie.Need-returns-24
-returns-24 c = sym (none-of (λ k. entryOf kindTable k 2) 60 (57 ∷ 56 ∷ 55 ∷ 54 ∷ 52 ∷ 51 ∷ 50 ∷ 49 ∷ 46 ∷ 45 ∷ 44 ∷ 43 ∷ 30 ∷ 29 ∷ 11 ∷ 10 ∷ 9 ∷ 8 ∷ 7 ∷ 6 ∷ 4 ∷ 3 ∷ 0 ∷ []) tt (λ k h. no-row kindTable k 2 h) (c .before .args .kind) (c .match .rest))
+returns-24 c =
+    sym (none-of (λ k. entryOf kindTable k 2) 60
+    (57 ∷ 56 ∷ 55 ∷ 54 ∷ 52 ∷ 51 ∷ 50 ∷ 49 ∷ 46 ∷ 45 ∷ 44 ∷ 43 ∷ 30 ∷ 29 ∷ 11 ∷ 10 ∷ 9 ∷ 8 ∷ 7 ∷ 6 ∷ 4 ∷ 3 ∷ 0 ∷ []) tt
+    (λ k h. no-row kindTable k 2 h) (c .before .args .kind) (c .match .rest))
 
 pub rule-a-spec : {M : Type 1} → statement M
-rule-a-spec = tie.close (tie.spec returns returns-2 returns-3 returns-4 returns-5 returns-6 returns-7 returns-8 returns-9 returns-10 returns-11 returns-12 returns-13 returns-14 returns-15 returns-16 returns-17 returns-18 returns-19 returns-20 returns-21 returns-22 returns-23 returns-24)
+rule-a-spec =
+    tie.close (tie.spec returns returns-2 returns-3 returns-4 returns-5 returns-6 returns-7 returns-8 returns-9
+    returns-10 returns-11 returns-12 returns-13 returns-14 returns-15 returns-16 returns-17 returns-18 returns-19
+    returns-20 returns-21 returns-22 returns-23 returns-24)

@@ -52,7 +52,11 @@ returns-14 : tie.Need-returns-14
 returns-14 c = sym (at-key (λ k. entryOf kindTable k 3) 57 1 tt (c .before .args .kind) (c .match .keys14))
 
 returns-15 : tie.Need-returns-15
-returns-15 c = sym (none-of (λ k. entryOf kindTable k 3) 60 (57 ∷ 56 ∷ 49 ∷ 46 ∷ 45 ∷ 44 ∷ 43 ∷ 29 ∷ 8 ∷ 7 ∷ 6 ∷ 4 ∷ 3 ∷ 0 ∷ []) tt (λ k h. no-row kindTable k 3 h) (c .before .args .kind) (c .match .rest))
+returns-15 c =
+    sym (none-of (λ k. entryOf kindTable k 3) 60 (57 ∷ 56 ∷ 49 ∷ 46 ∷ 45 ∷ 44 ∷ 43 ∷ 29 ∷ 8 ∷ 7 ∷ 6 ∷ 4 ∷ 3 ∷ 0 ∷ []) tt
+    (λ k h. no-row kindTable k 3 h) (c .before .args .kind) (c .match .rest))
 
 pub rule-b-spec : {M : Type 1} → statement M
-rule-b-spec = tie.close (tie.spec returns returns-2 returns-3 returns-4 returns-5 returns-6 returns-7 returns-8 returns-9 returns-10 returns-11 returns-12 returns-13 returns-14 returns-15)
+rule-b-spec =
+    tie.close (tie.spec returns returns-2 returns-3 returns-4 returns-5 returns-6 returns-7 returns-8 returns-9
+    returns-10 returns-11 returns-12 returns-13 returns-14 returns-15)

@@ -118,7 +118,15 @@ returns-36 : tie.Need-returns-36
 returns-36 c = sym (at-key (λ k. entryOf stateTable (k / 16) (k % 16 + 1)) 411 1 tt (c .before .args .key) (c .match .keys36))
 
 returns-37 : tie.Need-returns-37
-returns-37 c = sym (none-of (λ k. entryOf stateTable (k / 16) (k % 16 + 1)) 416 (411 ∷ 395 ∷ 379 ∷ 364 ∷ 347 ∷ 324 ∷ 310 ∷ 308 ∷ 307 ∷ 294 ∷ 293 ∷ 292 ∷ 291 ∷ 276 ∷ 275 ∷ 268 ∷ 252 ∷ 228 ∷ 218 ∷ 204 ∷ 187 ∷ 172 ∷ 155 ∷ 140 ∷ 124 ∷ 107 ∷ 105 ∷ 88 ∷ 84 ∷ 71 ∷ 54 ∷ 53 ∷ 52 ∷ 51 ∷ 50 ∷ 33 ∷ []) tt (λ k h. no-row stateTable (k / 16) (k % 16 + 1) (omega arith)) (c .before .args .key) (c .match .rest))
+returns-37 c =
+    sym (none-of (λ k. entryOf stateTable (k / 16) (k % 16 + 1)) 416
+    (411 ∷ 395 ∷ 379 ∷ 364 ∷ 347 ∷ 324 ∷ 310 ∷ 308 ∷ 307 ∷ 294 ∷ 293 ∷ 292 ∷ 291 ∷ 276 ∷ 275 ∷ 268 ∷ 252 ∷ 228 ∷ 218
+    ∷ 204 ∷ 187 ∷ 172 ∷ 155 ∷ 140 ∷ 124 ∷ 107 ∷ 105 ∷ 88 ∷ 84 ∷ 71 ∷ 54 ∷ 53 ∷ 52 ∷ 51 ∷ 50 ∷ 33 ∷ [])
+    tt (λ k h. no-row stateTable (k / 16) (k % 16 + 1) (omega arith)) (c .before .args .key) (c .match .rest))
 
 pub state-by-key-spec : {M : Type 1} → statement M
-state-by-key-spec = tie.close (tie.spec returns returns-2 returns-3 returns-4 returns-5 returns-6 returns-7 returns-8 returns-9 returns-10 returns-11 returns-12 returns-13 returns-14 returns-15 returns-16 returns-17 returns-18 returns-19 returns-20 returns-21 returns-22 returns-23 returns-24 returns-25 returns-26 returns-27 returns-28 returns-29 returns-30 returns-31 returns-32 returns-33 returns-34 returns-35 returns-36 returns-37)
+state-by-key-spec =
+    tie.close (tie.spec returns returns-2 returns-3 returns-4 returns-5 returns-6 returns-7 returns-8 returns-9
+    returns-10 returns-11 returns-12 returns-13 returns-14 returns-15 returns-16 returns-17 returns-18 returns-19
+    returns-20 returns-21 returns-22 returns-23 returns-24 returns-25 returns-26 returns-27 returns-28 returns-29
+    returns-30 returns-31 returns-32 returns-33 returns-34 returns-35 returns-36 returns-37)

@@ -10,13 +10,24 @@ code-of-requires : tie.Need-code-of-requires
 code-of-requires c κs = search needs
 
 returns : tie.Need-returns
-returns c = λ o. c .code-of .ensures ∙ ap fourWords (seen-other (c .before .before .before .before .before .before .args .sheet .now) (c .before .before .before .before .before .before .args .d .tag) (c .before .before .before .before .before .before .args .d .first) (c .before .before .before .before .before .before .args .d .second) (c .before .before .before .before .before .before .args .d .slot) (c .before .before .before .before .before .before .args .fun .0) (storeOf o (c .before .before .before .before .before .before .args .results .now) (c .before .before .before .before .before .before .args .nodes .now)) (c .before .if1 .taken))
+returns c =
+    let start = c .before .before .before .before .before .before in
+    λ o. c .code-of .ensures
+    ∙ ap fourWords (seen-other (start .args .sheet .now) (start .args .d .tag) (start .args .d .first)
+    (start .args .d .second) (start .args .d .slot) (start .args .fun .0)
+    (storeOf o (start .args .results .now) (start .args .nodes .now)) (c .before .if1 .taken))
 
 code-of-requires-2 : tie.Need-code-of-requires-2
 code-of-requires-2 c κs = search needs
 
 returns-2 : tie.Need-returns-2
-returns-2 c = λ o. c .code-of2 .ensures ∙ ap fourWords (seen-own (c .before .before .before .before .before .before .before .before .before .args .sheet .now) (c .before .before .before .before .before .before .before .before .before .args .d .tag) (c .before .before .before .before .before .before .before .before .before .args .d .first) (c .before .before .before .before .before .before .before .before .before .args .d .second) (c .before .before .before .before .before .before .before .before .before .args .d .slot) (c .before .before .before .before .before .before .before .before .before .args .fun .0) (storeOf o (c .before .before .before .before .before .before .before .before .before .args .results .now) (c .before .before .before .before .before .before .before .before .before .args .nodes .now)) (c .before .before .before .before .if1 .left) (c .before .if2 .taken))
+returns-2 c =
+    let start = c .before .before .before .before .before .before .before .before .before in
+    let if1 = c .before .before .before .before .if1 in
+    λ o. c .code-of2 .ensures
+    ∙ ap fourWords (seen-own (start .args .sheet .now) (start .args .d .tag) (start .args .d .first)
+    (start .args .d .second) (start .args .d .slot) (start .args .fun .0)
+    (storeOf o (start .args .results .now) (start .args .nodes .now)) (if1 .left) (c .before .if2 .taken))
 
 word-requires : tie.Need-word-requires
 word-requires c κs = search needs
@@ -28,7 +39,13 @@ is-mutable-requires : tie.Need-is-mutable-requires
 is-mutable-requires c κs = search needs
 
 returns-3 : tie.Need-returns-3
-returns-3 c = λ o. rw (c .is-mutable .ensures, c .before .index-of .ensures, c .before .before .word .ensures) (seen-captured (c .before .before .before .before .before .before .before .before .before .before .before .args .sheet .now) (c .before .before .before .before .before .before .before .before .before .before .before .args .d .tag) (c .before .before .before .before .before .before .before .before .before .before .before .args .d .first) (c .before .before .before .before .before .before .before .before .before .before .before .args .d .second) (c .before .before .before .before .before .before .before .before .before .before .before .args .d .slot) (c .before .before .before .before .before .before .before .before .before .before .before .args .fun .0) (storeOf o (c .before .before .before .before .before .before .before .before .before .before .before .args .results .now) (c .before .before .before .before .before .before .before .before .before .before .before .args .nodes .now)) (c .before .before .before .before .before .before .if1 .left) (c .before .before .before .if2 .left))
+returns-3 c =
+    let start = c .before .before .before .before .before .before .before .before .before .before .before in
+    let if1 = c .before .before .before .before .before .before .if1 in
+    λ o. rw (c .is-mutable .ensures, c .before .index-of .ensures, c .before .before .word .ensures)
+    (seen-captured (start .args .sheet .now) (start .args .d .tag) (start .args .d .first) (start .args .d .second)
+    (start .args .d .slot) (start .args .fun .0) (storeOf o (start .args .results .now) (start .args .nodes .now))
+    (if1 .left) (c .before .before .before .if2 .left))
 
 pub seen-in-spec : {M : Type 1} → statement M
 seen-in-spec =

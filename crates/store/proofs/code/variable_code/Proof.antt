@@ -11,13 +11,21 @@ param-index-requires : tie.Need-param-index-requires
 param-index-requires c κs = search needs
 
 returns : tie.Need-returns
-returns c = rw (c .param-index .ensures) (code-argument (c .before .before .before .before .args .sheet .now) (c .before .before .before .before .args .d .tag) (c .before .before .before .before .args .d .first) (c .before .before .before .before .args .d .second) (c .before .before .before .before .args .d .slot) (c .before .before .before .before .pre .1) (sym (c .before .before .word .ensures) ∙ c .before .if1 .taken))
+returns c =
+    let start = c .before .before .before .before in
+    rw (c .param-index .ensures) (code-argument (start .args .sheet .now) (start .args .d .tag) (start .args .d .first)
+    (start .args .d .second) (start .args .d .slot) (start .pre .1)
+    (sym (c .before .before .word .ensures) ∙ c .before .if1 .taken))
 
 word-requires-2 : tie.Need-word-requires-2
 word-requires-2 c κs = search needs
 
 returns-2 : tie.Need-returns-2
-returns-2 c = rw (c .word2 .ensures) (code-local (c .before .before .before .before .args .sheet .now) (c .before .before .before .before .args .d .tag) (c .before .before .before .before .args .d .first) (c .before .before .before .before .args .d .second) (c .before .before .before .before .args .d .slot) (c .before .before .before .before .pre .1) (λ e. c .before .if1 .left (c .before .before .word .ensures ∙ e)))
+returns-2 c =
+    let start = c .before .before .before .before in
+    rw (c .word2 .ensures) (code-local (start .args .sheet .now) (start .args .d .tag) (start .args .d .first)
+    (start .args .d .second) (start .args .d .slot) (start .pre .1)
+    (λ e. c .before .if1 .left (c .before .before .word .ensures ∙ e)))
 
 pub variable-code-spec : {M : Type 1} → statement M
 variable-code-spec =

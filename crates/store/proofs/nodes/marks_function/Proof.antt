@@ -14,10 +14,17 @@ word-requires : tie.Need-word-requires
 word-requires c κs = search needs
 
 returns : tie.Need-returns
-returns c = let a = c .before .before .before .before .before .before .args in function-mark (a .sheet .now) (a .entries .now) (a .i) _ _ (sym (c .before .before .before .entry-word .ensures) ∙ c .before .before .if1 .taken) (c .before .entry-word2 .ensures) (c .word .ensures)
+returns c =
+    let start = c .before .before .before .before .before .before in
+    function-mark (start .args .sheet .now) (start .args .entries .now) (start .args .i) _ _
+    (sym (c .before .before .before .entry-word .ensures) ∙ c .before .before .if1 .taken)
+    (c .before .entry-word2 .ensures) (c .word .ensures)
 
 returns-2 : tie.Need-returns-2
-returns-2 c = let a = c .before .before .before .before .args in function-none (a .sheet .now) (a .entries .now) (a .i) (λ e. c .if1 .left (c .before .entry-word .ensures ∙ e))
+returns-2 c =
+    let start = c .before .before .before .before in
+    function-none (start .args .sheet .now) (start .args .entries .now) (start .args .i)
+    (λ e. c .if1 .left (c .before .entry-word .ensures ∙ e))
 
 pub marks-function-spec : {M : Type 1} → statement M
 marks-function-spec =

@@ -10,7 +10,10 @@ use Rattle.store.proofs.nodes.reg_captured.Statement.{statement}
 use Rattle.store.proofs.nodes.reg_captured.Tie as tie
 
 abbrev Inv-loop : tie.InvT-loop
-Inv-loop s v n x t₀ q₀ w₀ i₀ t q w i = (addCapture (functionMarks s v i) (nodeOf x) (storeOf w t q) ≡ addCapture (functionMarks s v n) (nodeOf x) (storeOf w₀ t₀ q₀)) × (i ≤ n) × (length t ≡ length t₀) × (length q ≡ length q₀)
+Inv-loop s v n x t₀ q₀ w₀ i₀ t q w i =
+    (addCapture (functionMarks s v i) (nodeOf x) (storeOf w t q)
+    ≡ addCapture (functionMarks s v n) (nodeOf x) (storeOf w₀ t₀ q₀))
+    × (i ≤ n) × (length t ≡ length t₀) × (length q ≡ length q₀)
 
 abbrev μ-loop : tie.MeasureT-loop
 μ-loop s v n x t₀ q₀ w₀ i₀ t q w i = i
@@ -34,7 +37,16 @@ same-length-2 : tie.Need-same-length-2 Inv-loop μ-loop
 same-length-2 c = c .before .before .before .before .before .before .loop .inv .3
 
 returns : tie.Need-returns Inv-loop μ-loop
-returns c = let a = c .before .before .before .before .before .before .before .before .before .before .before .args in capture-last (a .sheet .now) (a .entries .now) (c .before .before .before .before .before .before .loop .i) (nodeOf (a .x)) (storeOf (c .before .before .before .before .before .before .loop .w) (c .before .before .before .before .before .before .loop .results) (c .before .before .before .before .before .before .loop .nodes)) (c .before .before .before .before .before .loop-test .taken) (sym (c .before .before .before .if1 .taken) ∙ c .before .before .before .before .marks-function .ensures) (c .before .before .entry-word .ensures) (c .if2 .taken) ∙ c .before .before .before .before .before .before .loop .inv .0
+returns c =
+    let start = c .before .before .before .before .before .before .before .before .before .before .before in
+    let loop = c .before .before .before .before .before .before .loop in
+    let loop-test = c .before .before .before .before .before .loop-test in
+    let marks-function = c .before .before .before .before .marks-function in
+    capture-last (start .args .sheet .now) (start .args .entries .now) (loop .i) (nodeOf (start .args .x))
+    (storeOf (loop .w) (loop .results) (loop .nodes)) (loop-test .taken)
+    (sym (c .before .before .before .if1 .taken) ∙ marks-function .ensures) (c .before .before .entry-word .ensures)
+    (c .if2 .taken)
+    ∙ loop .inv .0
 
 word-requires : tie.Need-word-requires Inv-loop μ-loop
 word-requires c κs = search needs
@@ -43,28 +55,91 @@ has-key-requires : tie.Need-has-key-requires Inv-loop μ-loop
 has-key-requires c κs = search needs
 
 same-length-3 : tie.Need-same-length-3 Inv-loop μ-loop
-same-length-3 c = c .before .before .before .before .before .before .before .before .before .before .before .loop .inv .2
+same-length-3 c =
+    let loop = c .before .before .before .before .before .before .before .before .before .before .before .loop in
+    loop .inv .2
 
 same-length-4 : tie.Need-same-length-4 Inv-loop μ-loop
-same-length-4 c = c .before .before .before .before .before .before .before .before .before .before .before .loop .inv .3
+same-length-4 c =
+    let loop = c .before .before .before .before .before .before .before .before .before .before .before .loop in
+    loop .inv .3
 
 returns-2 : tie.Need-returns-2 Inv-loop μ-loop
-returns-2 c = let a = c .before .before .before .before .before .before .before .before .before .before .before .before .before .before .before .before .args in capture-found (a .sheet .now) (a .entries .now) (c .before .before .before .before .before .before .before .before .before .before .before .loop .i) (nodeOf (a .x)) (storeOf (c .before .before .before .before .before .before .before .before .before .before .before .loop .w) (c .before .before .before .before .before .before .before .before .before .before .before .loop .results) (c .before .before .before .before .before .before .before .before .before .before .before .loop .nodes)) (c .before .before .before .before .before .before .before .before .before .before .loop-test .taken) (sym (c .before .before .before .before .before .before .before .before .if1 .taken) ∙ c .before .before .before .before .before .before .before .before .before .marks-function .ensures) (c .before .before .before .before .before .before .before .entry-word .ensures) (c .before .before .before .before .before .if2 .left) (c .before .before .before .word .ensures) (sym (c .if3 .taken) ∙ c .before .has-key .ensures) ∙ c .before .before .before .before .before .before .before .before .before .before .before .loop .inv .0
+returns-2 c =
+    let at-loop = c .before .before .before .before .before .before .before .before .before .before .before in
+    let start = at-loop .before .before .before .before .before in
+    let loop = at-loop .loop in
+    let loop-test = c .before .before .before .before .before .before .before .before .before .before .loop-test in
+    let marks-function = c .before .before .before .before .before .before .before .before .before .marks-function in
+    let if1 = c .before .before .before .before .before .before .before .before .if1 in
+    let entry-word = c .before .before .before .before .before .before .before .entry-word in
+    let if2 = c .before .before .before .before .before .if2 in
+    capture-found (start .args .sheet .now) (start .args .entries .now) (loop .i) (nodeOf (start .args .x))
+    (storeOf (loop .w) (loop .results) (loop .nodes)) (loop-test .taken) (sym (if1 .taken) ∙ marks-function .ensures)
+    (entry-word .ensures) (if2 .left) (c .before .before .before .word .ensures)
+    (sym (c .if3 .taken) ∙ c .before .has-key .ensures)
+    ∙ loop .inv .0
 
 append-node-requires : tie.Need-append-node-requires Inv-loop μ-loop
 append-node-requires c κs = search needs
 
 loop-less : tie.Need-loop-less Inv-loop μ-loop
-loop-less c = omega (arith, c .before .before .before .before .before .before .before .before .before .before .before .before .before .before .before .before .before .loop-test .taken)
+loop-less c =
+    let loop-test =
+    c .before .before .before .before .before .before .before .before .before .before .before .before .before
+    .before .before .before .before .loop-test in
+    omega (arith, loop-test .taken)
 
 loop-again : tie.Need-loop-again Inv-loop μ-loop
-loop-again c = let a = c .before .before .before .before .before .before .before .before .before .before .before .before .before .before .before .before .before .before .before .before .before .before .before .args in (capture-in (a .sheet .now) (a .entries .now) (c .before .before .before .before .before .before .before .before .before .before .before .before .before .before .before .before .before .before .loop .i) (nodeOf (a .x)) (storeOf (c .before .before .before .before .before .before .before .before .before .before .before .before .before .before .before .before .before .before .loop .w) (c .before .before .before .before .before .before .before .before .before .before .before .before .before .before .before .before .before .before .loop .results) (c .before .before .before .before .before .before .before .before .before .before .before .before .before .before .before .before .before .before .loop .nodes)) (c .before .before .before .before .before .before .before .before .before .before .before .before .before .before .before .before .before .loop-test .taken) (sym (c .before .before .before .before .before .before .before .before .before .before .before .before .before .before .before .if1 .taken) ∙ c .before .before .before .before .before .before .before .before .before .before .before .before .before .before .before .before .marks-function .ensures) (c .before .before .before .before .before .before .before .before .before .before .before .before .before .before .entry-word .ensures) (c .before .before .before .before .before .before .before .before .before .before .before .before .if2 .left) (c .before .before .before .before .before .before .before .before .before .before .word .ensures) (sym (c .before .before .before .before .before .before .before .if3 .left) ∙ c .before .before .before .before .before .before .before .before .has-key .ensures) (c .before .before .before .before .append-node .ensures) ∙ c .before .before .before .before .before .before .before .before .before .before .before .before .before .before .before .before .before .before .loop .inv .0, omega (arith, c .before .before .before .before .before .before .before .before .before .before .before .before .before .before .before .before .before .before .loop .inv .1), omega (arith, c .before .before .before .before .append-node .kept, c .before .before .before .before .before .before .before .before .before .before .before .before .before .before .before .before .before .before .loop .inv .2), omega (arith, c .before .before .before .before .append-node .kept, c .before .before .before .before .before .before .before .before .before .before .before .before .before .before .before .before .before .before .loop .inv .3))
+loop-again c =
+    let start =
+    c .before .before .before .before .before .before .before .before .before .before .before .before .before
+    .before .before .before .before .before .before .before .before .before .before in
+    let loop =
+    c .before .before .before .before .before .before .before .before .before .before .before .before .before
+    .before .before .before .before .before .loop in
+    let loop-test =
+    c .before .before .before .before .before .before .before .before .before .before .before .before .before
+    .before .before .before .before .loop-test in
+    let marks-function =
+    c .before .before .before .before .before .before .before .before .before .before .before .before .before
+    .before .before .before .marks-function in
+    let if1 =
+    c .before .before .before .before .before .before .before .before .before .before .before .before .before
+    .before .before .if1 in
+    let entry-word =
+    c .before .before .before .before .before .before .before .before .before .before .before .before .before
+    .before .entry-word in
+    let if2 = c .before .before .before .before .before .before .before .before .before .before .before .before .if2 in
+    let word = c .before .before .before .before .before .before .before .before .before .before .word in
+    let has-key = c .before .before .before .before .before .before .before .before .has-key in
+    let if3 = c .before .before .before .before .before .before .before .if3 in
+    let append-node = c .before .before .before .before .append-node in (
+      capture-in (start .args .sheet .now) (start .args .entries .now) (loop .i) (nodeOf (start .args .x))
+          (storeOf (loop .w) (loop .results) (loop .nodes)) (loop-test .taken)
+          (sym (if1 .taken) ∙ marks-function .ensures) (entry-word .ensures) (if2 .left) (word .ensures)
+          (sym (if3 .left) ∙ has-key .ensures) (append-node .ensures)
+          ∙ loop .inv .0,
+      omega (arith, loop .inv .1),
+      omega (arith, append-node .kept, loop .inv .2),
+      omega (arith, append-node .kept, loop .inv .3),
+    )
 
 loop-less-2 : tie.Need-loop-less-2 Inv-loop μ-loop
 loop-less-2 c = omega (arith, c .before .before .loop-test .taken)
 
 loop-again-2 : tie.Need-loop-again-2 Inv-loop μ-loop
-loop-again-2 c = let a = c .before .before .before .before .before .before .before .before .args in (capture-skip (a .sheet .now) (a .entries .now) (c .before .before .before .loop .i) (nodeOf (a .x)) (storeOf (c .before .before .before .loop .w) (c .before .before .before .loop .results) (c .before .before .before .loop .nodes)) (c .before .before .loop-test .taken) (sym (c .if1 .left) ∙ c .before .marks-function .ensures) ∙ c .before .before .before .loop .inv .0, omega (arith, c .before .before .before .loop .inv .1), c .before .before .before .loop .inv .2, c .before .before .before .loop .inv .3)
+loop-again-2 c =
+    let start = c .before .before .before .before .before .before .before .before in
+    let loop = c .before .before .before .loop in (
+      capture-skip (start .args .sheet .now) (start .args .entries .now) (loop .i) (nodeOf (start .args .x))
+          (storeOf (loop .w) (loop .results) (loop .nodes)) (c .before .before .loop-test .taken)
+          (sym (c .if1 .left) ∙ c .before .marks-function .ensures)
+          ∙ loop .inv .0,
+      omega (arith, loop .inv .1),
+      loop .inv .2,
+      loop .inv .3,
+    )
 
 same-length-5 : tie.Need-same-length-5 Inv-loop μ-loop
 same-length-5 c = c .before .loop .inv .2
@@ -73,7 +148,12 @@ same-length-6 : tie.Need-same-length-6 Inv-loop μ-loop
 same-length-6 c = c .before .loop .inv .3
 
 returns-3 : tie.Need-returns-3 Inv-loop μ-loop
-returns-3 c = let a = c .before .before .before .before .before .before .args in capture-end (a .sheet .now) (a .entries .now) (c .before .loop .i) (nodeOf (a .x)) (storeOf (c .before .loop .w) (c .before .loop .results) (c .before .loop .nodes)) (c .loop-test .left) ∙ c .before .loop .inv .0
+returns-3 c =
+    let start = c .before .before .before .before .before .before in
+    let loop = c .before .loop in
+    capture-end (start .args .sheet .now) (start .args .entries .now) (loop .i) (nodeOf (start .args .x))
+    (storeOf (loop .w) (loop .results) (loop .nodes)) (c .loop-test .left)
+    ∙ loop .inv .0
 
 pub reg-captured-spec : {M : Type 1} → statement M
 reg-captured-spec =

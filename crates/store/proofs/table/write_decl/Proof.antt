@@ -17,10 +17,11 @@ same-length : tie.Need-same-length
 same-length c = search needs
 
 returns : tie.Need-returns
-returns c = λ o q.
-    let a = c .before .before .before .before .before .before .args in
-    c .before .before .write-row .ensures o q
-    ∙ ap (λ (ws : List ℕ). writeRowAt (a .row) ws (storeOf o (a .results .now) q)) (c .before .before .before .words .ensures)
+returns c =
+    let start = c .before .before .before .before .before .before in
+    λ o q. c .before .before .write-row .ensures o q
+    ∙ ap (λ (ws : List ℕ). writeRowAt (start .args .row) ws (storeOf o (start .args .results .now) q))
+    (c .before .before .before .words .ensures)
 
 pub write-decl-spec : {M : Type 1} → statement M
 write-decl-spec = tie.close (tie.spec words-requires write-row-requires same-length returns)

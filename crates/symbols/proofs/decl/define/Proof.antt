@@ -17,7 +17,14 @@ same-length : tie.Need-same-length
 same-length c = search needs
 
 returns : tie.Need-returns
-returns c = λ k h. defined (c .before .before .before .before .before .before .before .before .before .args .sheet .now) (c .before .before .before .before .before .before .before .before .before .args .m) (c .before .before .before .before .before .before .before .before .before .args .d) k (scopesOf (c .before .before .before .before .before .before .before .before .before .args .env) (c .before .before .before .before .before .before .before .before .before .args .entries .now)) _ _ _ _ h (c .before .before .push-entry .ensures .0) (c .before .before .push-entry .ensures .1) (c .before .before .before .before .before .slot-after .ensures) (c .before .before .before .before .global-after .ensures)
+returns c =
+    let start = c .before .before .before .before .before .before .before .before .before in
+    let slot-after = c .before .before .before .before .before .slot-after in
+    let global-after = c .before .before .before .before .global-after in
+    let push-entry = c .before .before .push-entry in
+    λ k h. defined (start .args .sheet .now) (start .args .m) (start .args .d) k
+    (scopesOf (start .args .env) (start .args .entries .now)) _ _ _ _ h (push-entry .ensures .0)
+    (push-entry .ensures .1) (slot-after .ensures) (global-after .ensures)
 
 pub define-spec : {M : Type 1} → statement M
 define-spec =

@@ -8,7 +8,10 @@ find-name-requires : tie.Need-find-name-requires
 find-name-requires c κs = search needs
 
 returns : tie.Need-returns
-returns c = found-none (scopesOf (c .before .before .before .args .env) (c .before .before .before .args .entries .now)) (c .before .before .before .args .m) _ (c .before .find-name .ensures) (c .if1 .taken)
+returns c =
+    let start = c .before .before .before in
+    found-none (scopesOf (start .args .env) (start .args .entries .now)) (start .args .m) _
+    (c .before .find-name .ensures) (c .if1 .taken)
 
 sub-i : tie.Need-sub-i
 sub-i c = search needs
@@ -26,7 +29,13 @@ entry-word-requires-4 : tie.Need-entry-word-requires-4
 entry-word-requires-4 c κs = search needs
 
 returns-2 : tie.Need-returns-2
-returns-2 c = found-some (scopesOf (c .before .before .before .before .before .before .before .args .env) (c .before .before .before .before .before .before .before .args .entries .now)) (c .before .before .before .before .before .before .before .args .m) _ (c .before .before .before .before .before .find-name .ensures) _ _ _ _ (c .before .before .before .before .if1 .left) (c .before .before .before .entry-word .ensures) (c .before .before .entry-word2 .ensures) (c .before .entry-word3 .ensures) (c .entry-word4 .ensures)
+returns-2 c =
+    let start = c .before .before .before .before .before .before .before in
+    let find-name = c .before .before .before .before .before .find-name in
+    let if1 = c .before .before .before .before .if1 in
+    found-some (scopesOf (start .args .env) (start .args .entries .now)) (start .args .m) _ (find-name .ensures) _ _ _ _
+    (if1 .left) (c .before .before .before .entry-word .ensures) (c .before .before .entry-word2 .ensures)
+    (c .before .entry-word3 .ensures) (c .entry-word4 .ensures)
 
 pub lookup-spec : {M : Type 1} → statement M
 lookup-spec =

@@ -26,22 +26,47 @@ entry-word-requires-2 : tie.Need-entry-word-requires-2 Inv-loop μ-loop
 entry-word-requires-2 c κs = search needs
 
 returns : tie.Need-returns Inv-loop μ-loop
-returns c = find-here (c .before .before .before .before .before .before .before .args .entries .now) (c .before .before .before .before .before .before .before .args .m) (c .before .before .before .before .before .loop .i) (c .before .before .before .before .loop-test .taken) (omega (arith, c .before .entry-word2 .ensures, c .if2 .taken)) (sym (c .before .before .before .entry-word .ensures) ∙ c .before .before .if1 .taken) ∙ c .before .before .before .before .before .loop .inv .1
+returns c =
+    let start = c .before .before .before .before .before .before .before in
+    let loop = c .before .before .before .before .before .loop in
+    let loop-test = c .before .before .before .before .loop-test in
+    find-here (start .args .entries .now) (start .args .m) (loop .i) (loop-test .taken)
+    (omega (arith, c .before .entry-word2 .ensures, c .if2 .taken))
+    (sym (c .before .before .before .entry-word .ensures) ∙ c .before .before .if1 .taken)
+    ∙ loop .inv .1
 
 loop-less : tie.Need-loop-less Inv-loop μ-loop
 loop-less c = omega arith
 
 loop-again : tie.Need-loop-again Inv-loop μ-loop
-loop-again c = (omega (arith, c .before .before .before .before .before .loop .inv .0), find-mark (c .before .before .before .before .before .before .before .args .entries .now) (c .before .before .before .before .before .before .before .args .m) (c .before .before .before .before .before .loop .i) (c .before .before .before .before .loop-test .taken) (omega (arith, c .before .entry-word2 .ensures, c .if2 .left)) ∙ c .before .before .before .before .before .loop .inv .1)
+loop-again c =
+    let start = c .before .before .before .before .before .before .before in
+    let loop = c .before .before .before .before .before .loop in
+    let loop-test = c .before .before .before .before .loop-test in (
+      omega (arith, loop .inv .0),
+      find-mark (start .args .entries .now) (start .args .m) (loop .i) (loop-test .taken)
+          (omega (arith, c .before .entry-word2 .ensures, c .if2 .left))
+          ∙ loop .inv .1,
+    )
 
 loop-less-2 : tie.Need-loop-less-2 Inv-loop μ-loop
 loop-less-2 c = omega arith
 
 loop-again-2 : tie.Need-loop-again-2 Inv-loop μ-loop
-loop-again-2 c = (omega (arith, c .before .before .before .loop .inv .0), find-other (c .before .before .before .before .before .args .entries .now) (c .before .before .before .before .before .args .m) (c .before .before .before .loop .i) (c .before .before .loop-test .taken) (λ e. c .if1 .left (c .before .entry-word .ensures ∙ e)) ∙ c .before .before .before .loop .inv .1)
+loop-again-2 c =
+    let start = c .before .before .before .before .before in
+    let loop = c .before .before .before .loop in (
+      omega (arith, loop .inv .0),
+      find-other (start .args .entries .now) (start .args .m) (loop .i) (c .before .before .loop-test .taken)
+          (λ e. c .if1 .left (c .before .entry-word .ensures ∙ e))
+          ∙ loop .inv .1,
+    )
 
 returns-2 : tie.Need-returns-2 Inv-loop μ-loop
-returns-2 c = find-none (c .before .before .before .args .entries .now) (c .before .before .before .args .m) (c .before .loop .i) (c .loop-test .left) ∙ c .before .loop .inv .1
+returns-2 c =
+    let start = c .before .before .before in
+    find-none (start .args .entries .now) (start .args .m) (c .before .loop .i) (c .loop-test .left)
+    ∙ c .before .loop .inv .1
 
 pub find-name-spec : {M : Type 1} → statement M
 find-name-spec =

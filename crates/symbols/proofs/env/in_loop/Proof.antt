@@ -24,7 +24,12 @@ entry-word-requires : tie.Need-entry-word-requires Inv-loop μ-loop
 entry-word-requires c κs = search needs
 
 returns : tie.Need-returns Inv-loop μ-loop
-returns c = loop-here (c .before .before .before .before .before .before .args .sheet .now) (c .before .before .before .before .before .before .args .entries .now) (c .before .before .before .loop .i) (c .before .before .loop-test .taken) (sym (c .before .entry-word .ensures) ∙ c .if1 .taken) ∙ c .before .before .before .loop .inv .1
+returns c =
+    let start = c .before .before .before .before .before .before in
+    let loop = c .before .before .before .loop in
+    loop-here (start .args .sheet .now) (start .args .entries .now) (loop .i) (c .before .before .loop-test .taken)
+    (sym (c .before .entry-word .ensures) ∙ c .if1 .taken)
+    ∙ loop .inv .1
 
 entry-word-requires-2 : tie.Need-entry-word-requires-2 Inv-loop μ-loop
 entry-word-requires-2 c κs = search needs
@@ -33,22 +38,56 @@ word-requires : tie.Need-word-requires Inv-loop μ-loop
 word-requires c κs = search needs
 
 returns-2 : tie.Need-returns-2 Inv-loop μ-loop
-returns-2 c = loop-function (c .before .before .before .before .before .before .before .before .before .before .args .sheet .now) (c .before .before .before .before .before .before .before .before .before .before .args .entries .now) (c .before .before .before .before .before .before .before .loop .i) (c .before .before .before .before .before .before .loop-test .taken) (sym (c .before .before .before .before .before .entry-word .ensures) ∙ c .before .before .before .if2 .taken) (sym (c .before .word .ensures ∙ ap (λ (x : ℕ). word (c .before .before .before .before .before .before .before .before .before .before .args .sheet .now) x 0) (c .before .before .entry-word2 .ensures)) ∙ c .if3 .taken) ∙ c .before .before .before .before .before .before .before .loop .inv .1
+returns-2 c =
+    let start = c .before .before .before .before .before .before .before .before .before .before in
+    let loop = c .before .before .before .before .before .before .before .loop in
+    let loop-test = c .before .before .before .before .before .before .loop-test in
+    let entry-word = c .before .before .before .before .before .entry-word in
+    loop-function (start .args .sheet .now) (start .args .entries .now) (loop .i) (loop-test .taken)
+    (sym (entry-word .ensures) ∙ c .before .before .before .if2 .taken)
+    (sym (c .before .word .ensures
+    ∙ ap (λ (x : ℕ). word (start .args .sheet .now) x 0) (c .before .before .entry-word2 .ensures))
+    ∙ c .if3 .taken)
+    ∙ loop .inv .1
 
 loop-less : tie.Need-loop-less Inv-loop μ-loop
 loop-less c = omega arith
 
 loop-again : tie.Need-loop-again Inv-loop μ-loop
-loop-again c = (omega (arith, c .before .before .before .before .before .before .before .loop .inv .0), loop-scope (c .before .before .before .before .before .before .before .before .before .before .args .sheet .now) (c .before .before .before .before .before .before .before .before .before .before .args .entries .now) (c .before .before .before .before .before .before .before .loop .i) (c .before .before .before .before .before .before .loop-test .taken) (sym (c .before .before .before .before .before .entry-word .ensures) ∙ c .before .before .before .if2 .taken) (λ e. c .if3 .left (c .before .word .ensures ∙ ap (λ (x : ℕ). word (c .before .before .before .before .before .before .before .before .before .before .args .sheet .now) x 0) (c .before .before .entry-word2 .ensures) ∙ e)) ∙ c .before .before .before .before .before .before .before .loop .inv .1)
+loop-again c =
+    let start = c .before .before .before .before .before .before .before .before .before .before in
+    let loop = c .before .before .before .before .before .before .before .loop in
+    let loop-test = c .before .before .before .before .before .before .loop-test in
+    let entry-word = c .before .before .before .before .before .entry-word in (
+      omega (arith, loop .inv .0),
+      loop-scope (start .args .sheet .now) (start .args .entries .now) (loop .i) (loop-test .taken)
+          (sym (entry-word .ensures) ∙ c .before .before .before .if2 .taken)
+          (λ e. c .if3 .left (c .before .word .ensures
+          ∙ ap (λ (x : ℕ). word (start .args .sheet .now) x 0) (c .before .before .entry-word2 .ensures)
+          ∙ e))
+          ∙ loop .inv .1,
+    )
 
 loop-less-2 : tie.Need-loop-less-2 Inv-loop μ-loop
 loop-less-2 c = omega arith
 
 loop-again-2 : tie.Need-loop-again-2 Inv-loop μ-loop
-loop-again-2 c = (omega (arith, c .before .before .before .before .loop .inv .0), loop-name (c .before .before .before .before .before .before .before .args .sheet .now) (c .before .before .before .before .before .before .before .args .entries .now) (c .before .before .before .before .loop .i) (c .before .before .before .loop-test .taken) (λ e. c .before .if1 .left (c .before .before .entry-word .ensures ∙ e)) (λ e. c .if2 .left (c .before .before .entry-word .ensures ∙ e)) ∙ c .before .before .before .before .loop .inv .1)
+loop-again-2 c =
+    let start = c .before .before .before .before .before .before .before in
+    let loop = c .before .before .before .before .loop in
+    let entry-word = c .before .before .entry-word in (
+      omega (arith, loop .inv .0),
+      loop-name (start .args .sheet .now) (start .args .entries .now) (loop .i)
+          (c .before .before .before .loop-test .taken) (λ e. c .before .if1 .left (entry-word .ensures ∙ e))
+          (λ e. c .if2 .left (entry-word .ensures ∙ e))
+          ∙ loop .inv .1,
+    )
 
 returns-3 : tie.Need-returns-3 Inv-loop μ-loop
-returns-3 c = loop-none (c .before .before .before .before .args .sheet .now) (c .before .before .before .before .args .entries .now) (c .before .loop .i) (c .loop-test .left) ∙ c .before .loop .inv .1
+returns-3 c =
+    let start = c .before .before .before .before in
+    loop-none (start .args .sheet .now) (start .args .entries .now) (c .before .loop .i) (c .loop-test .left)
+    ∙ c .before .loop .inv .1
 
 pub in-loop-spec : {M : Type 1} → statement M
 in-loop-spec =

@@ -23,16 +23,30 @@ entry-word-requires : tie.Need-entry-word-requires Inv-loop μ-loop
 entry-word-requires c κs = search needs
 
 returns : tie.Need-returns Inv-loop μ-loop
-returns c = last-here (c .before .before .before .before .before .args .entries .now) (c .before .before .before .loop .i) (c .before .before .loop-test .taken) (sym (c .before .entry-word .ensures) ∙ c .if1 .taken) ∙ c .before .before .before .loop .inv .1
+returns c =
+    let start = c .before .before .before .before .before in
+    let loop = c .before .before .before .loop in
+    last-here (start .args .entries .now) (loop .i) (c .before .before .loop-test .taken)
+    (sym (c .before .entry-word .ensures) ∙ c .if1 .taken)
+    ∙ loop .inv .1
 
 loop-less : tie.Need-loop-less Inv-loop μ-loop
 loop-less c = omega arith
 
 loop-again : tie.Need-loop-again Inv-loop μ-loop
-loop-again c = (omega (arith, c .before .before .before .loop .inv .0), last-other (c .before .before .before .before .before .args .entries .now) (c .before .before .before .loop .i) (c .before .before .loop-test .taken) (λ e. c .if1 .left (c .before .entry-word .ensures ∙ e)) ∙ c .before .before .before .loop .inv .1)
+loop-again c =
+    let start = c .before .before .before .before .before in
+    let loop = c .before .before .before .loop in (
+      omega (arith, loop .inv .0),
+      last-other (start .args .entries .now) (loop .i) (c .before .before .loop-test .taken)
+          (λ e. c .if1 .left (c .before .entry-word .ensures ∙ e))
+          ∙ loop .inv .1,
+    )
 
 returns-2 : tie.Need-returns-2 Inv-loop μ-loop
-returns-2 c = last-none (c .before .before .before .args .entries .now) (c .before .loop .i) (c .loop-test .left) ∙ c .before .loop .inv .1
+returns-2 c =
+    last-none (c .before .before .before .args .entries .now) (c .before .loop .i) (c .loop-test .left)
+    ∙ c .before .loop .inv .1
 
 pub last-mark-spec : {M : Type 1} → statement M
 last-mark-spec =

@@ -70,13 +70,30 @@ same-length : tie.Need-same-length
 same-length c = search needs
 
 returns : tie.Need-returns
-returns c = let a = c .before .before .args in (pushed-count (a .entries .now) (a .n) (omega (arith, c .before .if1 .taken, c .if2 .taken)), pushed-words (a .entries .now) (a .n) (a .tag) (a .name) (a .x) (a .y) (a .slot) (omega (arith, c .before .if1 .taken, c .if2 .taken)))
+returns c =
+    let start = c .before .before in (
+      pushed-count (start .args .entries .now) (start .args .n) (omega (arith, c .before .if1 .taken, c .if2 .taken)),
+      pushed-words (start .args .entries .now) (start .args .n) (start .args .tag) (start .args .name) (start .args .x)
+          (start .args .y) (start .args .slot) (omega (arith, c .before .if1 .taken, c .if2 .taken)),
+    )
 
 returns-2 : tie.Need-returns-2
-returns-2 c = let a = c .before .before .args in (full-count (a .entries .now) (a .n) (omega (arith, c .if2 .left)), full-words (a .entries .now) (a .n) (a .tag ∷ a .name ∷ a .x ∷ a .y ∷ a .slot ∷ []) (omega (arith, c .if2 .left)))
+returns-2 c =
+    let start = c .before .before in (
+      full-count (start .args .entries .now) (start .args .n) (omega (arith, c .if2 .left)),
+      full-words (start .args .entries .now) (start .args .n)
+          (start .args .tag ∷ start .args .name ∷ start .args .x ∷ start .args .y ∷ start .args .slot ∷ [])
+          (omega (arith, c .if2 .left)),
+    )
 
 returns-3 : tie.Need-returns-3
-returns-3 c = let a = c .before .args in (full-count (a .entries .now) (a .n) (omega (arith, c .if1 .left)), full-words (a .entries .now) (a .n) (a .tag ∷ a .name ∷ a .x ∷ a .y ∷ a .slot ∷ []) (omega (arith, c .if1 .left)))
+returns-3 c =
+    let start = c .before in (
+      full-count (start .args .entries .now) (start .args .n) (omega (arith, c .if1 .left)),
+      full-words (start .args .entries .now) (start .args .n)
+          (start .args .tag ∷ start .args .name ∷ start .args .x ∷ start .args .y ∷ start .args .slot ∷ [])
+          (omega (arith, c .if1 .left)),
+    )
 
 pub push-entry-spec : {M : Type 1} → statement M
 push-entry-spec =

@@ -10,7 +10,11 @@ same-length : tie.Need-same-length
 same-length c = search needs
 
 returns : tie.Need-returns
-returns c = λ s. let a = c .before .before .before .before .before .before .args in looped s (a .env .count) (a .env .slot) (a .env .fun .0) (a .env .globals) _ (a .entries .now) _ (c .before .before .push-entry .ensures .0) (c .before .before .push-entry .ensures .1)
+returns c =
+    let start = c .before .before .before .before .before .before in
+    let push-entry = c .before .before .push-entry in
+    λ s. looped s (start .args .env .count) (start .args .env .slot) (start .args .env .fun .0)
+    (start .args .env .globals) _ (start .args .entries .now) _ (push-entry .ensures .0) (push-entry .ensures .1)
 
 pub push-loop-spec : {M : Type 1} → statement M
 push-loop-spec = tie.close (tie.spec push-entry-requires same-length returns)

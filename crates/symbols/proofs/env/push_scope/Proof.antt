@@ -13,7 +13,13 @@ same-length : tie.Need-same-length
 same-length c = search needs
 
 returns : tie.Need-returns
-returns c = let a = c .before .before .before .before .before .before .before .args in entered (a .sheet .now) (a .row) (a .env .count) (a .env .slot) (a .env .fun .0) (a .env .globals) _ _ (a .entries .now) _ (c .before .before .push-entry .ensures .0) (c .before .before .push-entry .ensures .1) (c .before .before .before .before .fun-inside .ensures)
+returns c =
+    let start = c .before .before .before .before .before .before .before in
+    let fun-inside = c .before .before .before .before .fun-inside in
+    let push-entry = c .before .before .push-entry in
+    entered (start .args .sheet .now) (start .args .row) (start .args .env .count) (start .args .env .slot)
+    (start .args .env .fun .0) (start .args .env .globals) _ _ (start .args .entries .now) _ (push-entry .ensures .0)
+    (push-entry .ensures .1) (fun-inside .ensures)
 
 pub push-scope-spec : {M : Type 1} → statement M
 push-scope-spec = tie.close (tie.spec fun-inside-requires push-entry-requires same-length returns)

@@ -8,13 +8,21 @@ use Rattle.visits.proofs.assign.assign_member.Statement.{statement}
 use Rattle.visits.proofs.assign.assign_member.Tie as tie
 
 returns : tie.Need-returns
-returns c = λ O v. idle O (c .before .before .before .before .before .before .args .sheet .now) (visit (c .before .before .before .before .before .before .args .row)) (stateOf (c .before .before .before .before .before .before .args .walk) v (c .before .before .before .before .before .before .args .results .now) (c .before .before .before .before .before .before .args .nodes .now)) (c .if1 .taken)
+returns c =
+    let start = c .before .before .before .before .before .before in
+    λ O v. idle O (start .args .sheet .now) (visit (start .args .row))
+    (stateOf (start .args .walk) v (start .args .results .now) (start .args .nodes .now)) (c .if1 .taken)
 
 entry-at-requires : tie.Need-entry-at-requires
 entry-at-requires c κs = search needs
 
 returns-2 : tie.Need-returns-2
-returns-2 c = λ O v. member-free O (c .before .before .before .before .before .before .before .before .before .args .sheet .now) (c .before .before .before .before .before .before .before .before .before .args .row) (stateOf (c .before .before .before .before .before .before .before .before .before .args .walk) v (c .before .before .before .before .before .before .before .before .before .args .results .now) (c .before .before .before .before .before .before .before .before .before .args .nodes .now)) (c .before .before .before .before .before .before .before .before .before .pre .1) (c .before .before .before .if1 .left) (c .before .before .before .before .before .before .before .before .before .pre .2) _ (c .before .entry-at .ensures ∙ c .before .before .before .before .before .before .before .before .before .pre .0 .entry _) (c .if2 .taken)
+returns-2 c =
+    let start = c .before .before .before .before .before .before .before .before .before in
+    λ O v. member-free O (start .args .sheet .now) (start .args .row)
+    (stateOf (start .args .walk) v (start .args .results .now) (start .args .nodes .now)) (start .pre .1)
+    (c .before .before .before .if1 .left) (start .pre .2) _ (c .before .entry-at .ensures ∙ start .pre .0 .entry _)
+    (c .if2 .taken)
 
 word-requires : tie.Need-word-requires
 word-requires c κs = search needs
@@ -26,7 +34,16 @@ has-named-requires : tie.Need-has-named-requires
 has-named-requires c κs = search needs
 
 returns-3 : tie.Need-returns-3
-returns-3 c = λ O v. member-listed O (c .before .before .before .before .before .before .before .before .before .before .before .before .before .args .sheet .now) (c .before .before .before .before .before .before .before .before .before .before .before .before .before .args .row) (stateOf (c .before .before .before .before .before .before .before .before .before .before .before .before .before .args .walk) v (c .before .before .before .before .before .before .before .before .before .before .before .before .before .args .results .now) (c .before .before .before .before .before .before .before .before .before .before .before .before .before .args .nodes .now)) (c .before .before .before .before .before .before .before .before .before .before .before .before .before .pre .1) (c .before .before .before .before .before .before .before .if1 .left) (c .before .before .before .before .before .before .before .before .before .before .before .before .before .pre .2) _ (c .before .before .before .before .before .entry-at .ensures ∙ c .before .before .before .before .before .before .before .before .before .before .before .before .before .pre .0 .entry _) _ (rw (← c .before .before .before .word .ensures) (c .before .before .word2 .ensures)) (sym (c .before .has-named .ensures) ∙ c .if3 .taken)
+returns-3 c =
+    let at-if1 = c .before .before .before .before .before .before .before in
+    let start = at-if1 .before .before .before .before .before .before in
+    let if1 = at-if1 .if1 in
+    let entry-at = c .before .before .before .before .before .entry-at in
+    λ O v. member-listed O (start .args .sheet .now) (start .args .row)
+    (stateOf (start .args .walk) v (start .args .results .now) (start .args .nodes .now)) (start .pre .1) (if1 .left)
+    (start .pre .2) _ (entry-at .ensures ∙ start .pre .0 .entry _) _
+    (rw (← c .before .before .before .word .ensures) (c .before .before .word2 .ensures))
+    (sym (c .before .has-named .ensures) ∙ c .if3 .taken)
 
 reg-field-requires : tie.Need-reg-field-requires
 reg-field-requires c κs = search needs
@@ -38,7 +55,21 @@ same-length-2 : tie.Need-same-length-2
 same-length-2 c = search needs
 
 returns-4 : tie.Need-returns-4
-returns-4 c = λ O v. member-new O (c .before .before .before .before .before .before .before .before .before .before .before .before .before .before .before .before .before .before .before .before .args .sheet .now) (c .before .before .before .before .before .before .before .before .before .before .before .before .before .before .before .before .before .before .before .before .args .row) (stateOf (c .before .before .before .before .before .before .before .before .before .before .before .before .before .before .before .before .before .before .before .before .args .walk) v (c .before .before .before .before .before .before .before .before .before .before .before .before .before .before .before .before .before .before .before .before .args .results .now) (c .before .before .before .before .before .before .before .before .before .before .before .before .before .before .before .before .before .before .before .before .args .nodes .now)) (c .before .before .before .before .before .before .before .before .before .before .before .before .before .before .before .before .before .before .before .before .pre .1) (c .before .before .before .before .before .before .before .before .before .before .before .before .before .before .if1 .left) (c .before .before .before .before .before .before .before .before .before .before .before .before .before .before .before .before .before .before .before .before .pre .2) _ (c .before .before .before .before .before .before .before .before .before .before .before .before .entry-at .ensures ∙ c .before .before .before .before .before .before .before .before .before .before .before .before .before .before .before .before .before .before .before .before .pre .0 .entry _) _ _ (rw (← c .before .before .before .before .before .before .before .before .before .before .word .ensures) (c .before .before .before .before .before .before .before .before .before .word2 .ensures)) (c .before .before .before .before .before .before .before .before .before .before .before .if2 .left) (sym (c .before .before .before .before .before .before .before .before .has-named .ensures) ∙ c .before .before .before .before .before .before .before .if3 .left) (c .before .before .before .before .reg-field .ensures)
+returns-4 c =
+    let at-entry-at = c .before .before .before .before .before .before .before .before .before .before .before .before in
+    let start = at-entry-at .before .before .before .before .before .before .before .before in
+    let if1 = at-entry-at .before .before .if1 in
+    let entry-at = at-entry-at .entry-at in
+    let if2 = c .before .before .before .before .before .before .before .before .before .before .before .if2 in
+    let word = c .before .before .before .before .before .before .before .before .before .before .word in
+    let word2 = c .before .before .before .before .before .before .before .before .before .word2 in
+    let has-named = c .before .before .before .before .before .before .before .before .has-named in
+    let if3 = c .before .before .before .before .before .before .before .if3 in
+    let reg-field = c .before .before .before .before .reg-field in
+    λ O v. member-new O (start .args .sheet .now) (start .args .row)
+    (stateOf (start .args .walk) v (start .args .results .now) (start .args .nodes .now)) (start .pre .1) (if1 .left)
+    (start .pre .2) _ (entry-at .ensures ∙ start .pre .0 .entry _) _ _ (rw (← word .ensures) (word2 .ensures))
+    (if2 .left) (sym (has-named .ensures) ∙ if3 .left) (reg-field .ensures)
 
 pub assign-member-spec : {M : Type 1} → statement M
 assign-member-spec =

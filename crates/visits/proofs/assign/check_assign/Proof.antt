@@ -12,10 +12,18 @@ word-requires-2 : tie.Need-word-requires-2
 word-requires-2 c κs = search needs
 
 assign-name-requires : tie.Need-assign-name-requires
-assign-name-requires c κs = (c .before .before .before .before .before .before .before .before .pre .1, rw (← c .before .before .word .ensures) (sym (c .before .word2 .ensures) ∙ c .match .keys1))
+assign-name-requires c κs =
+    let start = c .before .before .before .before .before .before .before .before in
+    (start .pre .1, rw (← c .before .before .word .ensures) (sym (c .before .word2 .ensures) ∙ c .match .keys1))
 
 assign-member-requires : tie.Need-assign-member-requires
-assign-member-requires c κs = (c .before .before .before .before .before .before .before .before .before .before .pre .0, c .before .before .before .before .before .before .before .before .before .before .pre .1, rw (← c .before .before .before .before .word .ensures) (sym (c .before .before .before .word2 .ensures) ∙ c .before .before .match .keys2))
+assign-member-requires c κs =
+    let start = c .before .before .before .before .before .before .before .before .before .before in
+    let word = c .before .before .before .before .word in (
+      start .pre .0,
+      start .pre .1,
+      rw (← word .ensures) (sym (c .before .before .before .word2 .ensures) ∙ c .before .before .match .keys2),
+    )
 
 returns : tie.Need-returns
 returns c = λ O. c .assign-name .ensures O _ _
@@ -30,7 +38,13 @@ returns-2 : tie.Need-returns-2
 returns-2 c = λ O. c .before .before .before .before .assign-member .ensures O _
 
 returns-3 : tie.Need-returns-3
-returns-3 c = λ O. assign-other O (c .before .before .before .before .before .before .before .before .args .sheet .now) (c .before .before .before .before .before .before .before .before .args .row) (stateOf (c .before .before .before .before .before .before .before .before .args .walk) (c .before .before .before .before .before .before .before .before .args .entries .now) (c .before .before .before .before .before .before .before .before .args .results .now) (c .before .before .before .before .before .before .before .before .args .nodes .now)) (c .before .before .before .before .before .before .before .before .pre .1) (rw (← c .before .before .word .ensures) (λ e. c .match .rest .0 .1 (c .before .word2 .ensures ∙ e))) (rw (← c .before .before .word .ensures) (λ e. c .match .rest .1 (c .before .word2 .ensures ∙ e)))
+returns-3 c =
+    let start = c .before .before .before .before .before .before .before .before in
+    let word = c .before .before .word in
+    λ O. assign-other O (start .args .sheet .now) (start .args .row)
+    (stateOf (start .args .walk) (start .args .entries .now) (start .args .results .now) (start .args .nodes .now))
+    (start .pre .1) (rw (← word .ensures) (λ e. c .match .rest .0 .1 (c .before .word2 .ensures ∙ e)))
+    (rw (← word .ensures) (λ e. c .match .rest .1 (c .before .word2 .ensures ∙ e)))
 
 pub check-assign-spec : {M : Type 1} → statement M
 check-assign-spec =

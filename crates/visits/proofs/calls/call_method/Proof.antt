@@ -9,7 +9,10 @@ use Rattle.visits.proofs.calls.call_method.Statement.{statement}
 use Rattle.visits.proofs.calls.call_method.Tie as tie
 
 returns : tie.Need-returns
-returns c = λ v q e. idle (over (c .before .before .before .before .before .args .outside .now)) (c .before .before .before .before .before .args .sheet .now) (visit (c .before .before .before .before .before .args .row)) (stateOf (c .before .before .before .before .before .args .walk) v (c .before .before .before .before .before .args .results .now) q) (c .if1 .taken)
+returns c =
+    let start = c .before .before .before .before .before in
+    λ v q e. idle (over (start .args .outside .now)) (start .args .sheet .now) (visit (start .args .row))
+    (stateOf (start .args .walk) v (start .args .results .now) q) (c .if1 .taken)
 
 word-requires : tie.Need-word-requires
 word-requires c κs = search needs
@@ -27,7 +30,17 @@ refuse-requires : tie.Need-refuse-requires
 refuse-requires c κs = search needs
 
 returns-2 : tie.Need-returns-2
-returns-2 c = λ v q e. method-no (over (c .before .before .before .before .before .before .before .before .before .before .before .args .outside .now)) (c .before .before .before .before .before .before .before .before .before .before .before .args .sheet .now) (c .before .before .before .before .before .before .before .before .before .before .before .args .row) (stateOf (c .before .before .before .before .before .before .before .before .before .before .before .args .walk) v (c .before .before .before .before .before .before .before .before .before .before .before .args .results .now) q) (c .before .before .before .before .before .before .before .before .before .before .before .pre .0) (c .before .before .before .before .before .before .if1 .left) (c .before .before .before .before .before .before .before .before .before .before .before .args .class .0) (c .before .before .before .before .before .before .before .before .before .before .before .pre .1) e _ _ _ (c .before .before .before .before .before .word .ensures) (c .before .before .before .before .word2 .ensures) (c .before .before .before .own-method .ensures .funIs) _ (c .before .before .before .own-method .ensures .paramsAre) _ (c .before .before .method-question .ensures) (c .before .if2 .taken) (c .refuse .ensures v (c .before .before .before .before .before .before .before .before .before .before .before .args .results .now) q)
+returns-2 c =
+    let start = c .before .before .before .before .before .before .before .before .before .before .before in
+    let if1 = c .before .before .before .before .before .before .if1 in
+    let word = c .before .before .before .before .before .word in
+    let word2 = c .before .before .before .before .word2 in
+    let own-method = c .before .before .before .own-method in
+    λ v q e. method-no (over (start .args .outside .now)) (start .args .sheet .now) (start .args .row)
+    (stateOf (start .args .walk) v (start .args .results .now) q) (start .pre .0) (if1 .left) (start .args .class .0)
+    (start .pre .1) e _ _ _ (word .ensures) (word2 .ensures) (own-method .ensures .funIs) _
+    (own-method .ensures .paramsAre) _ (c .before .before .method-question .ensures) (c .before .if2 .taken)
+    (c .refuse .ensures v (start .args .results .now) q)
 
 word-requires-3 : tie.Need-word-requires-3
 word-requires-3 c κs = search needs
@@ -42,7 +55,23 @@ same-length : tie.Need-same-length
 same-length c = search needs
 
 returns-3 : tie.Need-returns-3
-returns-3 c = λ v q e. method-yes (over (c .before .before .before .before .before .before .before .before .before .before .before .before .before .before .before .before .before .before .before .before .args .outside .now)) (c .before .before .before .before .before .before .before .before .before .before .before .before .before .before .before .before .before .before .before .before .args .sheet .now) (c .before .before .before .before .before .before .before .before .before .before .before .before .before .before .before .before .before .before .before .before .args .row) (stateOf (c .before .before .before .before .before .before .before .before .before .before .before .before .before .before .before .before .before .before .before .before .args .walk) v (c .before .before .before .before .before .before .before .before .before .before .before .before .before .before .before .before .before .before .before .before .args .results .now) q) (c .before .before .before .before .before .before .before .before .before .before .before .before .before .before .before .before .before .before .before .before .pre .0) (c .before .before .before .before .before .before .before .before .before .before .before .before .before .before .before .if1 .left) (c .before .before .before .before .before .before .before .before .before .before .before .before .before .before .before .before .before .before .before .before .args .class .0) (c .before .before .before .before .before .before .before .before .before .before .before .before .before .before .before .before .before .before .before .before .pre .1) e _ _ _ (c .before .before .before .before .before .before .before .before .before .before .before .before .before .before .word .ensures) (c .before .before .before .before .before .before .before .before .before .before .before .before .before .word2 .ensures) (c .before .before .before .before .before .before .before .before .before .before .before .before .own-method .ensures .funIs) _ (c .before .before .before .before .before .before .before .before .before .before .before .before .own-method .ensures .paramsAre) _ _ _ (c .before .before .before .before .before .before .before .before .word3 .ensures) (sym (c .before .before .before .before .before .before .before .before .before .before .before .method-question .ensures) ∙ c .before .before .before .before .before .before .before .before .before .before .if2 .left) (c .before .before .before .before .before .before .before .mark-hidden .ensures _ q) (c .before .before .write-decl .ensures _ q)
+returns-3 c =
+    let at-own-method = c .before .before .before .before .before .before .before .before .before .before .before .before in
+    let start = at-own-method .before .before .before .before .before .before .before .before in
+    let if1 = at-own-method .before .before .before .if1 in
+    let word = at-own-method .before .before .word in
+    let word2 = at-own-method .before .word2 in
+    let own-method = at-own-method .own-method in
+    let method-question =
+    c .before .before .before .before .before .before .before .before .before .before .before .method-question in
+    let if2 = c .before .before .before .before .before .before .before .before .before .before .if2 in
+    let word3 = c .before .before .before .before .before .before .before .before .word3 in
+    let mark-hidden = c .before .before .before .before .before .before .before .mark-hidden in
+    λ v q e. method-yes (over (start .args .outside .now)) (start .args .sheet .now) (start .args .row)
+    (stateOf (start .args .walk) v (start .args .results .now) q) (start .pre .0) (if1 .left) (start .args .class .0)
+    (start .pre .1) e _ _ _ (word .ensures) (word2 .ensures) (own-method .ensures .funIs) _
+    (own-method .ensures .paramsAre) _ _ _ (word3 .ensures) (sym (method-question .ensures) ∙ if2 .left)
+    (mark-hidden .ensures _ q) (c .before .before .write-decl .ensures _ q)
 
 pub call-method-spec : {M : Type 1} → statement M
 call-method-spec =

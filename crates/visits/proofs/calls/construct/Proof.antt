@@ -10,7 +10,10 @@ use Rattle.visits.proofs.calls.construct.Statement.{statement}
 use Rattle.visits.proofs.calls.construct.Tie as tie
 
 returns : tie.Need-returns
-returns c = λ v t e. idle (over (c .before .before .before .before .before .args .outside .now)) (c .before .before .before .before .before .args .sheet .now) (visit (c .before .before .before .before .before .args .row)) (stateOf (c .before .before .before .before .before .args .walk) v t (c .before .before .before .before .before .args .nodes .now)) (c .if1 .taken)
+returns c =
+    let start = c .before .before .before .before .before in
+    λ v t e. idle (over (start .args .outside .now)) (start .args .sheet .now) (visit (start .args .row))
+    (stateOf (start .args .walk) v t (start .args .nodes .now)) (c .if1 .taken)
 
 word-requires : tie.Need-word-requires
 word-requires c κs = search needs
@@ -25,7 +28,16 @@ refuse-requires : tie.Need-refuse-requires
 refuse-requires c κs = search needs
 
 returns-2 : tie.Need-returns-2
-returns-2 c = λ v t e. construct-no (over (c .before .before .before .before .before .before .before .before .before .before .args .outside .now)) (c .before .before .before .before .before .before .before .before .before .before .args .sheet .now) (c .before .before .before .before .before .before .before .before .before .before .args .row) (stateOf (c .before .before .before .before .before .before .before .before .before .before .args .walk) v t (c .before .before .before .before .before .before .before .before .before .before .args .nodes .now)) (c .before .before .before .before .before .before .before .before .before .before .pre .0) (c .before .before .before .before .before .if1 .left) (c .before .before .before .before .before .before .before .before .before .before .args .class .0) (c .before .before .before .before .before .before .before .before .before .before .pre .1) e _ _ (c .before .before .before .before .word .ensures) (c .before .word2 .ensures) (sym (c .before .before .before .has-record .ensures) ∙ not-true (c .before .before .before .has-record .result) (c .before .before .if2 .taken)) (c .refuse .ensures v t (c .before .before .before .before .before .before .before .before .before .before .args .nodes .now))
+returns-2 c =
+    let start = c .before .before .before .before .before .before .before .before .before .before in
+    let if1 = c .before .before .before .before .before .if1 in
+    let word = c .before .before .before .before .word in
+    let has-record = c .before .before .before .has-record in
+    λ v t e. construct-no (over (start .args .outside .now)) (start .args .sheet .now) (start .args .row)
+    (stateOf (start .args .walk) v t (start .args .nodes .now)) (start .pre .0) (if1 .left) (start .args .class .0)
+    (start .pre .1) e _ _ (word .ensures) (c .before .word2 .ensures)
+    (sym (has-record .ensures) ∙ not-true (has-record .result) (c .before .before .if2 .taken))
+    (c .refuse .ensures v t (start .args .nodes .now))
 
 append-call-requires : tie.Need-append-call-requires
 append-call-requires c κs = search needs
@@ -34,7 +46,16 @@ same-length : tie.Need-same-length
 same-length c = search needs
 
 returns-3 : tie.Need-returns-3
-returns-3 c = λ v t e. construct-yes (over (c .before .before .before .before .before .before .before .before .before .before .before .before .before .args .outside .now)) (c .before .before .before .before .before .before .before .before .before .before .before .before .before .args .sheet .now) (c .before .before .before .before .before .before .before .before .before .before .before .before .before .args .row) (stateOf (c .before .before .before .before .before .before .before .before .before .before .before .before .before .args .walk) v t (c .before .before .before .before .before .before .before .before .before .before .before .before .before .args .nodes .now)) (c .before .before .before .before .before .before .before .before .before .before .before .before .before .pre .0) (c .before .before .before .before .before .before .before .before .if1 .left) (c .before .before .before .before .before .before .before .before .before .before .before .before .before .args .class .0) (c .before .before .before .before .before .before .before .before .before .before .before .before .before .pre .1) e _ (sym (c .before .before .before .before .before .before .has-record .ensures) ∙ not-false (c .before .before .before .before .before .before .has-record .result) (c .before .before .before .before .before .if2 .left)) (c .before .before .append-call .ensures t)
+returns-3 c =
+    let at-if1 = c .before .before .before .before .before .before .before .before in
+    let start = at-if1 .before .before .before .before .before in
+    let if1 = at-if1 .if1 in
+    let has-record = c .before .before .before .before .before .before .has-record in
+    let if2 = c .before .before .before .before .before .if2 in
+    λ v t e. construct-yes (over (start .args .outside .now)) (start .args .sheet .now) (start .args .row)
+    (stateOf (start .args .walk) v t (start .args .nodes .now)) (start .pre .0) (if1 .left) (start .args .class .0)
+    (start .pre .1) e _ (sym (has-record .ensures) ∙ not-false (has-record .result) (if2 .left))
+    (c .before .before .append-call .ensures t)
 
 pub construct-spec : {M : Type 1} → statement M
 construct-spec =

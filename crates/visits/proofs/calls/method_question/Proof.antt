@@ -14,16 +14,36 @@ returns : tie.Need-returns
 returns c = rw (← c .before .has-record .ensures, not-true (c .before .has-record .result) (c .if1 .taken))
 
 returns-2 : tie.Need-returns-2
-returns-2 c = rw (← c .before .before .before .before .has-record .ensures, not-false (c .before .before .before .before .has-record .result) (c .before .before .before .if1 .left), c .if2 .taken)
+returns-2 c =
+    let has-record = c .before .before .before .before .has-record in
+    rw (← has-record .ensures, not-false (has-record .result) (c .before .before .before .if1 .left), c .if2 .taken)
 
 arguments-requires : tie.Need-arguments-requires
 arguments-requires c κs = search needs
 
 returns-3 : tie.Need-returns-3
-returns-3 c = rw (← c .before .before .before .before .before .before .before .has-record .ensures, not-false (c .before .before .before .before .before .before .before .has-record .result) (c .before .before .before .before .before .before .if1 .left), ne-eqb _ _ (c .before .before .before .if2 .left), ← c .before .before .arguments .ensures, ne-eqb _ _ (c .if3 .taken))
+returns-3 c =
+    let has-record = c .before .before .before .before .before .before .before .has-record in
+    let if1 = c .before .before .before .before .before .before .if1 in
+    rw (
+      ← has-record .ensures,
+      not-false (has-record .result) (if1 .left),
+      ne-eqb _ _ (c .before .before .before .if2 .left),
+      ← c .before .before .arguments .ensures,
+      ne-eqb _ _ (c .if3 .taken),
+    )
 
 returns-4 : tie.Need-returns-4
-returns-4 c = rw (← c .before .before .before .before .before .before .before .has-record .ensures, not-false (c .before .before .before .before .before .before .before .has-record .result) (c .before .before .before .before .before .before .if1 .left), ne-eqb _ _ (c .before .before .before .if2 .left), ← c .before .before .arguments .ensures, eq-eqb _ _ (c .if3 .left))
+returns-4 c =
+    let has-record = c .before .before .before .before .before .before .before .has-record in
+    let if1 = c .before .before .before .before .before .before .if1 in
+    rw (
+      ← has-record .ensures,
+      not-false (has-record .result) (if1 .left),
+      ne-eqb _ _ (c .before .before .before .if2 .left),
+      ← c .before .before .arguments .ensures,
+      eq-eqb _ _ (c .if3 .left),
+    )
 
 pub method-question-spec : {M : Type 1} → statement M
 method-question-spec =

@@ -10,7 +10,10 @@ use Rattle.walk.proofs.declare.declare.Statement.{statement}
 use Rattle.walk.proofs.declare.declare.Tie as tie
 
 returns : tie.Need-returns
-returns c = λ O q. idle O (c .before .before .before .before .before .args .sheet .now) (declare (c .before .before .before .before .before .args .row)) (stateOf (c .before .before .before .before .before .args .walk) (c .before .before .before .before .before .args .entries .now) (c .before .before .before .before .before .args .results .now) q) (c .if1 .taken)
+returns c =
+    let start = c .before .before .before .before .before in
+    λ O q. idle O (start .args .sheet .now) (declare (start .args .row))
+    (stateOf (start .args .walk) (start .args .entries .now) (start .args .results .now) q) (c .if1 .taken)
 
 word-requires : tie.Need-word-requires
 word-requires c κs = search needs
@@ -28,16 +31,28 @@ same-length : tie.Need-same-length
 same-length c = search needs
 
 returns-2 : tie.Need-returns-2
-returns-2 c = λ O q. declare-no O (c .before .before .before .before .before .before .before .before .before .before .before .before .before .args .sheet .now) (c .before .before .before .before .before .before .before .before .before .before .before .before .before .args .row) (stateOf (c .before .before .before .before .before .before .before .before .before .before .before .before .before .args .walk) (c .before .before .before .before .before .before .before .before .before .before .before .before .before .args .entries .now) (c .before .before .before .before .before .before .before .before .before .before .before .before .before .args .results .now) q) (c .before .before .before .before .before .before .before .before .if1 .left) _ (c .before .before .before .before .before .word .ensures) _ (c .before .declare-question .ensures) (sym (c .before .before .before .has-local .ensures) ∙ c .before .before .if2 .taken) (c .refuse .ensures (c .before .before .before .before .before .before .before .before .before .before .before .before .before .args .entries .now) (c .before .before .before .before .before .before .before .before .before .before .before .before .before .args .results .now) q)
+returns-2 c =
+    let at-if1 = c .before .before .before .before .before .before .before .before in
+    let start = at-if1 .before .before .before .before .before in
+    let if1 = at-if1 .if1 in
+    let word = c .before .before .before .before .before .word in
+    λ O q. declare-no O (start .args .sheet .now) (start .args .row)
+    (stateOf (start .args .walk) (start .args .entries .now) (start .args .results .now) q) (if1 .left) _
+    (word .ensures) _ (c .before .declare-question .ensures)
+    (sym (c .before .before .before .has-local .ensures) ∙ c .before .before .if2 .taken)
+    (c .refuse .ensures (start .args .entries .now) (start .args .results .now) q)
 
 declared-by-requires : tie.Need-declared-by-requires
 declared-by-requires c κs = search needs
 
 store-let-requires : tie.Need-store-let-requires
 store-let-requires c κs =
-    let a = c .before .before .before .before .before .before .before .before .before .before .before .before .before .args in (
-      c .before .before .before .before .before .before .before .before .before .before .before .before .before .pre,
-      new-declared (a .sheet .now) (a .row) (scopesOf (a .walk .env) (a .entries .now)) _ (c .before .declared-by .ensures (a .entries .now)),
+    let midway = c .before .before .before .before .before .before .before .before .before .before .before .before in
+    let start = midway .before in (
+      start .pre,
+      new-declared (start .args .sheet .now) (start .args .row)
+          (scopesOf (start .args .walk .env) (start .args .entries .now)) _
+          (c .before .declared-by .ensures (start .args .entries .now)),
     )
 
 define-requires : tie.Need-define-requires
@@ -50,7 +65,23 @@ same-length-3 : tie.Need-same-length-3
 same-length-3 c = search needs
 
 returns-3 : tie.Need-returns-3
-returns-3 c = λ O q. declare-yes O (c .before .before .before .before .before .before .before .before .before .before .before .before .before .before .before .before .before .before .before .before .args .sheet .now) (c .before .before .before .before .before .before .before .before .before .before .before .before .before .before .before .before .before .before .before .before .args .row) (stateOf (c .before .before .before .before .before .before .before .before .before .before .before .before .before .before .before .before .before .before .before .before .args .walk) (c .before .before .before .before .before .before .before .before .before .before .before .before .before .before .before .before .before .before .before .before .args .entries .now) (c .before .before .before .before .before .before .before .before .before .before .before .before .before .before .before .before .before .before .before .before .args .results .now) q) (c .before .before .before .before .before .before .before .before .before .before .before .before .before .before .before .if1 .left) _ (c .before .before .before .before .before .before .before .before .before .before .before .before .word .ensures) (sym (c .before .before .before .before .before .before .before .before .before .before .has-local .ensures) ∙ c .before .before .before .before .before .before .before .before .before .if2 .left) (c .before .before .define .ensures (newMeaning (c .before .before .before .before .before .before .before .before .before .before .before .before .before .before .before .before .before .before .before .before .args .sheet .now) (c .before .before .before .before .before .before .before .before .before .before .before .before .before .before .before .before .before .before .before .before .args .row) (scopesOf (c .before .before .before .before .before .before .before .before .before .before .before .before .before .before .before .before .before .before .before .before .args .walk .env) (c .before .before .before .before .before .before .before .before .before .before .before .before .before .before .before .before .before .before .before .before .args .entries .now))) (c .before .before .before .before .before .before .before .before .declared-by .ensures (c .before .before .before .before .before .before .before .before .before .before .before .before .before .before .before .before .before .before .before .before .args .entries .now))) (c .before .before .before .before .before .before .store-let .ensures O (c .before .before .before .before .before .before .before .before .before .before .before .before .before .before .before .before .before .before .before .before .args .walk .store) (c .before .before .before .before .before .before .before .before .before .before .before .before .before .before .before .before .before .before .before .before .args .entries .now) q (c .before .before .before .before .before .before .before .before .declared-by .ensures (c .before .before .before .before .before .before .before .before .before .before .before .before .before .before .before .before .before .before .before .before .args .entries .now)))
+returns-3 c =
+    let at-word = c .before .before .before .before .before .before .before .before .before .before .before .before in
+    let start = at-word .before .before .before .before .before .before .before .before in
+    let if1 = at-word .before .before .before .if1 in
+    let word = at-word .word in
+    let has-local = c .before .before .before .before .before .before .before .before .before .before .has-local in
+    let if2 = c .before .before .before .before .before .before .before .before .before .if2 in
+    let declared-by = c .before .before .before .before .before .before .before .before .declared-by in
+    let store-let = c .before .before .before .before .before .before .store-let in
+    λ O q. declare-yes O (start .args .sheet .now) (start .args .row)
+    (stateOf (start .args .walk) (start .args .entries .now) (start .args .results .now) q) (if1 .left) _
+    (word .ensures) (sym (has-local .ensures) ∙ if2 .left) (c .before .before .define .ensures
+    (newMeaning (start .args .sheet .now) (start .args .row)
+    (scopesOf (start .args .walk .env) (start .args .entries .now)))
+    (declared-by .ensures (start .args .entries .now)))
+    (store-let .ensures O (start .args .walk .store) (start .args .entries .now) q
+    (declared-by .ensures (start .args .entries .now)))
 
 pub declare-spec : {M : Type 1} → statement M
 declare-spec =

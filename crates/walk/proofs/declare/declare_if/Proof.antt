@@ -11,7 +11,12 @@ word-requires : tie.Need-word-requires
 word-requires c κs = search needs
 
 returns : tie.Need-returns
-returns c = λ O q. declare-not O (c .before .before .before .before .before .args .sheet .now) (c .before .before .before .before .before .args .k) (stateOf (c .before .before .before .before .before .args .walk) (c .before .before .before .before .before .args .entries .now) (c .before .before .before .before .before .args .results .now) q) (is (c .before .before .before .before .before .args .sheet .now) (c .before .before .before .before .before .args .kind) (c .before .before .before .before .before .args .k)) (rw (← c .before .word .ensures) (ne-eqb _ (c .before .before .before .before .before .args .kind) (c .if1 .taken)))
+returns c =
+    let start = c .before .before .before .before .before in
+    λ O q. declare-not O (start .args .sheet .now) (start .args .k)
+    (stateOf (start .args .walk) (start .args .entries .now) (start .args .results .now) q)
+    (is (start .args .sheet .now) (start .args .kind) (start .args .k))
+    (rw (← c .before .word .ensures) (ne-eqb _ (start .args .kind) (c .if1 .taken)))
 
 declare-requires : tie.Need-declare-requires
 declare-requires c κs = search needs
@@ -23,7 +28,16 @@ same-length-2 : tie.Need-same-length-2
 same-length-2 c = search needs
 
 returns-2 : tie.Need-returns-2
-returns-2 c = λ O q. declare-when O (c .before .before .before .before .before .before .before .before .before .before .before .before .args .sheet .now) (c .before .before .before .before .before .before .before .before .before .before .before .before .args .k) (stateOf (c .before .before .before .before .before .before .before .before .before .before .before .before .args .walk) (c .before .before .before .before .before .before .before .before .before .before .before .before .args .entries .now) (c .before .before .before .before .before .before .before .before .before .before .before .before .args .results .now) q) (is (c .before .before .before .before .before .before .before .before .before .before .before .before .args .sheet .now) (c .before .before .before .before .before .before .before .before .before .before .before .before .args .kind) (c .before .before .before .before .before .before .before .before .before .before .before .before .args .k)) (eq-eqb (kind (c .before .before .before .before .before .before .before .before .before .before .before .before .args .sheet .now) (c .before .before .before .before .before .before .before .before .before .before .before .before .args .k)) (c .before .before .before .before .before .before .before .before .before .before .before .before .args .kind) (sym (c .before .before .before .before .before .before .before .before .word .ensures) ∙ c .before .before .before .before .before .before .before .if1 .left)) (c .before .before .before .before .declare .ensures O q)
+returns-2 c =
+    let start = c .before .before .before .before .before .before .before .before .before .before .before .before in
+    let word = c .before .before .before .before .before .before .before .before .word in
+    let if1 = c .before .before .before .before .before .before .before .if1 in
+    let at-declare = c .before .before .before .before .declare in
+    λ O q. declare-when O (start .args .sheet .now) (start .args .k)
+    (stateOf (start .args .walk) (start .args .entries .now) (start .args .results .now) q)
+    (is (start .args .sheet .now) (start .args .kind) (start .args .k))
+    (eq-eqb (kind (start .args .sheet .now) (start .args .k)) (start .args .kind) (sym (word .ensures) ∙ if1 .left))
+    (at-declare .ensures O q)
 
 pub declare-if-spec : {M : Type 1} → statement M
 declare-if-spec =

@@ -11,7 +11,12 @@ is-literal-let-requires : tie.Need-is-literal-let-requires
 is-literal-let-requires c κs = search needs
 
 returns : tie.Need-returns
-returns c = λ O q. declare-not O (c .before .before .before .before .before .args .sheet .now) (c .before .before .before .before .before .args .k) (stateOf (c .before .before .before .before .before .args .walk) (c .before .before .before .before .before .args .entries .now) (c .before .before .before .before .before .args .results .now) q) (literalLet (c .before .before .before .before .before .args .sheet .now) (c .before .before .before .before .before .args .k)) (sym (c .before .is-literal-let .ensures) ∙ not-true (c .before .is-literal-let .result) (c .if1 .taken))
+returns c =
+    let start = c .before .before .before .before .before in
+    λ O q. declare-not O (start .args .sheet .now) (start .args .k)
+    (stateOf (start .args .walk) (start .args .entries .now) (start .args .results .now) q)
+    (literalLet (start .args .sheet .now) (start .args .k))
+    (sym (c .before .is-literal-let .ensures) ∙ not-true (c .before .is-literal-let .result) (c .if1 .taken))
 
 declare-requires : tie.Need-declare-requires
 declare-requires c κs = search needs
@@ -23,7 +28,15 @@ same-length-2 : tie.Need-same-length-2
 same-length-2 c = search needs
 
 returns-2 : tie.Need-returns-2
-returns-2 c = λ O q. declare-when O (c .before .before .before .before .before .before .before .before .before .before .before .before .args .sheet .now) (c .before .before .before .before .before .before .before .before .before .before .before .before .args .k) (stateOf (c .before .before .before .before .before .before .before .before .before .before .before .before .args .walk) (c .before .before .before .before .before .before .before .before .before .before .before .before .args .entries .now) (c .before .before .before .before .before .before .before .before .before .before .before .before .args .results .now) q) (literalLet (c .before .before .before .before .before .before .before .before .before .before .before .before .args .sheet .now) (c .before .before .before .before .before .before .before .before .before .before .before .before .args .k)) (sym (c .before .before .before .before .before .before .before .before .is-literal-let .ensures) ∙ not-false (c .before .before .before .before .before .before .before .before .is-literal-let .result) (c .before .before .before .before .before .before .before .if1 .left)) (c .before .before .before .before .declare .ensures O q)
+returns-2 c =
+    let start = c .before .before .before .before .before .before .before .before .before .before .before .before in
+    let is-literal-let = c .before .before .before .before .before .before .before .before .is-literal-let in
+    let if1 = c .before .before .before .before .before .before .before .if1 in
+    let at-declare = c .before .before .before .before .declare in
+    λ O q. declare-when O (start .args .sheet .now) (start .args .k)
+    (stateOf (start .args .walk) (start .args .entries .now) (start .args .results .now) q)
+    (literalLet (start .args .sheet .now) (start .args .k))
+    (sym (is-literal-let .ensures) ∙ not-false (is-literal-let .result) (if1 .left)) (at-declare .ensures O q)
 
 pub declare-literal-spec : {M : Type 1} → statement M
 declare-literal-spec =

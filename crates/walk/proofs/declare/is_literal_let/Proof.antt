@@ -16,7 +16,13 @@ word-requires-3 : tie.Need-word-requires-3
 word-requires-3 c κs = search needs
 
 returns-2 : tie.Need-returns-2
-returns-2 c = rw (← c .before .before .before .word .ensures, c .before .before .if1 .left, ← c .before .word2 .ensures, ← c .word3 .ensures)
+returns-2 c =
+    rw (
+      ← c .before .before .before .word .ensures,
+      c .before .before .if1 .left,
+      ← c .before .word2 .ensures,
+      ← c .word3 .ensures,
+    )
 
 pub is-literal-let-spec : {M : Type 1} → statement M
 is-literal-let-spec =

@@ -6,13 +6,18 @@ use Rattle.walk.proofs.scopes.close_scope.Statement.{statement}
 use Rattle.walk.proofs.scopes.close_scope.Tie as tie
 
 returns : tie.Need-returns
-returns c = λ O s t q. idle O s leave (stateOf (c .before .before .before .args .walk) (c .before .before .before .args .entries .now) t q) (c .if1 .taken)
+returns c =
+    let start = c .before .before .before in
+    λ O s t q. idle O s leave (stateOf (start .args .walk) (start .args .entries .now) t q) (c .if1 .taken)
 
 pop-scope-requires : tie.Need-pop-scope-requires
 pop-scope-requires c κs = search needs
 
 returns-2 : tie.Need-returns-2
-returns-2 c = λ O s t q. left O s (stateOf (c .before .before .before .before .before .args .walk) (c .before .before .before .before .before .args .entries .now) t q) (c .before .before .if1 .left) (c .pop-scope .ensures s)
+returns-2 c =
+    let start = c .before .before .before .before .before in
+    λ O s t q. left O s (stateOf (start .args .walk) (start .args .entries .now) t q) (c .before .before .if1 .left)
+    (c .pop-scope .ensures s)
 
 pub close-scope-spec : {M : Type 1} → statement M
 close-scope-spec = tie.close (tie.spec returns pop-scope-requires returns-2)

@@ -6,7 +6,10 @@ use Rattle.walk.proofs.scopes.open_scope.Statement.{statement}
 use Rattle.walk.proofs.scopes.open_scope.Tie as tie
 
 returns : tie.Need-returns
-returns c = λ O t q. idle O (c .before .before .before .before .args .sheet .now) (enter (c .before .before .before .before .args .row)) (stateOf (c .before .before .before .before .args .walk) (c .before .before .before .before .args .entries .now) t q) (c .if1 .taken)
+returns c =
+    let start = c .before .before .before .before in
+    λ O t q. idle O (start .args .sheet .now) (enter (start .args .row))
+    (stateOf (start .args .walk) (start .args .entries .now) t q) (c .if1 .taken)
 
 push-scope-requires : tie.Need-push-scope-requires
 push-scope-requires c κs = search needs
@@ -15,7 +18,11 @@ same-length : tie.Need-same-length
 same-length c = search needs
 
 returns-2 : tie.Need-returns-2
-returns-2 c = λ O t q. entered O (c .before .before .before .before .before .before .before .before .before .args .sheet .now) (stateOf (c .before .before .before .before .before .before .before .before .before .args .walk) (c .before .before .before .before .before .before .before .before .before .args .entries .now) t q) (c .before .before .before .before .before .if1 .left) (c .before .before .before .before .before .before .before .before .before .args .row) (c .before .before .push-scope .ensures)
+returns-2 c =
+    let start = c .before .before .before .before .before .before .before .before .before in
+    let if1 = c .before .before .before .before .before .if1 in
+    λ O t q. entered O (start .args .sheet .now) (stateOf (start .args .walk) (start .args .entries .now) t q)
+    (if1 .left) (start .args .row) (c .before .before .push-scope .ensures)
 
 pub open-scope-spec : {M : Type 1} → statement M
 open-scope-spec = tie.close (tie.spec returns push-scope-requires same-length returns-2)
