@@ -42,6 +42,7 @@ use symbols::env::in_loop;
 use symbols::tag;
 use walk::state::Walk;
 use walk::state::refuse;
+use walk::state::with_store;
 use words::word;
 
 // Question 5: does a break or continue stand in a loop?
@@ -132,13 +133,7 @@ pub fn resolve_ident(
     let store = capture(sheet, entries, e, d, o, results, nodes);
     let x = seen_in(sheet, d, fun, results, nodes);
     write_decl(results, row, x);
-    Walk {
-        env: e,
-        store: store,
-        number: walk.number,
-        at: walk.at,
-        name: walk.name,
-    }
+    with_store(walk, store)
 }
 
 // Question 10: does instanceof name a class?
