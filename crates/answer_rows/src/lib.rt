@@ -28,7 +28,7 @@ use store::nodes::Store;
 use store::result;
 use words::word;
 
-// The row of a let, identifier, host constant, instanceof or member, as the table has it.
+// The row of a let, identifier, host constant, instanceof or member, as the results have it.
 fn emit_row(results: &[u32], row: u32, k: usize, out: &mut [u32]) -> usize
     ensures { λ n. ⌜ sink n (now (out .exit)) ≡ emitted (answerRow row (rowWords (now (results .entry)) row)) (sink k (now (out .entry))) ⌝ }
 {
@@ -67,7 +67,7 @@ fn emit_member(results: &[u32], row: u32, k: usize, out: &mut [u32]) -> usize
     emit_row(results, row, k, out)
 }
 
-// The answer rows of a sheet row, by its kind. The table of places tells where the classes of earlier rows stand.
+// The answer rows of a sheet row, by its kind. `starts` tells where the rows of earlier classes stand.
 fn emit_of(
     sheet: &[u32],
     outside: &[u32],
