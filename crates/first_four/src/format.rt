@@ -1,7 +1,7 @@
 // Questions 3 and 4 of the words of a sheet past question 1.
 ghost use mathlib.Core.Path.{_≡_};
 ghost use mathlib.Core.Bool.{true, _&&_};
-ghost use Prim.Native.Nat.{ℕ, _*_, _<_, _≤_};
+ghost use Prim.Native.Nat.{_*_, _<_, _≤_};
 ghost use lib.ListN.{length, replicate};
 ghost use Rattle.definition.specs.Sheet.{rows};
 ghost use Rattle.definition.specs.Format.{headerFirst, mainMarked};

@@ -2,7 +2,7 @@
 ghost use mathlib.Core.Path.{_≡_};
 ghost use mathlib.Core.List.{List};
 ghost use Prim.Native.Nat.{ℕ};
-ghost use Rattle.definition.specs.Sheet.{kind, a, child};
+ghost use Rattle.definition.specs.Sheet.{kind, a};
 ghost use Rattle.definition.specs.Walk.{visit};
 ghost use Rattle.machine.specs.Machine.{constructedClass, receiverClass, stepState};
 ghost use Rattle.symbols.specs.OpenScopes.{scopesOf};

@@ -1,8 +1,5 @@
 use mathlib.Core.Path.{sym}
 use mathlib.Core.List.{[], _∷_}
-use Prim.Native.Nat.{ℕ, _+_, _/_, _%_}
-use native.Mathlib.Omega.{arith}
-use lib.Dec.{eqb}
 use Rattle.row_fits.specs.States.{entryOf, kindTable}
 use Rattle.row_fits.proofs.Laws.{no-row}
 use Rattle.row_fits.proofs.Matching.{at-key, none-of}
