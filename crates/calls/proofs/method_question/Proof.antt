@@ -1,9 +1,9 @@
 use borrow.Author.Tests.{ne-eqb, eq-eqb, not-true, not-false}
 use borrow.Author.Needs.{needs}
-use Rattle.visits.proofs.calls.method_question.Statement.{statement}
-use Rattle.visits.proofs.calls.method_question.Tie as tie
-use Rattle.visits.proofs.calls.method_question.Reads as reads
-use Rattle.visits.proofs.calls.method_question.Lts as lts
+use Rattle.calls.proofs.method_question.Statement.{statement}
+use Rattle.calls.proofs.method_question.Tie as tie
+use Rattle.calls.proofs.method_question.Reads as reads
+use Rattle.calls.proofs.method_question.Lts as lts
 use Rattle.outside.proofs.records.has_record.Reads as has-record-reads
 use Rattle.sheet.proofs.arguments.Reads as arguments-reads
 

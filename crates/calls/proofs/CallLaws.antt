@@ -18,7 +18,7 @@ use Rattle.machine.specs.Machine.{constructedClass, receiverClass, stepStore, c
 use Rattle.machine.specs.Machine.{storeField, storeCapture, storeLocal, storeHidden, storeRow}
 use Rattle.machine.proofs.ByKind.{store-construct, store-method}
 use Rattle.walk.specs.WalkState.{refusedBy}
-use Rattle.visits.specs.Callee.{methodQuestion}
+use Rattle.calls.specs.Callee.{methodQuestion}
 use Rattle.walk.proofs.StepLaws.{idle}
 use Rattle.walk.proofs.VisitLaws.{visited, unvisited, same-row}
 

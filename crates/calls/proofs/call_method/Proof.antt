@@ -2,11 +2,11 @@ use mathlib.Core.Path.{sym, _∙_}
 use Rattle.definition.specs.Walk.{visit}
 use Rattle.outside.specs.Words.{over}
 use Rattle.walk.specs.WalkState.{stateOf}
-use Rattle.visits.proofs.CallLaws.{method-no, method-yes}
+use Rattle.calls.proofs.CallLaws.{method-no, method-yes}
 use Rattle.walk.proofs.StepLaws.{idle}
 use borrow.Author.Needs.{needs}
-use Rattle.visits.proofs.calls.call_method.Statement.{statement}
-use Rattle.visits.proofs.calls.call_method.Tie as tie
+use Rattle.calls.proofs.call_method.Statement.{statement}
+use Rattle.calls.proofs.call_method.Tie as tie
 
 returns : tie.Need-returns
 returns c =

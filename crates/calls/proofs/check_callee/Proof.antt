@@ -1,9 +1,9 @@
 use mathlib.Core.Path.{sym, _∙_}
 use Rattle.walk.specs.WalkState.{stateOf}
-use Rattle.visits.proofs.CallLaws.{call-other}
+use Rattle.calls.proofs.CallLaws.{call-other}
 use borrow.Author.Needs.{needs}
-use Rattle.visits.proofs.calls.check_callee.Statement.{statement}
-use Rattle.visits.proofs.calls.check_callee.Tie as tie
+use Rattle.calls.proofs.check_callee.Statement.{statement}
+use Rattle.calls.proofs.check_callee.Tie as tie
 use Rattle.outside.specs.Words.{over}
 
 constructed-class-requires : tie.Need-constructed-class-requires

@@ -7,7 +7,7 @@ ghost use Rattle.definition.specs.Walk.{visit};
 ghost use Rattle.machine.specs.Machine.{constructedClass, receiverClass, stepState};
 ghost use Rattle.symbols.specs.OpenScopes.{scopesOf};
 ghost use Rattle.outside.specs.Words.{over};
-ghost use Rattle.visits.specs.Callee.{methodQuestion};
+ghost use Rattle.calls.specs.Callee.{methodQuestion};
 ghost use Rattle.walk.specs.WalkState.{stateOf};
 use ast::ClassId;
 use ast::Decl;

@@ -3,11 +3,11 @@ use borrow.Author.Tests.{not-true, not-false}
 use Rattle.definition.specs.Walk.{visit}
 use Rattle.outside.specs.Words.{over}
 use Rattle.walk.specs.WalkState.{stateOf}
-use Rattle.visits.proofs.CallLaws.{construct-no, construct-yes}
+use Rattle.calls.proofs.CallLaws.{construct-no, construct-yes}
 use Rattle.walk.proofs.StepLaws.{idle}
 use borrow.Author.Needs.{needs}
-use Rattle.visits.proofs.calls.construct.Statement.{statement}
-use Rattle.visits.proofs.calls.construct.Tie as tie
+use Rattle.calls.proofs.construct.Statement.{statement}
+use Rattle.calls.proofs.construct.Tie as tie
 
 returns : tie.Need-returns
 returns c =
