@@ -3,9 +3,11 @@
 ghost use mathlib.Core.Path.{_≡_};
 ghost use Prim.Native.Nat.{_+_, _/_, _%_};
 ghost use lib.Dec.{eqb};
-ghost use Rattle.row_fits.specs.States.{entryOf, kindTable, stateTable};
-use crate::rule;
-use crate::sort;
+ghost use Rattle.shapes.specs.States.{entryOf, kindTable, stateTable};
+
+pub mod rule;
+mod sort;
+
 use ast::kind;
 
 // The class of a kind among children: 1 unit, 2 import, 3 class, 4 function, 5 function export, 6 constant export, 7 imported

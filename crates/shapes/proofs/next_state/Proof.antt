@@ -1,9 +1,9 @@
 use mathlib.Core.Path.{sym, _∙_}
 use borrow.Author.Needs.{needs}
-use Rattle.row_fits.specs.States.{stateTable}
-use Rattle.row_fits.proofs.Laws.{keyed, no-row, no-class}
-use Rattle.row_fits.proofs.tables.next_state.Statement.{statement}
-use Rattle.row_fits.proofs.tables.next_state.Tie as tie
+use Rattle.shapes.specs.States.{stateTable}
+use Rattle.shapes.proofs.TableLaws.{keyed, no-row, no-class}
+use Rattle.shapes.proofs.next_state.Statement.{statement}
+use Rattle.shapes.proofs.next_state.Tie as tie
 
 mul-state-by-key : tie.Need-mul-state-by-key
 mul-state-by-key c = search needs
