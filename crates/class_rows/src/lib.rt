@@ -13,13 +13,11 @@ ghost use Rattle.sink.specs.Sink.{sink, emitAll};
 ghost use Rattle.store.specs.Stored.{storeOf};
 ghost use Rattle.store.specs.declared.nodes.Store.{Store};
 ghost use Rattle.class_names.specs.Names.{ClassReady, headWords};
-ghost use Rattle.class_rows.specs.Put.{Wants, wordsOf};
+ghost use Rattle.name_rows.specs.Put.{Wants, wordsOf};
 ghost use Rattle.class_rows.specs.Places.{Placed, Shown, Counted};
 
-mod copied;
 mod line;
 mod places;
-mod put;
 
 use crate::line::count_line;
 use crate::line::put_line;
@@ -27,13 +25,13 @@ use crate::places::Above;
 use crate::places::above_of;
 use crate::places::line_ends;
 use crate::places::place_of;
-use crate::put::Wanted;
-use crate::put::Written;
 use ast::ClassId;
 use ast::FIRST_CLASS;
 use ast::code;
 use ast::kind;
 use inherit::parent_of;
+use name_rows::put::Wanted;
+use name_rows::put::Written;
 use sink::AnswerRow;
 use sink::emit;
 
