@@ -22,7 +22,7 @@ use Rattle.store.specs.Stored.{storeOf}
 use Rattle.store.specs.declared.nodes.Store.{Store}
 use Rattle.fun_rows.specs.Literals.{LiteralChains}
 use Rattle.class_names.specs.Names.{ParentMarks}
-use Rattle.answer_rows.specs.Ready.{RowsReady}
+use Rattle.answer_rows.specs.Ready.{FewFields, RowsReady}
 use Rattle.answer_rows.proofs.ScratchLaws.{small-sheet}
 
 -- fields do not depend on the counters
@@ -37,10 +37,10 @@ rows-by-name : (ms : List Method) (ns : List ℕ) → map {A = Method} (λ m. 24
 rows-by-name ms [] = refl
 rows-by-name ms (n ∷ ns) = ap (λ (l : List (List ℕ)). (24 ∷ n ∷ methodNamed n ms ∷ []) ∷ l) (rows-by-name ms ns)
 
-module _ {O : Outside} {s : Sheet} (ok : PastFour O s) {o : Stored} (k : StoreReads O s o) where
-  classes-named : (r : ℕ) → T (is s 4 r) → classRowsNamed O s o r ≡ classRowsIn O s o r
+module _ {O : Outside} {s : Sheet} (ok : PastFour O s) where
+  classes-named : (o : Stored) (r : ℕ) → classRowsNamed O s o r ≡ classRowsIn O s o r
   unfolding classRowsNamed classRowsIn
-  classes-named r t = ap (λ (l : ℕ). rowsWith l (map named ns)) count ∙ ap (rowsWith (length ms)) listed
+  classes-named o r = ap (λ (l : ℕ). rowsWith l (map named ns)) count ∙ ap (rowsWith (length ms)) listed
     where
       ns : List ℕ
       ns = methodNamesIn O s o (rows s) (256 + r)
@@ -65,19 +65,19 @@ module _ {O : Outside} {s : Sheet} (ok : PastFour O s) {o : Stored} (k : StoreRe
           (22 ∷ parentIn s o (256 + r) ∷ bit (hasChildrenIn s o (256 + r)) ∷ length (fieldsIn O s o (rows s) (256 + r)) ∷ l ∷ []) ∷ numbered 0 (fieldsIn O s o (rows s) (256 + r)) ++ rs
 
   -- the store of counters x with the same buffers
-  fields-bounded : (r : ℕ) → T (is s 4 r) → (x : Store) → length (fieldsIn O s (storeOf x (o .table) (o .nodes)) (rows s) (256 + r)) ≤ 4294967295
-  fields-bounded r t x =
+  pub few-fields : {o : Stored} → StoreReads O s o → FewFields O s (o .table) (o .nodes)
+  few-fields {o} k r t x =
       let e : fieldsIn O s (storeOf x (o .table) (o .nodes)) (rows s) (256 + r) ≡ fields O s (history O s) (rows s) (256 + r) =
       same-fields O s (x .used) (x .calls) (o .used) (o .calls) (o .table) (o .nodes) (rows s) (256 + r) ∙ sym (fields-same ok k (rows s) (256 + r)) in
       omega (arith, ap length e, fields-few ok (256 + r))
 
-  pub rows-ready : {hs ns ps : List ℕ} → LiteralChains s (o .table) hs ns → ParentMarks s (o .table) ps → RowsReady O s o hs ns ps
-  rows-ready c p =
+  pub rows-ready : {t q hs ns ps : List ℕ} → FewFields O s t q → LiteralChains s t hs ns → ParentMarks s t ps → RowsReady O s t q hs ns ps
+  rows-ready {t} {q} f c p =
       record {
         small = small-sheet ok;
         chains = c;
         marked = p;
-        named = classes-named;
-        fields = fields-bounded;
-        methods = λ r t x. omega (arith, methods-few ok (storeOf x (o .table) (o .nodes)) (256 + r));
+        named = λ r x. classes-named (storeOf x t q) r;
+        fields = f;
+        methods = λ r i x. omega (arith, methods-few ok (storeOf x t q) (256 + r));
       }

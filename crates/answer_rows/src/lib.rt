@@ -12,7 +12,7 @@ ghost use lib.ListN.{replicate};
 ghost use Rattle.store.specs.Stored.{storeOf};
 ghost use Rattle.sink.specs.Sink.{sink, emit as emitted, emitAll};
 ghost use Rattle.class_rows.specs.Places.{Placed};
-ghost use Rattle.answer_rows.specs.Ready.{RowsReady, Scratch};
+ghost use Rattle.answer_rows.specs.Ready.{FewFields, RowsReady, Scratch};
 ghost use Rattle.outside.specs.Words.{over};
 use ast::FunId;
 use ast::column;
@@ -67,6 +67,12 @@ fn emit_member(results: &[u32], row: u32, k: usize, out: &mut [u32]) -> usize
     emit_row(results, row, k, out)
 }
 
+// A sheet row whose turn it is, and the number of answer rows before its own.
+pub struct Turn {
+    pub row: u32,
+    pub count: usize,
+}
+
 // The answer rows of a sheet row, by its kind. `starts` tells where the rows of earlier classes stand.
 fn emit_of(
     sheet: &[u32],
@@ -76,37 +82,35 @@ fn emit_of(
     literals: &[u32],
     siblings: &[u32],
     subclassed: &[u32],
-    store: Store,
     starts: &mut [usize],
-    row: u32,
-    k: usize,
+    turn: Turn,
     out: &mut [u32],
 ) -> usize
-    requires { ⌜ (RowsReady (over (now outside)) (now sheet) (storeOf store (now results) (now nodes)) (now literals) (now siblings)
-        (now subclassed)) × (row < rows (now sheet))
-        × (Placed (over (now outside)) (now sheet) (now results) (now nodes) (now starts) (now out) row k) ⌝ }
-    ensures { λ n. ⌜ (sink n (now (out .exit))
+    requires { ⌜ (RowsReady (over (now outside)) (now sheet) (now results) (now nodes) (now literals) (now siblings) (now subclassed))
+        × (turn .row < rows (now sheet))
+        × (Placed (over (now outside)) (now sheet) (now results) (now nodes) (now starts) (now out) (turn .row) (turn .count)) ⌝ }
+    ensures { λ n. ⌜ ((o : Store) → sink n (now (out .exit))
         ≡ emitAll (rowsIn (over (now (outside .entry))) (now (sheet .entry))
-        (storeOf store (now (results .entry)) (now (nodes .entry))) row) (sink k (now (out .entry))))
+        (storeOf o (now (results .entry)) (now (nodes .entry))) (turn .row)) (sink (turn .count) (now (out .entry))))
         × (Placed (over (now (outside .entry))) (now (sheet .entry)) (now (results .entry)) (now (nodes .entry)) (now (starts .exit))
-        (now (out .exit)) (row + 1) n) ⌝ }
+        (now (out .exit)) (turn .row + 1) n) ⌝ }
 {
-    let kind = word(sheet, row, column::KIND);
+    let kind = word(sheet, turn.row, column::KIND);
     match kind {
-        kind::LET => emit_row(results, row, k, out),
-        kind::HOST_CONSTANT => emit_row(results, row, k, out),
-        kind::INSTANCEOF => emit_row(results, row, k, out),
-        kind::IDENTIFIER => emit_shown(results, row, k, out),
-        kind::MEMBER => emit_member(results, row, k, out),
-        kind::LITERAL => emit_literal(sheet, results, nodes, row, k, out),
+        kind::LET => emit_row(results, turn.row, turn.count, out),
+        kind::HOST_CONSTANT => emit_row(results, turn.row, turn.count, out),
+        kind::INSTANCEOF => emit_row(results, turn.row, turn.count, out),
+        kind::IDENTIFIER => emit_shown(results, turn.row, turn.count, out),
+        kind::MEMBER => emit_member(results, turn.row, turn.count, out),
+        kind::LITERAL => emit_literal(sheet, results, nodes, turn.row, turn.count, out),
         kind::FUNCTION => emit_function(
             sheet,
             results,
             nodes,
             literals,
             siblings,
-            FunId(row),
-            k,
+            FunId(turn.row),
+            turn.count,
             out,
         ),
         kind::CLASS => emit_class(
@@ -116,11 +120,11 @@ fn emit_of(
             nodes,
             subclassed,
             starts,
-            row,
-            k,
+            turn.row,
+            turn.count,
             out,
         ),
-        _ => k,
+        _ => turn.count,
     }
 }
 
@@ -133,19 +137,19 @@ fn emit_each(
     literals: &[u32],
     siblings: &[u32],
     subclassed: &[u32],
-    store: Store,
     starts: &mut [usize],
     out: &mut [u32],
 ) -> usize
-    requires { ⌜ (RowsReady (over (now outside)) (now sheet) (storeOf store (now results) (now nodes)) (now literals) (now siblings)
-        (now subclassed)) × (now starts ≡ replicate 2048 0) ⌝ }
-    ensures { λ n. ⌜ sink n (now (out .exit))
-        ≡ emitAll (answersIn (over (now (outside .entry))) (now (sheet .entry)) (storeOf store (now (results .entry)) (now (nodes .entry))))
-        (sink 0 (now (out .entry))) ⌝ }
+    requires { ⌜ (RowsReady (over (now outside)) (now sheet) (now results) (now nodes) (now literals) (now siblings) (now subclassed))
+        × (now starts ≡ replicate 2048 0) ⌝ }
+    ensures { λ n. ⌜ ((o : Store) → sink n (now (out .exit))
+        ≡ emitAll (answersIn (over (now (outside .entry))) (now (sheet .entry)) (storeOf o (now (results .entry)) (now (nodes .entry))))
+        (sink 0 (now (out .entry)))) ⌝ }
 {
     let mut k: usize = 0;
     let mut row: usize = 0;
     while row < sheet.len() / 8 {
+        let r = row as u32;
         k = emit_of(
             sheet,
             outside,
@@ -154,10 +158,8 @@ fn emit_each(
             literals,
             siblings,
             subclassed,
-            store,
             starts,
-            row as u32,
-            k,
+            Turn { row: r, count: k },
             out,
         );
         row += 1;
@@ -174,16 +176,15 @@ fn emit_linked(
     literals: &mut [u32],
     siblings: &mut [u32],
     subclassed: &mut [u32],
-    store: Store,
     starts: &mut [usize],
     out: &mut [u32],
 ) -> usize
     requires { ⌜ (PastFour (over (now outside)) (now sheet))
-        × (StoreReads (over (now outside)) (now sheet) (storeOf store (now results) (now nodes)))
+        × (FewFields (over (now outside)) (now sheet) (now results) (now nodes))
         × (Scratch (now sheet) (now literals) (now siblings) (now subclassed)) × (now starts ≡ replicate 2048 0) ⌝ }
-    ensures { λ n. ⌜ sink n (now (out .exit))
-        ≡ emitAll (answersIn (over (now (outside .entry))) (now (sheet .entry)) (storeOf store (now (results .entry)) (now (nodes .entry))))
-        (sink 0 (now (out .entry))) ⌝ }
+    ensures { λ n. ⌜ ((o : Store) → sink n (now (out .exit))
+        ≡ emitAll (answersIn (over (now (outside .entry))) (now (sheet .entry)) (storeOf o (now (results .entry)) (now (nodes .entry))))
+        (sink 0 (now (out .entry)))) ⌝ }
 {
     link_literals(sheet, results, literals, siblings);
     mark_parents(sheet, results, subclassed);
@@ -195,7 +196,6 @@ fn emit_linked(
         literals,
         siblings,
         subclassed,
-        store,
         starts,
         out,
     )
@@ -228,7 +228,6 @@ pub fn emit_rows(
         &mut literals,
         &mut siblings,
         &mut subclassed,
-        store,
         &mut starts,
         out,
     )

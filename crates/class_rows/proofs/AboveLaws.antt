@@ -17,11 +17,12 @@ use Rattle.sink.specs.Sink.{sink, emitAll}
 use Rattle.store.specs.Stored.{storeOf}
 use Rattle.store.specs.declared.nodes.Store.{Store}
 use Rattle.class_names.specs.Names.{namesIn}
-use Rattle.class_rows.specs.Put.{Wants}
+use Rattle.name_rows.specs.Put.{Wants}
 use Rattle.class_rows.specs.Places.{functionIn, nameColumn, Stands, Placed, placeOf, aboveOf, Shows, Shown, Counted}
 use Rattle.class_rows.specs.declared.places.Above.{Above}
-use Rattle.class_rows.specs.declared.put.Wanted.{Wanted}
-use Rattle.class_rows.proofs.KeptLaws.{Kept, all-kept, column-length, column-kept}
+use Rattle.name_rows.specs.declared.put.Wanted.{Wanted}
+use Rattle.name_rows.proofs.KeptLaws.{Kept, all-kept}
+use Rattle.class_rows.proofs.ColumnLaws.{column-length, column-kept}
 use Rattle.class_rows.proofs.StableLaws.{Steady, names-outside, methods-outside, names-below, methods-below}
 
 -- The entry of class c in the table, and where the names of a class of entry `at` stand.

@@ -20,20 +20,15 @@ use Rattle.sink.proofs.SinkLaws.{emit-full, emit-none, emit-first, emit-both}
 use Rattle.store.specs.Stored.{storeOf}
 use Rattle.store.specs.declared.nodes.Store.{Store}
 use Rattle.class_names.specs.Names.{namesIn, ClassReady, headWords}
-use Rattle.class_rows.specs.Put.{Filled, Wants, nameRow, put, putAll}
-use Rattle.class_rows.specs.declared.put.Wanted.{Wanted}
+use Rattle.name_rows.specs.Put.{Filled, Wants, nameRow, put, putAll}
+use Rattle.name_rows.specs.declared.put.Wanted.{Wanted}
 use Rattle.class_names.proofs.NameLaws.{names-fields, names-methods}
-use Rattle.class_rows.proofs.PutLaws.{slot-counts}
 
 pub bit-clear : (x : ℕ) → x ≡ 0 → 0 ≡ bit (not (eqb x 0))
 bit-clear x e = rw (eq-eqb x 0 e)
 
 pub bit-set : (x : ℕ) → (x ≡ 0 → ⊥) → 1 ≡ bit (not (eqb x 0))
 bit-set x f = rw (ne-eqb x 0 f)
-
--- The number of the names, as the slot counts them from 0 on.
-pub names-counted : (f : ℕ → ℕ → List ℕ) (ms : List ℕ) (k : Filled) {x : Filled} → k .slot ≡ 0 → x ≡ putAll f ms k → x .slot ≡ min (length ms) 4294967295
-names-counted f ms k z e = ap (λ (y : Filled). y .slot) e ∙ slot-counts f ms k (omega arith) ∙ omega arith
 
 -- The names that are wanted.
 wanted-fields : (O : Outside) (s : Sheet) (o : Stored) {r : ℕ} {w : Wanted} → Wants r 10 w → namesIn O s o (w .kind) (rows s) (w .class .0) ≡ fieldsIn O s o (rows s) (256 + r)

@@ -1,5 +1,4 @@
-mod PutLaws
-mod KeptLaws
+mod ColumnLaws
 mod StableLaws
 pub mod PlaceLaws
 mod AboveLaws

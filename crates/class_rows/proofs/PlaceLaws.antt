@@ -22,7 +22,8 @@ use Rattle.store.specs.declared.nodes.Store.{Store}
 use Rattle.class_names.specs.Names.{namesIn, headWords}
 use Rattle.class_rows.specs.Places.{column, Stands, Placed}
 use Rattle.class_names.proofs.NameLaws.{names-fields, names-methods}
-use Rattle.class_rows.proofs.KeptLaws.{Kept, all-kept, column-length, column-kept, column-append, all-fit, all-written}
+use Rattle.name_rows.proofs.KeptLaws.{Kept, all-kept}
+use Rattle.class_rows.proofs.ColumnLaws.{column-length, column-kept, column-append, all-fit, all-written}
 use Rattle.class_rows.proofs.StableLaws.{Steady}
 
 -- The rows of a class, once written.

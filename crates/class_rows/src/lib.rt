@@ -13,27 +13,25 @@ ghost use Rattle.sink.specs.Sink.{sink, emitAll};
 ghost use Rattle.store.specs.Stored.{storeOf};
 ghost use Rattle.store.specs.declared.nodes.Store.{Store};
 ghost use Rattle.class_names.specs.Names.{ClassReady, headWords};
-ghost use Rattle.class_rows.specs.Put.{Wants, wordsOf};
+ghost use Rattle.name_rows.specs.Put.{Wants, wordsOf};
 ghost use Rattle.class_rows.specs.Places.{Placed, Shown, Counted};
 
-mod copied;
 mod line;
 mod places;
-mod put;
 
 use crate::line::count_line;
 use crate::line::put_line;
-use crate::places::Above;
+use crate::places::Inherited;
 use crate::places::above_of;
 use crate::places::line_ends;
 use crate::places::place_of;
-use crate::put::Wanted;
-use crate::put::Written;
 use ast::ClassId;
 use ast::FIRST_CLASS;
 use ast::code;
 use ast::kind;
 use inherit::parent_of;
+use name_rows::put::Wanted;
+use name_rows::put::Written;
 use sink::AnswerRow;
 use sink::emit;
 
@@ -68,13 +66,12 @@ fn class_head(
     results: &[u32],
     nodes: &[u32],
     subclassed: &[u32],
-    fields: Above,
-    methods: Above,
+    above: Inherited,
     row: u32,
 ) -> AnswerRow
     requires { ⌜ (ClassReady (over (now outside)) (now sheet) (now results) (now nodes) (now subclassed) row)
-        × (Counted (over (now outside)) (now sheet) (now results) (now nodes) 10 (256 + row) fields)
-        × (Counted (over (now outside)) (now sheet) (now results) (now nodes) 6 (256 + row) methods) ⌝ }
+        × (Counted (over (now outside)) (now sheet) (now results) (now nodes) 10 (256 + row) (above .fields))
+        × (Counted (over (now outside)) (now sheet) (now results) (now nodes) 6 (256 + row) (above .methods)) ⌝ }
     ensures { λ x. ⌜ ((o : Store) → wordsOf x
         ≡ eight (row ∷ headWords (over (now (outside .entry))) (now (sheet .entry))
         (storeOf o (now (results .entry)) (now (nodes .entry))) row)) ⌝ }
@@ -87,7 +84,7 @@ fn class_head(
         results,
         nodes,
         wanted(row, kind::FIELD),
-        fields,
+        above.fields,
     );
     let method_count = count_line(
         sheet,
@@ -95,7 +92,7 @@ fn class_head(
         results,
         nodes,
         wanted(row, kind::FUNCTION),
-        methods,
+        above.methods,
     );
     AnswerRow {
         row: row,
@@ -114,30 +111,20 @@ fn write_class(
     results: &[u32],
     nodes: &[u32],
     subclassed: &[u32],
-    fields: Above,
-    methods: Above,
+    above: Inherited,
     row: u32,
     k: usize,
     out: &mut [u32],
 ) -> usize
     requires { ⌜ (ClassReady (over (now outside)) (now sheet) (now results) (now nodes) (now subclassed) row)
-        × (Shown (over (now outside)) (now sheet) (now results) (now nodes) 10 (256 + row) (now out) k fields)
-        × (Shown (over (now outside)) (now sheet) (now results) (now nodes) 6 (256 + row) (now out) k methods) ⌝ }
+        × (Shown (over (now outside)) (now sheet) (now results) (now nodes) 10 (256 + row) (now out) k (above .fields))
+        × (Shown (over (now outside)) (now sheet) (now results) (now nodes) 6 (256 + row) (now out) k (above .methods)) ⌝ }
     ensures { λ x. ⌜ ((o : Store) → sink x (now (out .exit))
         ≡ emitAll (map (λ vs. eight (row ∷ vs))
         (classRowsNamed (over (now (outside .entry))) (now (sheet .entry)) (storeOf o (now (results .entry)) (now (nodes .entry))) row))
         (sink k (now (out .entry)))) ⌝ }
 {
-    let head = class_head(
-        sheet,
-        outside,
-        results,
-        nodes,
-        subclassed,
-        fields,
-        methods,
-        row,
-    );
+    let head = class_head(sheet, outside, results, nodes, subclassed, above, row);
     let first = Written {
         count: emit(out, k, head),
         slot: FIRST_SLOT,
@@ -148,7 +135,7 @@ fn write_class(
         results,
         nodes,
         wanted(row, kind::FIELD),
-        fields,
+        above.fields,
         first,
         out,
     );
@@ -162,7 +149,7 @@ fn write_class(
         results,
         nodes,
         wanted(row, kind::FUNCTION),
-        methods,
+        above.methods,
         second,
         out,
     ).count
@@ -196,16 +183,17 @@ pub fn emit_class(
     }
     let parent = parent_of(sheet, results, ClassId(FIRST_CLASS + row));
     let at = place_of(starts, parent);
-    let fields = above_of(out, at, kind::FIELD);
-    let methods = above_of(out, at, kind::FUNCTION);
+    let above = Inherited {
+        fields: above_of(out, at, kind::FIELD),
+        methods: above_of(out, at, kind::FUNCTION),
+    };
     let count = write_class(
         sheet,
         outside,
         results,
         nodes,
         subclassed,
-        fields,
-        methods,
+        above,
         row,
         k,
         out,

@@ -7,17 +7,17 @@ ghost use Rattle.outside.specs.Words.{over};
 ghost use Rattle.store.specs.Stored.{storeOf};
 ghost use Rattle.store.specs.declared.nodes.Store.{Store};
 ghost use Rattle.class_names.specs.Names.{namesIn};
-ghost use Rattle.class_rows.specs.Put.{filled, nameRow, putAll};
+ghost use Rattle.name_rows.specs.Put.{filled, nameRow, putAll};
 ghost use Rattle.class_rows.specs.Places.{Shown, Counted};
-use crate::copied::put_copied;
 use crate::places::Above;
-use crate::put::Passed;
-use crate::put::Wanted;
-use crate::put::Written;
-use crate::put::count_names;
-use crate::put::put_names;
-use crate::put::put_own;
 use inherit::parent_of;
+use name_rows::copied::put_copied;
+use name_rows::put::Passed;
+use name_rows::put::Wanted;
+use name_rows::put::Written;
+use name_rows::put::count_names;
+use name_rows::put::put_names;
+use name_rows::put::put_own;
 
 // The names of the wanted class.
 pub fn put_line(

@@ -17,6 +17,12 @@ pub struct Above {
     pub count: u32,
 }
 
+// Where the fields and the methods of the parent of a class stand.
+pub struct Inherited {
+    pub fields: Above,
+    pub methods: Above,
+}
+
 // The entry of class `c`: one more than the answer row where it begins, or 0.
 pub fn place_of(starts: &[usize], c: ClassId) -> usize
     ensures { λ x. ⌜ x ≡ placeOf (now (starts .entry)) (c .0) ⌝ }

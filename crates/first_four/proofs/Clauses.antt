@@ -13,7 +13,7 @@ use Rattle.definition.specs.Format.{tables, parent, fileFits, constantFits, col
 use Rattle.definition.proofs.Lists.Tests.{T-and, and-both, or-cases, or-left, or-right, decide, eqb-of, T-imp, kind-apart, ℕ-trichotomy}
 use Rattle.definition.proofs.Format.Links.{LinkFacts, parent-is}
 use Rattle.definition.proofs.Format.Passes.{chain-on}
-use Rattle.row_fits.specs.States.{entryOf, kindTable, stateAt, ruleAt}
+use Rattle.shapes.specs.States.{entryOf, kindTable, stateAt, ruleAt}
 use Rattle.row_fits.specs.Pass.{rowIn, columnsOk, plainOk, functionOk, stateAfter, endsIn, endsOk}
 use Rattle.first_four.proofs.StateLaws.{kind-is, after-is, ends-is}
 use Rattle.first_four.proofs.Filling.{leftFits}

@@ -18,7 +18,7 @@ use Rattle.definition.proofs.Format.Links.{header-held, parent-is, depth-header
 use Rattle.definition.proofs.Format.Links.{class-step, child-held, next-held}
 use Rattle.definition.proofs.Format.Tables.{table-at}
 use Rattle.definition.proofs.Format.Passes.{chain-on}
-use Rattle.row_fits.specs.States.{entryOf, kindTable, stateAt}
+use Rattle.shapes.specs.States.{entryOf, kindTable, stateAt}
 use Rattle.row_fits.specs.Pass.{stateAfter, noteRow, unitHere, classHere, entryIn}
 use Rattle.first_four.proofs.StateLaws.{kind-is, after-is}
 use Rattle.first_four.proofs.Noting.{NotLinked, length-noted, stays-row, stays-column, own-unit, own-class}

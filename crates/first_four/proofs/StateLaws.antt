@@ -12,9 +12,9 @@ use Rattle.definition.proofs.Lists.Tests.{T-and, ℕ-trichotomy}
 use Rattle.definition.proofs.Lists.Counts.{all-below, in-cases}
 use Rattle.definition.proofs.Format.Shapes.{partKinds}
 use Rattle.definition.proofs.Format.Passes.{shape-beyond}
-use Rattle.row_fits.specs.States.{entryOf, kindTable, stateTable, stateAt, ruleAt}
+use Rattle.shapes.specs.States.{entryOf, kindTable, stateTable, stateAt, ruleAt}
 use Rattle.row_fits.specs.Pass.{stateAfter, endsIn}
-use Rattle.row_fits.proofs.Laws.{no-row}
+use Rattle.shapes.proofs.TableLaws.{no-row}
 
 -- are two lists the same?
 abbrev sameKinds : List ℕ → List ℕ → Bool

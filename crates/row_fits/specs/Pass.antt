@@ -10,7 +10,7 @@ use Rattle.definition.specs.Sheet.{Sheet, word, kind, next, child, file, a, b}
 use Rattle.definition.specs.Shape.{holds}
 use Rattle.row_fits.specs.declared.row.Row.{Row}
 use Rattle.row_fits.specs.declared.row.Entry.{Entry}
-use Rattle.row_fits.specs.States.{entryOf, kindTable, stateTable, ruleAt}
+use Rattle.shapes.specs.States.{entryOf, kindTable, stateTable, ruleAt}
 
 -- the words of row r that are asked about
 abbrev pub rowIn : Sheet → ℕ → Row

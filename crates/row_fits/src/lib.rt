@@ -1,6 +1,3 @@
 // What question 3 asks of one row.
 pub mod known;
 pub mod row;
-mod rule;
-mod sort;
-mod tables;

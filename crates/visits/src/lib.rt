@@ -17,7 +17,6 @@ ghost use Rattle.store.specs.Stored.{storeOf};
 ghost use Rattle.walk.specs.WalkState.{stateOf};
 
 pub mod assign;
-pub mod calls;
 
 use ast::ClassId;
 use ast::Decl;

@@ -3,48 +3,50 @@ use Rattle.answer_rows.proofs.RowLaws.{all-none, all-more}
 use Rattle.class_rows.specs.Places.{Placed}
 use Rattle.after.specs.Rows.{rowsIn}
 use Rattle.store.specs.Stored.{storeOf}
+use Rattle.store.specs.declared.nodes.Store.{Store}
 use Rattle.sink.specs.Sink.{sink, emitAll}
 use Rattle.definition.specs.Basics.{concatMap, from}
 use Rattle.outside.specs.Words.{over}
 use lib.ListN.{length}
 use native.Mathlib.Omega.{arith}
 use mathlib.Core.Path.{_≡_, refl, ap, _∙_}
+use mathlib.Core.List.{List}
 use Prim.Native.Nat.{ℕ, _-_, _/_, _≤_}
 use Rattle.answer_rows.proofs.emit_each.Statement.{statement}
 use Rattle.answer_rows.proofs.emit_each.Tie as tie
 
 abbrev Inv-loop : tie.InvT-loop
-Inv-loop s outside t q firsts nexts children o places₀ out₀ k₀ r₀ places out k r =
-    let rows = rowsIn (over outside) s (storeOf o t q) in
-    (emitAll (concatMap rows (from r (length s / 8 - r))) (sink k out)
-    ≡ emitAll (concatMap rows (from 0 (length s / 8))) (sink 0 out₀))
+Inv-loop s outside t q firsts nexts children places₀ out₀ k₀ r₀ places out k r =
+    ((o : Store)
+    → emitAll (concatMap (rowsIn (over outside) s (storeOf o t q)) (from r (length s / 8 - r))) (sink k out)
+    ≡ emitAll (concatMap (rowsIn (over outside) s (storeOf o t q)) (from 0 (length s / 8))) (sink 0 out₀))
     × (r ≤ length s / 8) × (length out ≡ length out₀) × (length places ≡ length places₀)
     × (Placed (over outside) s t q places out r k)
 
 abbrev μ-loop : tie.MeasureT-loop
-μ-loop s outside t q firsts nexts children o places₀ out₀ k₀ r₀ places out k r = length s / 8 - r
+μ-loop s outside t q firsts nexts children places₀ out₀ k₀ r₀ places out k r = length s / 8 - r
 
 loop-holds : tie.Need-loop-holds Inv-loop μ-loop
 loop-holds c =
     let start = c .before .before .before .before .before .before .before .before .before in
     let z : length (start .args .sheet .now) / 8 - 0 ≡ length (start .args .sheet .now) / 8 = omega arith in
-    let rows =
-    rowsIn (over (start .args .outside .now)) (start .args .sheet .now)
-    (storeOf (start .args .store) (start .args .results .now) (start .args .nodes .now)) in
+    let rows : Store → ℕ → List (List ℕ) =
+    λ o. rowsIn (over (start .args .outside .now)) (start .args .sheet .now)
+    (storeOf o (start .args .results .now) (start .args .nodes .now)) in
     let placed =
     places-zeros (over (start .args .outside .now)) (start .args .sheet .now) (start .args .results .now)
     (start .args .nodes .now) 2048 _ (start .args .out .now) (start .pre .0 .small) (omega arith) (start .pre .1) in (
-      ap (λ (n : ℕ). emitAll (concatMap rows (from 0 n)) (sink 0 (start .args .out .now))) z,
+      λ o. ap (λ (n : ℕ). emitAll (concatMap (rows o) (from 0 n)) (sink 0 (start .args .out .now))) z,
       omega arith,
       refl,
       refl,
       placed,
     )
 
-cast-emit-of : tie.Need-cast-emit-of Inv-loop μ-loop
-cast-emit-of c =
-    let start = c .before .before .before .before .before .before .before .before .before .before .before .before in
-    omega (arith, c .before .loop-test .taken, start .pre .0 .small)
+cast-r : tie.Need-cast-r Inv-loop μ-loop
+cast-r c =
+    let start = c .before .before .before .before .before .before .before .before .before .before .before in
+    omega (arith, c .loop-test .taken, start .pre .0 .small)
 
 emit-of-requires : tie.Need-emit-of-requires Inv-loop μ-loop
 emit-of-requires c κs =
@@ -73,12 +75,12 @@ loop-again c =
     let emit-of = c .before .before .before .before .emit-of in
     let below = loop-test .taken in
     let call = emit-of in
-    let rows =
-    rowsIn (over (start .args .outside .now)) (start .args .sheet .now)
-    (storeOf (start .args .store) (start .args .results .now) (start .args .nodes .now)) in (
-      all-more rows (loop .row) (length (start .args .sheet .now) / 8) (sink (loop .k) (loop .out)) below
-          (call .ensures .0)
-          ∙ loop .inv .0,
+    let rows : Store → ℕ → List (List ℕ) =
+    λ o. rowsIn (over (start .args .outside .now)) (start .args .sheet .now)
+    (storeOf o (start .args .results .now) (start .args .nodes .now)) in (
+      λ o. all-more (rows o) (loop .row) (length (start .args .sheet .now) / 8) (sink (loop .k) (loop .out)) below
+          (call .ensures .0 o)
+          ∙ loop .inv .0 o,
       omega (arith, below),
       omega (arith, call .kept, loop .inv .2),
       omega (arith, call .kept, loop .inv .3),
@@ -95,11 +97,12 @@ returns : tie.Need-returns Inv-loop μ-loop
 returns c =
     let start = c .before .before .before .before .before .before .before .before .before .before .before in
     let loop = c .before .loop in
-    let rows =
-    rowsIn (over (start .args .outside .now)) (start .args .sheet .now)
-    (storeOf (start .args .store) (start .args .results .now) (start .args .nodes .now)) in
-    all-none rows (loop .row) (length (start .args .sheet .now) / 8) (sink (loop .k) (loop .out)) (c .loop-test .left)
-    ∙ loop .inv .0
+    let rows : Store → ℕ → List (List ℕ) =
+    λ o. rowsIn (over (start .args .outside .now)) (start .args .sheet .now)
+    (storeOf o (start .args .results .now) (start .args .nodes .now)) in
+    λ o. all-none (rows o) (loop .row) (length (start .args .sheet .now) / 8) (sink (loop .k) (loop .out))
+    (c .loop-test .left)
+    ∙ loop .inv .0 o
 
 pub emit-each-spec : {M : Type 1} → statement M
 emit-each-spec =
@@ -108,7 +111,7 @@ emit-each-spec =
     Inv-loop
     μ-loop
     loop-holds
-    cast-emit-of
+    cast-r
     emit-of-requires
     add-row
     loop-less

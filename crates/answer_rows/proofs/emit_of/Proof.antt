@@ -46,7 +46,7 @@ emit-class-requires c κs =
     let midway = c .before .before .before .before .before .before .before .before .before .before .before .before in
     let start = midway .before in
     let ready = start .pre .0 in
-    let r = start .args .row in
+    let r = start .args .turn .row in
     let t =
     eqb-of (kind (start .args .sheet .now) r) 4
     (sym (c .before .before .before .word .ensures) ∙ c .before .before .match .keys8) in (
@@ -69,10 +69,10 @@ returns c =
     let start = at-word .before .before .before .before .before .before .before .before .before .before in
     let word = at-word .word in
     let match = c .before .before .before .before .match in
-    let o = storeOf (start .args .store) (start .args .results .now) (start .args .nodes .now) in
     let kind-is = sym (word .ensures) ∙ match .keys1 in
-    with-places (start .pre .2) _ (rows-let (over (start .args .outside .now)) (start .args .sheet .now) o
-    (start .args .row) (sink (start .args .k) (start .args .out .now)) kind-is (c .before .before .emit-row .ensures))
+    with-places (start .pre .2) _ (λ o. rows-let (over (start .args .outside .now)) (start .args .sheet .now)
+    (storeOf o (start .args .results .now) (start .args .nodes .now))
+    (start .args .turn .row) (sink (start .args .turn .count) (start .args .out .now)) kind-is (c .before .before .emit-row .ensures))
 
 same-length-2 : tie.Need-same-length-2
 same-length-2 c = search needs
@@ -83,10 +83,10 @@ returns-2 c =
     let start = at-word .before .before .before .before .before .before .before .before .before .before in
     let word = at-word .word in
     let match = c .before .before .before .before .match in
-    let o = storeOf (start .args .store) (start .args .results .now) (start .args .nodes .now) in
     let kind-is = sym (word .ensures) ∙ match .keys2 in
-    with-places (start .pre .2) _ (rows-host (over (start .args .outside .now)) (start .args .sheet .now) o
-    (start .args .row) (sink (start .args .k) (start .args .out .now)) kind-is (c .before .before .emit-row2 .ensures))
+    with-places (start .pre .2) _ (λ o. rows-host (over (start .args .outside .now)) (start .args .sheet .now)
+    (storeOf o (start .args .results .now) (start .args .nodes .now))
+    (start .args .turn .row) (sink (start .args .turn .count) (start .args .out .now)) kind-is (c .before .before .emit-row2 .ensures))
 
 same-length-3 : tie.Need-same-length-3
 same-length-3 c = search needs
@@ -97,10 +97,10 @@ returns-3 c =
     let start = at-word .before .before .before .before .before .before .before .before .before .before in
     let word = at-word .word in
     let match = c .before .before .before .before .match in
-    let o = storeOf (start .args .store) (start .args .results .now) (start .args .nodes .now) in
     let kind-is = sym (word .ensures) ∙ match .keys3 in
-    with-places (start .pre .2) _ (rows-instance (over (start .args .outside .now)) (start .args .sheet .now) o
-    (start .args .row) (sink (start .args .k) (start .args .out .now)) kind-is (c .before .before .emit-row3 .ensures))
+    with-places (start .pre .2) _ (λ o. rows-instance (over (start .args .outside .now)) (start .args .sheet .now)
+    (storeOf o (start .args .results .now) (start .args .nodes .now))
+    (start .args .turn .row) (sink (start .args .turn .count) (start .args .out .now)) kind-is (c .before .before .emit-row3 .ensures))
 
 same-length-4 : tie.Need-same-length-4
 same-length-4 c = search needs
@@ -111,10 +111,10 @@ returns-4 c =
     let start = at-word .before .before .before .before .before .before .before .before .before .before in
     let word = at-word .word in
     let match = c .before .before .before .before .match in
-    let o = storeOf (start .args .store) (start .args .results .now) (start .args .nodes .now) in
     let kind-is = sym (word .ensures) ∙ match .keys4 in
-    with-places (start .pre .2) _ (rows-identifier (over (start .args .outside .now)) (start .args .sheet .now) o
-    (start .args .row) (sink (start .args .k) (start .args .out .now)) kind-is (c .before .before .emit-shown .ensures))
+    with-places (start .pre .2) _ (λ o. rows-identifier (over (start .args .outside .now)) (start .args .sheet .now)
+    (storeOf o (start .args .results .now) (start .args .nodes .now))
+    (start .args .turn .row) (sink (start .args .turn .count) (start .args .out .now)) kind-is (c .before .before .emit-shown .ensures))
 
 same-length-5 : tie.Need-same-length-5
 same-length-5 c = search needs
@@ -125,10 +125,10 @@ returns-5 c =
     let start = at-word .before .before .before .before .before .before .before .before .before .before in
     let word = at-word .word in
     let match = c .before .before .before .before .match in
-    let o = storeOf (start .args .store) (start .args .results .now) (start .args .nodes .now) in
     let kind-is = sym (word .ensures) ∙ match .keys5 in
-    with-places (start .pre .2) _ (rows-member (over (start .args .outside .now)) (start .args .sheet .now) o
-    (start .args .row) (sink (start .args .k) (start .args .out .now)) kind-is
+    with-places (start .pre .2) _ (λ o. rows-member (over (start .args .outside .now)) (start .args .sheet .now)
+    (storeOf o (start .args .results .now) (start .args .nodes .now))
+    (start .args .turn .row) (sink (start .args .turn .count) (start .args .out .now)) kind-is
     (c .before .before .emit-member .ensures))
 
 same-length-6 : tie.Need-same-length-6
@@ -140,11 +140,11 @@ returns-6 c =
     let start = at-word .before .before .before .before .before .before .before .before .before .before in
     let word = at-word .word in
     let match = c .before .before .before .before .match in
-    let o = storeOf (start .args .store) (start .args .results .now) (start .args .nodes .now) in
     let kind-is = sym (word .ensures) ∙ match .keys6 in
-    with-places (start .pre .2) _ (rows-literal (over (start .args .outside .now)) (start .args .sheet .now) o
-    (start .args .row) (sink (start .args .k) (start .args .out .now)) kind-is
-    (c .before .before .emit-literal .ensures (start .args .store)))
+    with-places (start .pre .2) _ (λ o. rows-literal (over (start .args .outside .now)) (start .args .sheet .now)
+    (storeOf o (start .args .results .now) (start .args .nodes .now))
+    (start .args .turn .row) (sink (start .args .turn .count) (start .args .out .now)) kind-is
+    (c .before .before .emit-literal .ensures o))
 
 same-length-7 : tie.Need-same-length-7
 same-length-7 c = search needs
@@ -155,11 +155,11 @@ returns-7 c =
     let start = at-word .before .before .before .before .before .before .before .before .before .before in
     let word = at-word .word in
     let match = c .before .before .before .before .match in
-    let o = storeOf (start .args .store) (start .args .results .now) (start .args .nodes .now) in
     let kind-is = sym (word .ensures) ∙ match .keys7 in
-    with-places (start .pre .2) _ (rows-function (over (start .args .outside .now)) (start .args .sheet .now) o
-    (start .args .row) (sink (start .args .k) (start .args .out .now)) kind-is
-    (c .before .before .emit-function .ensures (start .args .store)))
+    with-places (start .pre .2) _ (λ o. rows-function (over (start .args .outside .now)) (start .args .sheet .now)
+    (storeOf o (start .args .results .now) (start .args .nodes .now))
+    (start .args .turn .row) (sink (start .args .turn .count) (start .args .out .now)) kind-is
+    (c .before .before .emit-function .ensures o))
 
 same-length-8 : tie.Need-same-length-8
 same-length-8 c = search needs
@@ -175,25 +175,25 @@ returns-8 c =
     let match = c .before .before .before .before .before .before .before .match in
     let emit-class = c .before .before .before .before .emit-class in
     let s = start .args .sheet .now in
-    let o = storeOf (start .args .store) (start .args .results .now) (start .args .nodes .now) in
-    let k = sink (start .args .k) (start .args .out .now) in
+    let k = sink (start .args .turn .count) (start .args .out .now) in
     let kind-is = sym (word .ensures) ∙ match .keys8 in
-    let said = emit-class .ensures in
-    let same = start .pre .0 .named (start .args .row) (eqb-of (kind s (start .args .row)) 4 kind-is) in (
-      rows-class (over (start .args .outside .now)) s o (start .args .row) k kind-is
-          (said .0 (start .args .store)
-          ∙ ap (λ (l : List (List ℕ)). emitAll (map (λ vs. eight (start .args .row ∷ vs)) l) k) same),
+    let said = emit-class .ensures in (
+      λ o. rows-class (over (start .args .outside .now)) s
+          (storeOf o (start .args .results .now) (start .args .nodes .now)) (start .args .turn .row) k kind-is
+          (said .0 o
+          ∙ ap (λ (l : List (List ℕ)). emitAll (map (λ vs. eight (start .args .turn .row ∷ vs)) l) k)
+          (start .pre .0 .named (start .args .turn .row) o)),
       said .1,
     )
 
 returns-9 : tie.Need-returns-9
 returns-9 c =
     let start = c .before .before .before .before .before .before .before .before .before .before .before in
-    let o = storeOf (start .args .store) (start .args .results .now) (start .args .nodes .now) in
     let is = c .before .word .ensures in
     let other = c .match .rest in
-    with-places (start .pre .2) _ (rows-none (over (start .args .outside .now)) (start .args .sheet .now) o
-    (start .args .row) (sink (start .args .k) (start .args .out .now)) (λ e. other .0 .0 .0 .0 .0 .0 .0 .1 (is ∙ e))
+    with-places (start .pre .2) _ (λ o. rows-none (over (start .args .outside .now)) (start .args .sheet .now)
+    (storeOf o (start .args .results .now) (start .args .nodes .now))
+    (start .args .turn .row) (sink (start .args .turn .count) (start .args .out .now)) (λ e. other .0 .0 .0 .0 .0 .0 .0 .1 (is ∙ e))
     (λ e. other .0 .0 .0 .0 .0 .0 .1 (is ∙ e)) (λ e. other .0 .0 .0 .0 .0 .1 (is ∙ e))
     (λ e. other .0 .0 .0 .0 .1 (is ∙ e)) (λ e. other .0 .0 .0 .1 (is ∙ e)) (λ e. other .0 .0 .1 (is ∙ e))
     (λ e. other .0 .1 (is ∙ e)) (λ e. other .1 (is ∙ e)))

@@ -6,8 +6,8 @@ use Rattle.class_rows.proofs.class_head.Statement.{statement}
 use Rattle.class_rows.proofs.class_head.Tie as tie
 use Rattle.outside.specs.Words.{over}
 
-add-t14 : tie.Need-add-t14
-add-t14 c = search needs
+add-t13 : tie.Need-add-t13
+add-t13 c = search needs
 
 parent-of-requires : tie.Need-parent-of-requires
 parent-of-requires c κs = search needs
@@ -51,7 +51,7 @@ pub class-head-spec : {M : Type 1} → statement M
 class-head-spec =
     tie.close
     (tie.spec
-    add-t14
+    add-t13
     parent-of-requires
     mark-bit-requires
     wanted-requires

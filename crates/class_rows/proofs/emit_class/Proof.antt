@@ -26,8 +26,8 @@ returns c =
           (start .args .out .now) (c .if1 .taken)),
     )
 
-add-t18 : tie.Need-add-t18
-add-t18 c = search needs
+add-t17 : tie.Need-add-t17
+add-t17 c = search needs
 
 parent-of-requires : tie.Need-parent-of-requires
 parent-of-requires c κs = search needs
@@ -152,7 +152,7 @@ emit-class-spec =
     (tie.spec
     add-result
     returns
-    add-t18
+    add-t17
     parent-of-requires
     place-of-requires
     above-of-requires

@@ -1,6 +1,6 @@
 use native.Mathlib.Omega.{arith}
 use Rattle.store.specs.Stored.{storeOf}
-use Rattle.class_rows.specs.Put.{nameRow}
+use Rattle.name_rows.specs.Put.{nameRow}
 use Rattle.class_rows.proofs.LineLaws.{line-counted}
 use borrow.Author.Needs.{needs}
 use Rattle.class_rows.proofs.line.count_line.Statement.{statement}

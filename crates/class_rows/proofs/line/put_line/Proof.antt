@@ -1,6 +1,6 @@
 use mathlib.Core.Path.{refl, _∙_}
 use Rattle.store.specs.Stored.{storeOf}
-use Rattle.class_rows.specs.Put.{filled, nameRow}
+use Rattle.name_rows.specs.Put.{filled, nameRow}
 use Rattle.class_rows.proofs.LineLaws.{copied-all, line-after}
 use borrow.Author.Needs.{needs}
 use Rattle.class_rows.proofs.line.put_line.Statement.{statement}
