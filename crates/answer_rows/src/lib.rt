@@ -15,6 +15,7 @@ ghost use Rattle.class_rows.specs.Places.{Placed};
 ghost use Rattle.answer_rows.specs.Ready.{FewFields, RowsReady, Scratch};
 ghost use Rattle.outside.specs.Words.{over};
 use ast::FunId;
+use ast::code;
 use ast::column;
 use ast::kind;
 use class_names::marks::mark_parents;
@@ -61,7 +62,7 @@ fn emit_member(results: &[u32], row: u32, k: usize, out: &mut [u32]) -> usize
         ≡ emitAll (if eqb (cell (now (results .entry)) row 0) 0 then [] else answerRow row (rowWords (now (results .entry)) row) ∷ [])
         (sink k (now (out .entry))) ⌝ }
 {
-    if word(results, row, result::CODE) == 0 {
+    if word(results, row, result::CODE) == code::NOTHING {
         return k;
     }
     emit_row(results, row, k, out)
