@@ -25,6 +25,7 @@ pub mod Outcome
 -- The samples S1 to S12, points easily read otherwise, and a sheet over another outside than the core's, computed.
 pub mod Samples
 pub mod Readings
+pub mod Refusals
 pub mod Entered
 -- Demand 3, and how long a walk is, as statements; proofs/ has their proofs.
 pub mod Claims
