@@ -24,6 +24,13 @@ use walk::scopes::close_scope;
 use walk::state::Walk;
 use words::word;
 
+// Row `child` of the part list of row `row`: its part `index`, if it is a part.
+pub struct Part {
+    pub row: u32,
+    pub index: usize,
+    pub child: u32,
+}
+
 // The place of the next part after row `k`, which is part `i` if it is one.
 fn place_after(sheet: &[u32], k: u32, i: usize) -> usize
     requires { ⌜ i ≤ 16384 ⌝ }
@@ -241,14 +248,12 @@ fn resolve_any(
     )
 }
 
-// Row `k` of a part list of row `row`, as its part `i` if it is one.
+// A row of a part list, resolved if it is a part.
 fn resolve_part(
     sheet: &[u32],
     outside: &[u32],
     classes: &[u32],
-    row: u32,
-    i: usize,
-    k: u32,
+    part: Part,
     left: usize,
     walk: Walk,
     entries: &mut [u32],
@@ -257,24 +262,33 @@ fn resolve_part(
 ) -> Walk
     requires { ⌜ Prepared (now sheet) (now classes) ⌝ }
     ensures { λ x. ⌜ stateOf x (now (entries .exit)) (now (results .exit)) (now (nodes .exit))
-        ≡ partWalked (over (now (outside .entry))) left (now (sheet .entry)) row i k
+        ≡ partWalked (over (now (outside .entry))) left (now (sheet .entry)) (part .row) (part .index) (part .child)
         (stateOf walk (now (entries .entry)) (now (results .entry)) (now (nodes .entry))) ⌝ }
 {
-    if !is_part(sheet, k) {
+    if !is_part(sheet, part.child) {
         return walk;
     }
     let a = resolve_any(
         sheet,
         outside,
         classes,
-        k,
+        part.child,
         left,
         walk,
         entries,
         results,
         nodes,
     );
-    after_part(sheet, outside, row, i, a, entries, results, nodes)
+    after_part(
+        sheet,
+        outside,
+        part.row,
+        part.index,
+        a,
+        entries,
+        results,
+        nodes,
+    )
 }
 
 // The parts of row `row`, left to right. A refused walk returns at once.
@@ -309,9 +323,11 @@ pub fn resolve_parts(
             sheet,
             outside,
             classes,
-            row,
-            i,
-            k,
+            Part {
+                row: row,
+                index: i,
+                child: k,
+            },
             left,
             a,
             entries,

@@ -65,7 +65,7 @@ abbrev μ-resolve-fun : Measures 6 resolve-fun-kinds.ps ℕ
 μ-resolve-fun κs a = a .1 .1 .1 .1 .0 * 4
 
 abbrev μ-resolve-part : Measures 6 resolve-part-kinds.ps ℕ
-μ-resolve-part κs a = a .1 .1 .1 .1 .1 .1 .0 * 4 + 2
+μ-resolve-part κs a = a .1 .1 .1 .1 .0 * 4 + 2
 
 abbrev μ-resolve-parts : Measures 6 resolve-parts-kinds.ps ℕ
 μ-resolve-parts κs a = a .1 .1 .1 .1 .0 * 4 + 3
@@ -436,7 +436,7 @@ resolve-part-is-part-requires t c κs = tt
 resolve-part-returns : (t : ℕ) → resolve-part-lts.Need-returns (resolve-part-claims t) (resolve-part-at t) resolve-part.Post
 resolve-part-returns t c =
     let start = c .before .before .before .before .before .before .before .before in
-    part-skipped _ _ (start .args .sheet .now) (start .args .row) (start .args .i) (start .args .k)
+    part-skipped _ _ (start .args .sheet .now) (start .args .part .row) (start .args .part .index) (start .args .part .child)
     (stateOf (start .args .walk) (start .args .entries .now) (start .args .results .now) (start .args .nodes .now))
     (sym (c .before .is-part .ensures) ∙ not-true (c .before .is-part .result) (c .if1 .taken))
 
@@ -474,7 +474,7 @@ resolve-part-returns-2 t c =
     let if1 = at-resolve-any .before .before .before .before .if1 in
     let the-resolve-any = at-resolve-any .resolve-any in
     let after-part = at-after-part .after-part in
-    part-by _ _ (start .args .sheet .now) (start .args .row) (start .args .i) (start .args .k)
+    part-by _ _ (start .args .sheet .now) (start .args .part .row) (start .args .part .index) (start .args .part .child)
     (stateOf (start .args .walk) (start .args .entries .now) (start .args .results .now) (start .args .nodes .now))
     (sym (is-part .ensures) ∙ not-false (is-part .result) (if1 .left)) (the-resolve-any .ensures) (after-part .ensures)
 

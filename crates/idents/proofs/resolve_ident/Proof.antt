@@ -6,8 +6,8 @@ use Rattle.store.proofs.CodeLaws.{told-four}
 use Rattle.walk.proofs.VisitLaws.{ident-yes, ident-no}
 use Rattle.walk.proofs.StepLaws.{idle}
 use borrow.Author.Needs.{needs}
-use Rattle.visits.proofs.resolve_ident.Statement.{statement}
-use Rattle.visits.proofs.resolve_ident.Tie as tie
+use Rattle.idents.proofs.resolve_ident.Statement.{statement}
+use Rattle.idents.proofs.resolve_ident.Tie as tie
 
 returns : tie.Need-returns
 returns c =

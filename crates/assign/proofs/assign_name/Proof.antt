@@ -4,8 +4,8 @@ use Rattle.walk.specs.WalkState.{stateOf}
 use Rattle.walk.proofs.VisitLaws.{assign-yes, assign-no}
 use Rattle.walk.proofs.StepLaws.{idle}
 use borrow.Author.Needs.{needs}
-use Rattle.visits.proofs.assign.assign_name.Statement.{statement}
-use Rattle.visits.proofs.assign.assign_name.Tie as tie
+use Rattle.assign.proofs.assign_name.Statement.{statement}
+use Rattle.assign.proofs.assign_name.Tie as tie
 
 returns : tie.Need-returns
 returns c =

@@ -2,8 +2,8 @@ use mathlib.Core.Path.{sym, _∙_}
 use Rattle.walk.specs.WalkState.{stateOf}
 use Rattle.walk.proofs.VisitLaws.{assign-other}
 use borrow.Author.Needs.{needs}
-use Rattle.visits.proofs.assign.check_assign.Statement.{statement}
-use Rattle.visits.proofs.assign.check_assign.Tie as tie
+use Rattle.assign.proofs.check_assign.Statement.{statement}
+use Rattle.assign.proofs.check_assign.Tie as tie
 
 word-requires : tie.Need-word-requires
 word-requires c κs = search needs

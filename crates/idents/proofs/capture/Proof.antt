@@ -2,8 +2,8 @@ use borrow.Author.Tests.{eq-eqb, ne-eqb}
 use Rattle.machine.specs.Machine.{openFunctions}
 use Rattle.store.proofs.CodeLaws.{other-tag}
 use borrow.Author.Needs.{needs}
-use Rattle.visits.proofs.capture.Statement.{statement}
-use Rattle.visits.proofs.capture.Tie as tie
+use Rattle.idents.proofs.capture.Statement.{statement}
+use Rattle.idents.proofs.capture.Tie as tie
 
 returns : tie.Need-returns
 returns c =

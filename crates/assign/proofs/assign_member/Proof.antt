@@ -4,8 +4,8 @@ use Rattle.walk.specs.WalkState.{stateOf}
 use Rattle.walk.proofs.VisitLaws.{member-free, member-listed, member-new}
 use Rattle.walk.proofs.StepLaws.{idle}
 use borrow.Author.Needs.{needs}
-use Rattle.visits.proofs.assign.assign_member.Statement.{statement}
-use Rattle.visits.proofs.assign.assign_member.Tie as tie
+use Rattle.assign.proofs.assign_member.Statement.{statement}
+use Rattle.assign.proofs.assign_member.Tie as tie
 
 returns : tie.Need-returns
 returns c =

@@ -1,6 +1,6 @@
 use borrow.Author.Tests.{ne-eqb}
-use Rattle.visits.proofs.undeclared.Statement.{statement}
-use Rattle.visits.proofs.undeclared.Tie as tie
+use Rattle.idents.proofs.undeclared.Statement.{statement}
+use Rattle.idents.proofs.undeclared.Tie as tie
 
 returns : tie.Need-returns
 returns c = rw (c .if1 .taken)
