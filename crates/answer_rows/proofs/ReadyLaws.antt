@@ -1,12 +1,11 @@
 -- What the answer rows need to know of the store, from the walk.
 use mathlib.Core.Path.{_≡_, refl, sym, ap, _∙_}
 use mathlib.Core.List.{List, [], _∷_, _++_, map}
-use Prim.Native.Nat.{ℕ, zero, suc, _+_, _≤_}
+use Prim.Native.Nat.{ℕ, zero, suc, _+_}
 use native.Mathlib.Omega.{arith}
-use lib.Dec.{T}
 use lib.ListN.{length, length-map}
 use Rattle.definition.specs.Basics.{bit}
-use Rattle.definition.specs.Sheet.{Sheet, rows, is}
+use Rattle.definition.specs.Sheet.{Sheet, rows}
 use Rattle.definition.specs.Outside.{Outside, Method}
 use Rattle.definition.specs.Scope.{history}
 use Rattle.definition.specs.Classes.{methodNamed, fields}
@@ -19,7 +18,6 @@ use Rattle.after.proofs.Fields.{fields-same}
 use Rattle.after.proofs.Names.{methods-by-name, methodBy}
 use Rattle.after.proofs.Sizes.{fields-few, methods-few}
 use Rattle.store.specs.Stored.{storeOf}
-use Rattle.store.specs.declared.nodes.Store.{Store}
 use Rattle.fun_rows.specs.Literals.{LiteralChains}
 use Rattle.class_names.specs.Names.{ParentMarks}
 use Rattle.answer_rows.specs.Ready.{FewFields, RowsReady}

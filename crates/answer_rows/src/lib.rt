@@ -15,6 +15,7 @@ ghost use Rattle.class_rows.specs.Places.{Placed};
 ghost use Rattle.answer_rows.specs.Ready.{FewFields, RowsReady, Scratch};
 ghost use Rattle.outside.specs.Words.{over};
 use ast::FunId;
+use ast::code;
 use ast::column;
 use ast::kind;
 use class_names::marks::mark_parents;
@@ -28,7 +29,7 @@ use store::nodes::Store;
 use store::result;
 use words::word;
 
-// The row of a let, identifier, host constant, instanceof or member, as the table has it.
+// The row of a let, identifier, host constant, instanceof or member, as the results have it.
 fn emit_row(results: &[u32], row: u32, k: usize, out: &mut [u32]) -> usize
     ensures { λ n. ⌜ sink n (now (out .exit)) ≡ emitted (answerRow row (rowWords (now (results .entry)) row)) (sink k (now (out .entry))) ⌝ }
 {
@@ -61,7 +62,7 @@ fn emit_member(results: &[u32], row: u32, k: usize, out: &mut [u32]) -> usize
         ≡ emitAll (if eqb (cell (now (results .entry)) row 0) 0 then [] else answerRow row (rowWords (now (results .entry)) row) ∷ [])
         (sink k (now (out .entry))) ⌝ }
 {
-    if word(results, row, result::CODE) == 0 {
+    if word(results, row, result::CODE) == code::NOTHING {
         return k;
     }
     emit_row(results, row, k, out)
@@ -73,7 +74,7 @@ pub struct Turn {
     pub count: usize,
 }
 
-// The answer rows of a sheet row, by its kind. The table of places tells where the classes of earlier rows stand.
+// The answer rows of a sheet row, by its kind. `starts` tells where the rows of earlier classes stand.
 fn emit_of(
     sheet: &[u32],
     outside: &[u32],

@@ -17,6 +17,7 @@ use symbols::decl::is_mutable;
 use symbols::decl::lookup;
 use walk::state::Walk;
 use walk::state::refuse;
+use walk::state::with_store;
 use words::entry_at;
 use words::word;
 
@@ -64,13 +65,7 @@ fn assign_member(
         return walk;
     }
     let store = reg_field(walk.store, results, nodes, class, m);
-    Walk {
-        env: e,
-        store: store,
-        number: walk.number,
-        at: walk.at,
-        name: walk.name,
-    }
+    with_store(walk, store)
 }
 
 // An assignment, after its sides are resolved.

@@ -2,7 +2,7 @@
 ghost use mathlib.Core.Path.{_≡_};
 ghost use mathlib.Core.List.{List};
 ghost use Prim.Native.Nat.{ℕ};
-ghost use Rattle.definition.specs.Sheet.{kind, a, child};
+ghost use Rattle.definition.specs.Sheet.{kind, a};
 ghost use Rattle.definition.specs.Walk.{visit};
 ghost use Rattle.machine.specs.Machine.{constructedClass, receiverClass, stepState};
 ghost use Rattle.symbols.specs.OpenScopes.{scopesOf};
@@ -27,6 +27,7 @@ use symbols::decl::lookup;
 use symbols::env::Env;
 use walk::state::Walk;
 use walk::state::refuse;
+use walk::state::with_store;
 use words::word;
 
 // The class that call `row` constructs, or 0: its callee is an identifier that means it.
@@ -88,15 +89,8 @@ fn construct(
         one: class.0,
         two: 0,
     };
-    let env = walk.env;
     let store = append_call(walk.store, nodes, call);
-    Walk {
-        env: env,
-        store: store,
-        number: walk.number,
-        at: walk.at,
-        name: walk.name,
-    }
+    with_store(walk, store)
 }
 
 // The question that the call `row` of method `m` on a class gets a no to: 17, has the class a record? 13, has it the method? 14, with as

@@ -4,10 +4,10 @@ use mathlib.Core.Bool.{Bool, true, false, not, _&&_, _||_}
 use mathlib.Core.List.{List, [], _∷_, _++_, map}
 use Prim.Native.Nat.{ℕ, zero, suc, _+_, _-_, _*_, _<_, _≤_}
 use native.Mathlib.Omega.{arith}
-use lib.Dec.{eqb, leb}
-use borrow.Author.Tests.{eq-eqb, ne-eqb, eqb-true, eqb-false, leb-true}
-use Rattle.definition.specs.Basics.{if_then_else_, filter, head, from, _∈?_}
-use Rattle.definition.specs.Sheet.{Sheet, kind, next, child, a, rows, chain, is, kidsOf}
+use lib.Dec.{eqb}
+use borrow.Author.Tests.{eq-eqb, ne-eqb, eqb-true}
+use Rattle.definition.specs.Basics.{if_then_else_, filter, _∈?_}
+use Rattle.definition.specs.Sheet.{Sheet, a, kidsOf}
 use Rattle.definition.specs.Outside.{Outside, Method, recordOf}
 use Rattle.outside.specs.Found.{recordedNames}
 use Rattle.definition.specs.Classes.{ofSheet, ownMethods, methodAt, mergeFields, inheriting}

@@ -58,7 +58,7 @@ pub fn above_of(out: &[u32], at: usize, kind: u32) -> Above
     }
 }
 
-// Is it known that the line of parents of the class of `row` ends within `r + 1` classes? Its parent `c` has the entry `at`, or is
+// Is it known that the line of parents of the class of `row` ends within `row + 1` classes? Its parent `c` has the entry `at`, or is
 // none of the sheet and has no parent.
 pub fn line_ends(sheet: &[u32], at: usize, c: ClassId, row: u32) -> bool
     ensures { λ x. ⌜ x ≡ (not (eqb at 0) || (not (ofSheet (now (sheet .entry)) (c .0)) && ltb 0 row)) ⌝ }

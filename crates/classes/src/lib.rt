@@ -1,7 +1,7 @@
 // The class of every row of a sheet, in a table that one pass over the rows fills.
 ghost use mathlib.Core.Path.{_≡_};
 ghost use Prim.Native.Nat.{_≤_};
-ghost use lib.ListN.{length, getD, set};
+ghost use lib.ListN.{length};
 ghost use Rattle.definition.specs.Sheet.{rows};
 ghost use Rattle.definition.specs.Outside.{Outside};
 ghost use Rattle.machine.specs.Reads.{PastFour};

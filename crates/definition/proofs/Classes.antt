@@ -1,10 +1,10 @@
 -- The classes of a sheet are numbered from their rows.
-use mathlib.Core.Path.{_≡_, refl, ap, _∙_}
+use mathlib.Core.Path.{_≡_, ap, _∙_}
 use mathlib.Core.Bool.{Bool, true, _&&_, false}
 use mathlib.Core.List.{List, [], _∷_}
 use Prim.Native.Nat.{ℕ, _+_, _-_}
 use native.Mathlib.Omega.{arith}
-use lib.Dec.{leb, eqb, T}
+use lib.Dec.{eqb, T}
 use borrow.Author.Tests.{le-leb}
 use Rattle.definition.specs.Sheet.{Sheet, is}
 use Rattle.definition.specs.Classes.{ofSheet}

@@ -1,7 +1,7 @@
 -- A sheet over an outside other than the core: entry 1 of a session, after an entry that declared a function f, a class C with a field x, init and a
 -- method m, and a global g. Names from 25 on: f, C, g, x, m, D, h, p.
 use mathlib.Core.Path.{_≡_, refl}
-use mathlib.Core.List.{List, [], _∷_, _++_, map}
+use mathlib.Core.List.{List, [], _∷_, map}
 use Prim.Native.Nat.{ℕ}
 use Rattle.definition.specs.Sheet.{Sheet}
 use Rattle.definition.specs.Meaning.{named, function, class, global}

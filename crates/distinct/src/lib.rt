@@ -2,11 +2,9 @@
 ghost use mathlib.Core.Path.{_≡_};
 ghost use mathlib.Core.Bool.{true};
 ghost use Prim.Native.Nat.{_*_, _<_, _≤_};
-ghost use lib.ListN.{length, getD, set};
-ghost use Rattle.definition.specs.Basics.{all, from};
+ghost use Rattle.definition.specs.Basics.{all};
 ghost use Rattle.definition.specs.Sheet.{rows, kids};
-ghost use Rattle.definition.specs.Format.{linksRise};
-ghost use Rattle.distinct.specs.Apart.{childUnmarked, childMarked, unmarked, marked, stamp, unitUnmarked, unitMarked, classUnmarked, classMarked, rowUnmarked, rowMarked, allUnmarked};
+ghost use Rattle.distinct.specs.Apart.{childUnmarked, childMarked, unmarked, marked, unitUnmarked, unitMarked, classUnmarked, classMarked, rowUnmarked, rowMarked, allUnmarked};
 ghost use Rattle.links.specs.Rising.{Rising};
 use ast::column;
 use ast::kind;

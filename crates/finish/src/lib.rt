@@ -51,7 +51,7 @@ fn write_answer(
     accept(n, globals, out)
 }
 
-// Settles a sheet whose walk got no no: by the first no of questions 18 to 22, or with its answer rows.
+// Settles a sheet whose walk no question refused: by the first no of questions 18 to 22, or with its answer rows.
 pub fn finish(
     sheet: &[u32],
     outside: &[u32],
@@ -61,8 +61,8 @@ pub fn finish(
     out: &mut [u32],
 ) -> Answer
     requires { ⌜ (PastFour (over (now outside)) (now sheet))
-        × ((entries : List ℕ) → Walked (over (now outside)) (now sheet) (stateOf walk entries (now results) (now nodes))) ×
-        (walk .number ≡ 0) ⌝ }
+        × ((entries : List ℕ) → Walked (over (now outside)) (now sheet) (stateOf walk entries (now results) (now nodes)))
+        × (walk .number ≡ 0) ⌝ }
     ensures { λ x. ⌜ Settled (over (now (outside .entry))) (now (sheet .entry)) (length (now (out .entry))) x (now (out .exit)) ⌝ }
 {
     let store = walk.store;

@@ -1,7 +1,7 @@
 // Questions 3 and 4 of the words of a sheet past question 1.
 ghost use mathlib.Core.Path.{_≡_};
 ghost use mathlib.Core.Bool.{true, _&&_};
-ghost use Prim.Native.Nat.{ℕ, _*_, _<_, _≤_};
+ghost use Prim.Native.Nat.{_*_, _<_, _≤_};
 ghost use lib.ListN.{length, replicate};
 ghost use Rattle.definition.specs.Sheet.{rows};
 ghost use Rattle.definition.specs.Format.{headerFirst, mainMarked};
@@ -93,7 +93,7 @@ pub fn format_question(sheet: &[u32], last: u32) -> u32
     ensures { λ x. ⌜ x ≡ formatQuestion last (now (sheet .entry)) ⌝ }
 {
     let mut seen = [0u32; 2048];
-    let mut t = [0u32; 16384];
+    let mut table = [0u32; 16384];
     let mut marks = [0u32; 1049];
-    ask(sheet, last, &mut seen, &mut t, &mut marks)
+    ask(sheet, last, &mut seen, &mut table, &mut marks)
 }

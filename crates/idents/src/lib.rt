@@ -28,6 +28,7 @@ use symbols::env::Env;
 use symbols::tag;
 use walk::state::Walk;
 use walk::state::refuse;
+use walk::state::with_store;
 use words::word;
 
 // The question on an undeclared name: 9 for null, 8 for any other.
@@ -102,11 +103,5 @@ pub fn resolve_ident(
     let store = capture(sheet, entries, e, d, o, results, nodes);
     let x = seen_in(sheet, d, fun, results, nodes);
     write_decl(results, row, x);
-    Walk {
-        env: e,
-        store: store,
-        number: walk.number,
-        at: walk.at,
-        name: walk.name,
-    }
+    with_store(walk, store)
 }

@@ -28,6 +28,7 @@ use symbols::env::has_local;
 use symbols::tag;
 use walk::state::Walk;
 use walk::state::refuse;
+use walk::state::with_env;
 use words::word;
 
 // A declaration whose second value is 0.
@@ -81,15 +82,8 @@ fn bring(sheet: &[u32], i: u32, m: u32, x: u32, walk: Walk, entries: &mut [u32])
     if has_local(entries, m, e.count) {
         return refuse(walk, question::NAME_FREE, i, m);
     }
-    let store = walk.store;
     let env = define(sheet, m, d, e, entries);
-    Walk {
-        env: env,
-        store: store,
-        number: walk.number,
-        at: walk.at,
-        name: walk.name,
-    }
+    with_env(walk, env)
 }
 
 // Row `k` brought under its own name, if it is of a kind.

@@ -1,14 +1,14 @@
 -- Class rows, and parents of classes.
 use mathlib.Core.Path.{_≡_, sym, ap, _∙_}
 use mathlib.Core.Bool.{Bool, true, false, not, _&&_}
-use Prim.Native.Nat.{ℕ, _-_, _≤_}
-use lib.Dec.{eqb, leb}
-use borrow.Author.Tests.{eq-eqb, ne-eqb, leb-true, eqb-true}
+use Prim.Native.Nat.{ℕ, _-_}
+use lib.Dec.{leb}
+use borrow.Author.Tests.{eq-eqb, ne-eqb, eqb-true}
 use Rattle.definition.specs.Basics.{if_then_else_}
 use Rattle.definition.specs.Sheet.{Sheet, kind, is}
 use Rattle.definition.specs.Outside.{Outside}
 use Rattle.definition.specs.Classes.{ofSheet, hasRecord}
-use Rattle.definition.proofs.Lists.Tests.{and-left, and-right, T-true, true-of}
+use Rattle.definition.proofs.Lists.Tests.{and-right, T-true, true-of}
 use Rattle.machine.specs.Machine.{Store, cell}
 use Rattle.after.specs.Inherited.{parentIn}
 use Rattle.inherit.specs.Answered.{lacksRecord}

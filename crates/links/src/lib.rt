@@ -9,6 +9,11 @@ ghost use Rattle.definition.specs.Sheet.{rows};
 ghost use Rattle.definition.specs.Format.{linksRise, linkedOnce, links};
 ghost use Rattle.links.specs.Rising.{Counts};
 
+// The columns of the two links.
+const NEXT: usize = 1;
+
+const CHILD: usize = 2;
+
 // Is `l` no link, or one from row `r` to a higher row, of `n`?
 fn link_rises(n: usize, r: usize, l: usize) -> bool
     ensures { λ b. ⌜ b ≡ (eqb l 0 || (ltb r l && ltb l n)) ⌝ }
@@ -22,8 +27,8 @@ pub fn links_rise(sheet: &[u32], n: usize) -> bool
 {
     let mut r: usize = 0;
     while r < n {
-        let next = sheet[8 * r + 1] as usize;
-        let child = sheet[8 * r + 2] as usize;
+        let next = sheet[8 * r + NEXT] as usize;
+        let child = sheet[8 * r + CHILD] as usize;
         if !link_rises(n, r, next) {
             return false;
         }
@@ -43,8 +48,8 @@ fn count_links(sheet: &[u32], n: usize, seen: &mut [u32])
 {
     let mut r: usize = 0;
     while r < n {
-        let next = sheet[8 * r + 1] as usize;
-        let child = sheet[8 * r + 2] as usize;
+        let next = sheet[8 * r + NEXT] as usize;
+        let child = sheet[8 * r + CHILD] as usize;
         seen[next] += 1;
         seen[child] += 1;
         r += 1;

@@ -7,7 +7,7 @@ use Prim.Native.Nat.{ℕ, _+_, _-_, _/_, _<_}
 use native.Mathlib.Omega.{arith}
 use lib.ListN.{length, getD, take}
 use lib.Dec.{eqb}
-use borrow.Author.Tests.{ne-eqb, eqb-true, eqb-false, le-leb}
+use borrow.Author.Tests.{ne-eqb, eqb-true, eqb-false}
 use Rattle.definition.specs.Basics.{if_then_else_, filter, final, largest}
 use Rattle.definition.specs.Sheet.{Sheet, kind, is, a, b, child}
 use Rattle.definition.specs.Outside.{Outside}

@@ -11,7 +11,7 @@ use lib.Dec.{eqb, leb}
 use borrow.Author.Tests.{eq-eqb, ne-eqb}
 use Rattle.definition.specs.Basics.{if_then_else_, any, place}
 use Rattle.definition.specs.Sheet.{Sheet, is}
-use Rattle.machine.specs.Machine.{entryWord, nodeWord, Node, previous, chainBack, reversed, findName, functionMarks, Store, listAt, hasKey, appendNode, addCapture}
+use Rattle.machine.specs.Machine.{entryWord, nodeWord, Node, previous, chainBack, reversed, functionMarks, Store, listAt, hasKey, appendNode, addCapture}
 use Rattle.machine.proofs.Lists.{any-append, place-append}
 use Rattle.machine.proofs.Nodes.{chainBack-hit, chainBack-down}
 
@@ -126,9 +126,6 @@ since-reversed q (suc i) k c x {c′} {i′} h ex ec ei =
     let e₁ : x ≡ nodeWord q i 1 = rw sub-one at ex in
     let e₂ : i′ ≡ previous q i = rw sub-one at ei in
     rw (e₂, ec, e₁) (sym (since-back q i k c))
-
-pub previous-lt : (q : List ℕ) (i : ℕ) {i′ : ℕ} → 0 < i → i′ ≡ previous q (i - 1) → i′ < i
-previous-lt q i h e = omega arith
 
 pub count-le : (k x c : ℕ) {c′ : ℕ} → c′ ≡ (if eqb k x then 0 else suc c) → c′ ≤ suc c
 count-le k x c {c′} e = by (eqb k x) e

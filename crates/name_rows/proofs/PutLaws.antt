@@ -6,7 +6,7 @@ use Prim.Native.Nat.{ℕ, zero, suc, _+_, _-_, _*_, _<_, _≤_, min}
 use native.Mathlib.Omega.{arith}
 use lib.Dec.{ltb}
 use lib.ListN.{length, getD}
-use borrow.Author.Tests.{eq-eqb, ne-eqb, lt-ltb, le-ltb, ltb-true, ltb-false, le-leb, lt-leb}
+use borrow.Author.Tests.{eq-eqb, ne-eqb, ltb-true, ltb-false}
 use Rattle.definition.specs.Basics.{if_then_else_, filter, _∈?_}
 use Rattle.definition.specs.Sheet.{Sheet, kind, next, child, a, rows, chain, is, kidsOf}
 use Rattle.definition.specs.Outside.{Outside}
@@ -16,7 +16,7 @@ use Rattle.definition.specs.Classes.{ofSheet, methodNamed}
 use Rattle.definition.proofs.Lists.Members.{filter-append}
 use Rattle.machine.specs.Machine.{Store, Node, oneMore, cell, nodeWord, nodeAt, previous, chainTo, listAt}
 use Rattle.machine.proofs.ByKind.{list-none, list-more}
-use Rattle.after.specs.Inherited.{parentIn, methodsIn, ownFieldsIn}
+use Rattle.after.specs.Inherited.{parentIn, methodsIn}
 use Rattle.sink.specs.Sink.{Sink, emit}
 use Rattle.class_names.specs.Names.{rowNames, ownIn, namesIn, inherited, newOf}
 use Rattle.name_rows.specs.Put.{Filled, nameRow, put, putAll}

@@ -1,7 +1,7 @@
 -- Question 2 part by part, and the fixed names as a list of their own.
 use mathlib.Core.Path.{_≡_, refl, sym, ap, _∙_}
 use mathlib.Core.Bool.{Bool, true, false, _&&_}
-use mathlib.Core.List.{List}
+use mathlib.Core.List.{List, _++_}
 use Prim.Native.Nat.{ℕ, _<_, _≤_}
 use lib.ListN.{length}
 use borrow.Author.Tests.{le-leb, lt-leb, leb-true}
@@ -16,7 +16,8 @@ use Rattle.names.proofs.Compare.{unlike-append}
 -- the bytes of the program's constant
 abbrev pub fixedList : List ℕ
 fixedList =
-    bytes "Int64\nFloat64\nString\nArray\nByteArray\nDict\nUIEvent\nAudioNeeded\nAudioData\nkind\nwindow_id\nkey\nbutton\nx\ny\ndx\ndy\ntext\nnum_samples\nnum_channels\ndevice_id\nnull\ninit\nMAIN_UNIT\n"
+    bytes "Int64\nFloat64\nString\nArray\nByteArray\nDict\nUIEvent\nAudioNeeded\nAudioData\n"
+    ++ bytes "kind\nwindow_id\nkey\nbutton\nx\ny\ndx\ndy\ntext\nnum_samples\nnum_channels\ndevice_id\nnull\ninit\nMAIN_UNIT\n"
 
 pub fixed-listed : listed fixedList ≡ fixed
 fixed-listed = refl

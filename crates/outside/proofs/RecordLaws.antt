@@ -1,7 +1,7 @@
 -- Records, methods and names found in the lent words, one row or place at a time.
 use mathlib.Core.Path.{_≡_, refl, sym, ap, _∙_}
 use mathlib.Core.Bool.{Bool, true, false, _||_}
-use mathlib.Core.List.{List, [], _∷_, map}
+use mathlib.Core.List.{List, _∷_, map}
 use Prim.Native.Nat.{ℕ, zero, suc, _+_, _-_, _<_, _≤_}
 use native.Mathlib.Omega.{arith}
 use lib.Dec.{eqb}
@@ -9,7 +9,7 @@ use lib.ListN.{getD}
 use borrow.Author.Tests.{eq-eqb, ne-eqb}
 use Rattle.definition.specs.Basics.{if_then_else_, filter, head, any, first, from, _∈?_}
 use Rattle.definition.specs.Sheet.{Sheet, word, a, kidsOf}
-use Rattle.definition.specs.Outside.{Outside, Method as Held, ClassRecord, isRecorded, recordOf, noRecord}
+use Rattle.definition.specs.Outside.{Method as Held, ClassRecord, isRecorded, recordOf, noRecord}
 use Rattle.definition.specs.Classes.{ofSheet, hasRecord, className, ownMethods, methodAt, methodOf, arity, noMethod}
 use Rattle.outside.specs.Words.{spacedAt, methodIn, methodsAt, recordAt, over}
 use Rattle.outside.specs.Found.{rowRecord, Records, Tells, stepOf}

@@ -1,7 +1,6 @@
 // Class records from outside a sheet, and what a class has by its record or, if it is of the sheet, by its rows.
 ghost use mathlib.Core.Path.{_≡_};
 ghost use lib.Dec.{eqb};
-ghost use lib.ListN.{getD};
 ghost use Rattle.definition.specs.Basics.{if_then_else_, _∈?_};
 ghost use Rattle.definition.specs.Classes.{hasRecord, className, ownMethods, arity as arityOf};
 ghost use Rattle.outside.specs.Words.{methodsAt, over};

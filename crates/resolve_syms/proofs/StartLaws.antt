@@ -1,5 +1,5 @@
 -- The start of the walk: the outermost scope, and the header, at which nothing happens.
-use mathlib.Core.Path.{_≡_, refl, sym, ap, subst, _∙_}
+use mathlib.Core.Path.{_≡_, sym, ap, subst, _∙_}
 use mathlib.Core.List.{List, [], _∷_, map}
 use mathlib.Core.Bool.{_&&_}
 use Prim.Native.Nat.{ℕ, zero, suc, _-_, _*_, _<_, _≤_, min}

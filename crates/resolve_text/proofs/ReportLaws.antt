@@ -12,7 +12,7 @@ use borrow.Rule.Slice.PartMut.{putMid}
 use Rattle.definition.specs.Basics.{if_then_else_, concatMap}
 use Rattle.definition.specs.Sheet.{Sheet, rows}
 use Rattle.definition.specs.Text.{lines, isSheetText, sheetOf, textOf}
-use Rattle.definition.specs.Outcome.{Outcome, rowsFit, refused, outcome, buffer, report, printed}
+use Rattle.definition.specs.Outcome.{Outcome, rowsFit, refused, outcome, buffer, report}
 use Rattle.definition.proofs.Lists.Tests.{and-right}
 use Rattle.definition.proofs.Format.Accepted.{Eights, good-outcome}
 use Rattle.lexer.specs.SrcPos.{fileOf, lineOf, columnOf}

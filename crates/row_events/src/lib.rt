@@ -10,7 +10,6 @@ ghost use Rattle.definition.specs.Walk.{before, after, afterPart, isPart};
 ghost use Rattle.definition.specs.Outside.{Outside};
 ghost use Rattle.outside.specs.Words.{over};
 ghost use Rattle.machine.specs.Machine.{runState};
-ghost use Rattle.classes.specs.Table.{ClassTable};
 ghost use Rattle.walk.specs.WalkState.{stateOf};
 ghost use Rattle.row_events.specs.Prepared.{Prepared};
 use assign::check_assign;

@@ -12,12 +12,12 @@ use ast::column;
 use ast::flag;
 use ast::kind;
 use ast::limit;
-use shapes::class_of;
 use shapes::may_end;
 use shapes::next_state;
 use shapes::rule;
 use shapes::rule_a;
 use shapes::rule_b;
+use shapes::sort_of;
 use shapes::start_of;
 use words::put;
 use words::word;
@@ -198,7 +198,7 @@ fn function_fits(sheet: &[u32], w: Row, p: u32) -> bool
 fn state_after(q: u32, kind: u32) -> u32
     ensures { λ x. ⌜ x ≡ stateAfter q kind ⌝ }
 {
-    next_state(q, class_of(kind))
+    next_state(q, sort_of(kind))
 }
 
 // May the list that a row is in, with state `q` before it, end after it if it does? Row 0 is in none.

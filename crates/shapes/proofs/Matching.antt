@@ -1,7 +1,7 @@
 -- A table read by a match on a number: each arm by a test of its entry, the last by one over the whole table.
 use mathlib.Core.Path.{_≡_, ap, _∙_}
 use mathlib.Core.Logic.{_⊎_, inl, inr}
-use mathlib.Core.Bool.{Bool, _||_}
+use mathlib.Core.Bool.{_||_}
 use mathlib.Core.List.{List, [], _∷_}
 use Prim.Native.Nat.{ℕ, _<_, _≤_}
 use native.Mathlib.Omega.{arith}

@@ -10,9 +10,8 @@ mod sort;
 
 use ast::kind;
 
-// The class of a kind among children: 1 unit, 2 import, 3 class, 4 function, 5 function export, 6 constant export, 7 imported
-// name, 8 field, 9 parameter, 10 pair, 11 statement, 12 expression; 0 for a number that is no kind, and for the header.
-pub fn class_of(kind: u32) -> u32
+// The sort of a kind among children. A number that is no kind has none, nor has the header.
+pub fn sort_of(kind: u32) -> u32
     ensures { λ x. ⌜ x ≡ entryOf kindTable kind 0 ⌝ }
 {
     match kind {
@@ -165,7 +164,7 @@ pub fn rule_b(kind: u32) -> u32
     }
 }
 
-// The state after a child, by 16 times the state before it and the class of the child.
+// The state after a child, by 16 times the state before it and the sort of the child.
 fn state_by_key(key: u32) -> u32
     ensures { λ x. ⌜ x ≡ entryOf stateTable (key / 16) (key % 16 + 1) ⌝ }
 {
@@ -210,13 +209,13 @@ fn state_by_key(key: u32) -> u32
     }
 }
 
-// The state after a child of a class.
-pub fn next_state(state: u32, class: u32) -> u32
-    ensures { λ x. ⌜ x ≡ entryOf stateTable state (class + 1) ⌝ }
+// The state after a child of a sort.
+pub fn next_state(state: u32, sort: u32) -> u32
+    ensures { λ x. ⌜ x ≡ entryOf stateTable state (sort + 1) ⌝ }
 {
     if state < 26 {
-        if class < 13 {
-            return state_by_key(16 * state + class);
+        if sort < 13 {
+            return state_by_key(16 * state + sort);
         }
     }
     0

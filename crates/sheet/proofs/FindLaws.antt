@@ -1,6 +1,6 @@
 -- What follows from the first row of a name in a child list: a listed field, a method, an export; and class rows.
 use mathlib.Core.Path.{_≡_, refl, sym, ap, _∙_}
-use mathlib.Core.Bool.{Bool, true, false, not, _||_, _&&_}
+use mathlib.Core.Bool.{Bool, true, false, not, _||_}
 use mathlib.Core.List.{List, [], _∷_, _++_, map}
 use Prim.Native.Nat.{ℕ, zero, suc, _+_, _-_, _<_, _≤_}
 use native.Mathlib.Omega.{arith}

@@ -24,8 +24,9 @@ use ast::kind;
 use words::one_more;
 use words::word;
 
-// A declaration as an open entry holds it. Tags: 2 none, 3 function, 4 class, 5 global known before the walk (its number; 1 if
-// mutable), 6 local or argument (its row; its function), 7 let of a unit (its row; its global number). The slot is that of a local.
+// A declaration as an open entry holds it. `first` and `second` by its tag: the number of a function or class, 0;
+// the number of a global known before the walk, 1 if it is mutable; the row of a local or argument, its function; the row of a let of a unit,
+// its global number. The slot is that of a local.
 pub struct OpenDecl {
     pub tag: u32,
     pub first: u32,

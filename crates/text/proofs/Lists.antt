@@ -7,7 +7,7 @@ use native.Mathlib.Numerals.{add-one}
 use native.Mathlib.Omega.{arith}
 use native.Mathlib.Nat.{add-zero, zero-add, add-comm, mul-zero, mul-suc}
 use borrow.Rule.Slice.PartMut.{putMid, postOf}
-use lib.ListN.{length, getD, take, drop, set, replicate, length-append, drop-of-length-le}
+use lib.ListN.{length, getD, take, drop, set, length-append}
 use lib.Seq.{drop-cons, take-at, drop-at, take-take, length-take-le, take-suc-set, drop-drop, getD-take, getD-drop}
 use Rattle.definition.specs.Basics.{all, from, concatMap}
 use Rattle.definition.proofs.Format.Passes.{from-suc, all-suc}

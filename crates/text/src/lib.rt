@@ -2,7 +2,7 @@
 ghost use mathlib.Core.Path.{_≡_};
 ghost use mathlib.Core.Bool.{true};
 ghost use Prim.Native.Nat.{_*_, _≤_};
-ghost use lib.ListN.{length, take, drop, replicate};
+ghost use lib.ListN.{length, take, drop};
 ghost use Rattle.definition.specs.Text.{trimmed, inTen};
 ghost use Rattle.text.specs.Lines.{isLine, numbersOf, numberIn, digitsFrom, wholeLines, goodLines, numbersIn, lineOf, placeByte};
 ghost use Rattle.text.specs.Reading.{SheetRead};

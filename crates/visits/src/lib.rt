@@ -1,4 +1,4 @@
-// Visits: what a row asks and stores when the walk has resolved its parts, kind by kind.
+// Visits: what a row asks and stores when the walk comes to it, kind by kind. A class declaration is visited before its parts, the others after.
 ghost use mathlib.Core.Path.{_≡_};
 ghost use mathlib.Core.Bool.{_||_, true, not};
 ghost use mathlib.Core.List.{List, [], _∷_};

@@ -1,7 +1,7 @@
 -- The program's counters and buffers as the machine's state.
 use mathlib.Core.List.{List}
 use Prim.Native.Nat.{ℕ}
-use Rattle.machine.specs.Machine.{State}
+use Rattle.machine.specs.Machine.{State, Scopes, Store}
 use Rattle.symbols.specs.OpenScopes.{scopesOf}
 use Rattle.store.specs.Stored.{storeOf}
 use Rattle.walk.specs.declared.state.Walk.{Walk}
@@ -18,3 +18,11 @@ stateOf w v t q =
 -- a state refused by question n, at row r, with name m
 abbrev pub refusedBy : ℕ → ℕ → ℕ → State → State
 refusedBy n r m x = record { scopes = x .scopes; store = x .store; refusal = record { number = n; at = r; name = m } }
+
+-- a state with other scopes
+abbrev pub withScopes : Scopes → State → State
+withScopes p x = record { scopes = p; store = x .store; refusal = x .refusal }
+
+-- a state with another store
+abbrev pub withStored : Store → State → State
+withStored o x = record { scopes = x .scopes; store = o; refusal = x .refusal }

@@ -17,6 +17,7 @@ ghost use Rattle.store.specs.Stored.{storeOf};
 ghost use Rattle.walk.specs.WalkState.{stateOf};
 use crate::state::Walk;
 use crate::state::refuse;
+use crate::state::with_env;
 use ast::column;
 use ast::kind;
 use ast::question;
@@ -100,7 +101,6 @@ pub fn declare(
         return walk;
     }
     let e = walk.env;
-    let store = walk.store;
     let m = word(sheet, row, column::A);
     if has_local(entries, m, e.count) {
         return refuse(walk, declare_question(sheet, row), row, m);
@@ -108,13 +108,7 @@ pub fn declare(
     let d = declared_by(sheet, row, e);
     store_let(sheet, row, e, d, results);
     let env = define(sheet, m, d, e, entries);
-    Walk {
-        env: env,
-        store: store,
-        number: walk.number,
-        at: walk.at,
-        name: walk.name,
-    }
+    with_env(walk, env)
 }
 
 // Declares row `k`, if it is of a kind.

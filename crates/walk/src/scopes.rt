@@ -8,6 +8,7 @@ ghost use Rattle.definition.specs.Outside.{Outside};
 ghost use Rattle.machine.specs.Machine.{stepState};
 ghost use Rattle.walk.specs.WalkState.{stateOf};
 use crate::state::Walk;
+use crate::state::with_env;
 use symbols::env::pop_scope;
 use symbols::env::push_loop;
 use symbols::env::push_scope;
@@ -20,15 +21,8 @@ pub fn open_scope(sheet: &[u32], row: u32, walk: Walk, entries: &mut [u32]) -> W
     if walk.number != 0 {
         return walk;
     }
-    let store = walk.store;
     let env = push_scope(sheet, row, walk.env, entries);
-    Walk {
-        env: env,
-        store: store,
-        number: walk.number,
-        at: walk.at,
-        name: walk.name,
-    }
+    with_env(walk, env)
 }
 
 // The innermost scope closes.
@@ -39,15 +33,8 @@ pub fn close_scope(walk: Walk, entries: &[u32]) -> Walk
     if walk.number != 0 {
         return walk;
     }
-    let store = walk.store;
     let env = pop_scope(walk.env, entries);
-    Walk {
-        env: env,
-        store: store,
-        number: walk.number,
-        at: walk.at,
-        name: walk.name,
-    }
+    with_env(walk, env)
 }
 
 // The rest of the innermost scope is in a loop.
@@ -58,13 +45,6 @@ pub fn begin_loop(walk: Walk, entries: &mut [u32]) -> Walk
     if walk.number != 0 {
         return walk;
     }
-    let store = walk.store;
     let env = push_loop(walk.env, entries);
-    Walk {
-        env: env,
-        store: store,
-        number: walk.number,
-        at: walk.at,
-        name: walk.name,
-    }
+    with_env(walk, env)
 }

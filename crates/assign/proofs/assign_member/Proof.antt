@@ -48,6 +48,9 @@ returns-3 c =
 reg-field-requires : tie.Need-reg-field-requires
 reg-field-requires c κs = search needs
 
+with-store-requires : tie.Need-with-store-requires
+with-store-requires c κs = search needs
+
 same-length : tie.Need-same-length
 same-length c = search needs
 
@@ -56,33 +59,23 @@ same-length-2 c = search needs
 
 returns-4 : tie.Need-returns-4
 returns-4 c =
-    let at-entry-at = c .before .before .before .before .before .before .before .before .before .before .before .before in
-    let start = at-entry-at .before .before .before .before .before .before .before .before in
-    let if1 = at-entry-at .before .before .if1 in
-    let entry-at = at-entry-at .entry-at in
-    let if2 = c .before .before .before .before .before .before .before .before .before .before .before .if2 in
-    let word = c .before .before .before .before .before .before .before .before .before .before .word in
-    let word2 = c .before .before .before .before .before .before .before .before .before .word2 in
-    let has-named = c .before .before .before .before .before .before .before .before .has-named in
-    let if3 = c .before .before .before .before .before .before .before .if3 in
-    let reg-field = c .before .before .before .before .reg-field in
-    λ O v. member-new O (start .args .sheet .now) (start .args .row)
+    let at-if2 = c .before .before .before .before .before .before .before .before .before .before .before .before in
+    let start = at-if2 .before .before .before .before .before .before .before .before .before in
+    let if1 = at-if2 .before .before .before .if1 in
+    let entry-at = at-if2 .before .entry-at in
+    let if2 = at-if2 .if2 in
+    let word = c .before .before .before .before .before .before .before .before .before .before .before .word in
+    let word2 = c .before .before .before .before .before .before .before .before .before .before .word2 in
+    let has-named = c .before .before .before .before .before .before .before .before .before .has-named in
+    let if3 = c .before .before .before .before .before .before .before .before .if3 in
+    let reg-field = c .before .before .before .before .before .reg-field in
+    λ O v. c .with-store .ensures v _ _
+    ∙ member-new O (start .args .sheet .now) (start .args .row)
     (stateOf (start .args .walk) v (start .args .results .now) (start .args .nodes .now)) (start .pre .1) (if1 .left)
     (start .pre .2) _ (entry-at .ensures ∙ start .pre .0 .entry _) _ _ (rw (← word .ensures) (word2 .ensures))
     (if2 .left) (sym (has-named .ensures) ∙ if3 .left) (reg-field .ensures)
 
 pub assign-member-spec : {M : Type 1} → statement M
 assign-member-spec =
-    tie.close
-    (tie.spec
-    returns
-    entry-at-requires
-    returns-2
-    word-requires
-    word-requires-2
-    has-named-requires
-    returns-3
-    reg-field-requires
-    same-length
-    same-length-2
-    returns-4)
+    tie.close (tie.spec returns entry-at-requires returns-2 word-requires word-requires-2 has-named-requires returns-3
+    reg-field-requires with-store-requires same-length same-length-2 returns-4)

@@ -42,6 +42,9 @@ returns-2 c =
 append-call-requires : tie.Need-append-call-requires
 append-call-requires c κs = search needs
 
+with-store-requires : tie.Need-with-store-requires
+with-store-requires c κs = search needs
+
 same-length : tie.Need-same-length
 same-length c = search needs
 
@@ -52,21 +55,13 @@ returns-3 c =
     let if1 = at-if1 .if1 in
     let has-record = c .before .before .before .before .before .before .has-record in
     let if2 = c .before .before .before .before .before .if2 in
-    λ v t e. construct-yes (over (start .args .outside .now)) (start .args .sheet .now) (start .args .row)
+    λ v t e. c .with-store .ensures v t _
+    ∙ construct-yes (over (start .args .outside .now)) (start .args .sheet .now) (start .args .row)
     (stateOf (start .args .walk) v t (start .args .nodes .now)) (start .pre .0) (if1 .left) (start .args .class .0)
     (start .pre .1) e _ (sym (has-record .ensures) ∙ not-false (has-record .result) (if2 .left))
-    (c .before .before .append-call .ensures t)
+    (c .before .before .before .append-call .ensures t)
 
 pub construct-spec : {M : Type 1} → statement M
 construct-spec =
-    tie.close
-    (tie.spec
-    returns
-    word-requires
-    has-record-requires
-    word-requires-2
-    refuse-requires
-    returns-2
-    append-call-requires
-    same-length
-    returns-3)
+    tie.close (tie.spec returns word-requires has-record-requires word-requires-2 refuse-requires returns-2
+    append-call-requires with-store-requires same-length returns-3)

@@ -10,7 +10,7 @@ use Rattle.definition.specs.Outside.{Outside}
 use Rattle.definition.specs.Meaning.{rowOf}
 use Rattle.definition.specs.Scope.{Moment, history}
 use Rattle.definition.specs.Capture.{Use, uses, captures, isOuter, same}
-use Rattle.definition.proofs.Lists.Members.{mem-filter, filter-mem, distinct-mem, mem-distinct, distinct-nodup, place-same, distinct-order}
+use Rattle.definition.proofs.Lists.Members.{mem-filter, filter-mem, distinct-mem, mem-distinct, distinct-order}
 
 abbrev pub rowMeant : Use → ℕ
 rowMeant u = rowOf (u .means)
@@ -20,12 +20,6 @@ captured-use s h f u m = filter-mem (isOuter f) u (uses s h) (distinct-mem rowMe
 
 pub use-captured : (s : Sheet) (h : List Moment) (f : ℕ) (u : Use) → Mem u (uses s h) → T (isOuter f u) → (v : Use) × Mem v (captures s h f) × (rowMeant v ≡ rowMeant u)
 use-captured s h f u m t = mem-distinct rowMeant u (filter (isOuter f) (uses s h)) (mem-filter (isOuter f) u (uses s h) t m)
-
-pub captures-once : (O : Outside) (s : Sheet) (f i j : ℕ) (u v : Use) (us vs : List Use)
-    → drop i (captures s (history O s) f) ≡ u ∷ us → drop j (captures s (history O s) f) ≡ v ∷ vs
-    → rowMeant u ≡ rowMeant v → i ≡ j
-captures-once O s f i j u v us vs p q e =
-    place-same rowMeant i j (captures s (history O s) f) u v us vs (distinct-nodup rowMeant (filter (isOuter f) (uses s (history O s)))) p q e
 
 pub captures-ordered : (O : Outside) (s : Sheet) (f i j : ℕ) (u v : Use) (us vs : List Use)
     → drop i (captures s (history O s) f) ≡ u ∷ us → drop j (captures s (history O s) f) ≡ v ∷ vs → i < j

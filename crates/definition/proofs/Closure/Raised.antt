@@ -8,10 +8,10 @@ use native.Mathlib.Omega.{arith}
 use lib.ListN.{length, getD, set, take, drop, length-map}
 use lib.Seq.{getD-set-other}
 use lib.Dec.{eqb, T, eqb→eq}
-use Rattle.definition.specs.Basics.{if_then_else_, filter, count, bit, place}
+use Rattle.definition.specs.Basics.{if_then_else_, count, bit, place}
 use Rattle.definition.specs.Sheet.{Sheet, b, rows, is, kidsOf, holder, functionOf}
 use Rattle.definition.specs.Outside.{Outside, based}
-use Rattle.definition.specs.Scope.{Moment, Stack, history, visited}
+use Rattle.definition.specs.Scope.{Moment, history, visited}
 use Rattle.definition.specs.Answer.{eight, answers, raisedFunction, raisedClass, raisedRow, raised}
 use Rattle.definition.specs.Claims.{Row, rowsFor, firstFor, told, declaredAs, openRows, between, Follows, ends, steps, Followed, Captures, Demand3}
 use Rattle.definition.proofs.Lists.Tests.{decide, if-true, if-false}

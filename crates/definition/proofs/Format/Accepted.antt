@@ -4,7 +4,7 @@ use mathlib.Core.List.{List, [], _∷_, _++_, map}
 use mathlib.Core.Bool.{Bool, true, false, not, _&&_, _||_}
 use Prim.Native.Nat.{ℕ, suc, _-_, _*_, _<_, _≤_, zero, _+_}
 use native.Mathlib.Omega.{arith}
-use lib.ListN.{length, replicate, length-append, length-take, length-replicate, getD, set, length-set}
+use lib.ListN.{length, length-append, length-take, length-replicate, getD, set, length-set}
 use lib.Dec.{eqb, leb, T, T-not, eqb→eq, leb→le}
 use Rattle.definition.specs.Basics.{if_then_else_, concatMap, from}
 use Rattle.definition.specs.Sheet.{Sheet, rows}
@@ -179,11 +179,3 @@ module _ (lent : ℕ) where
       (good-if (not (namesFit ns)) (refused 2) _ (good-refused 2)
       (good-if (not (sheetFits (nameCount ns) s)) (refused 3) _ (good-refused 3)
       (good-if (not (depthsFit s)) (refused 4) (asked core lent s) (good-refused 4) (good-asked core s))))
-
-  -- the buffer keeps its length
-  pub buffer-length : (s : Sheet) (ns : List ℕ) → length (buffer lent (outcome s ns lent)) ≡ lent
-  buffer-length s ns =
-      let g = good-outcome s ns in
-      let o : Outcome = outcome s ns lent in
-      length-append (concatMap (λ r. r) (o .rows)) (replicate (lent - 8 * length (o .rows)) 0)
-      ∙ omega (arith, flat-length (g .0), length-replicate {A = ℕ} (lent - 8 * length (o .rows)) 0, g .1)

@@ -7,15 +7,15 @@ use Prim.Native.Nat.{ℕ, zero, suc, _+_, _<_, _≤_}
 use native.Mathlib.Omega.{arith}
 use native.Mathlib.Nat.{zero-add, add-zero}
 use lib.ListN.{getD}
-use lib.Dec.{eqb, leb, ltb, T, eqb→eq, leb→le, le→leb, ltb→lt, lt→ltb}
+use lib.Dec.{eqb, ltb, T, eqb→eq, ltb→lt}
 use Rattle.definition.specs.Basics.{if_then_else_, every, all, count, first, concatMap, from, _∈?_}
 use Rattle.definition.specs.Sheet.{Sheet, next, child, rows, chain, kids, is, holder}
 use Rattle.definition.specs.Shape.{Shape, shape, never, nought, shapes, shapeOf}
-use Rattle.definition.specs.Format.{tables, at, unit, function, class, links, headerFirst, mainMarked, rowClauses, sheetFits}
+use Rattle.definition.specs.Format.{tables, at, links, headerFirst, mainMarked, rowClauses, sheetFits}
 use Rattle.definition.proofs.Lists.Tests.{true-of, T-and, and-both, T-true, pick}
-use Rattle.definition.proofs.Lists.Members.{count-append, test-mem, mem-test, from-mem, mem-from}
+use Rattle.definition.proofs.Lists.Members.{count-append}
 use Rattle.definition.proofs.Lists.Counts.{all-below}
-use Rattle.definition.proofs.Format.Links.{Rises, LinkFacts, kid-bounds, holder-of, depth-step, unit-step, function-step, class-step}
+use Rattle.definition.proofs.Format.Links.{Rises, LinkFacts, kid-bounds, holder-of}
 use Rattle.definition.proofs.Format.Facts.{SheetFacts, RowFacts}
 
 -- one more number
@@ -115,30 +115,12 @@ module _ (s : Sheet) (ok : LinkFacts s) (p c : ℕ) (l : p < rows s) (h : T (c �
   is-held : holder s c ≡ p
   is-held = holder-of s ok c p l h
 
-  pub kid-depth : at (tables s .depths) c ≡ suc (at (tables s .depths) p)
-  kid-depth = depth-step s ok c (omega (arith, bounds .0)) (bounds .1) ∙ ap (λ (q : ℕ). suc (at (tables s .depths) q)) is-held
-
-  pub kid-unit : unit (tables s) c ≡ (if is s 2 c then c else unit (tables s) p)
-  kid-unit = unit-step s ok c (omega (arith, bounds .0)) (bounds .1) ∙ ap (λ (q : ℕ). if is s 2 c then c else unit (tables s) q) is-held
-
-  pub kid-function : function (tables s) c ≡ (if is s 6 p then p else function (tables s) p)
-  kid-function = function-step s ok c (omega (arith, bounds .0)) (bounds .1) ∙ ap (λ (q : ℕ). if is s 6 q then q else function (tables s) q) is-held
-
-  pub kid-class : class (tables s) c ≡ (if is s 6 c && is s 4 p then p else class (tables s) p)
-  kid-class = class-step s ok c (omega (arith, bounds .0)) (bounds .1) ∙ ap (λ (q : ℕ). if is s 6 c && is s 4 q then q else class (tables s) q) is-held
-
 -- a kind in a run of kinds is one between its ends
 same-test : (x y : Bool) → (T x → T y) → (T y → T x) → x ≡ y
 same-test true true f g = refl
 same-test true false f g = absurd (f tt)
 same-test false true f g = absurd (g tt)
 same-test false false f g = refl
-
-pub in-from : (k a m : ℕ) → k ∈? from a m ≡ (leb a k && ltb k (a + m))
-in-from k a m =
-    same-test (k ∈? from a m) (leb a k && ltb k (a + m))
-    (λ h. let q = from-mem k a m (test-mem k (from a m) h) in and-both (leb a k) (ltb k (a + m)) (le→leb a k (q .0)) (lt→ltb k (a + m) (q .1)))
-    (λ h. let q = T-and (leb a k) (ltb k (a + m)) h in mem-test k (from a m) (mem-from k a m (leb→le a k (q .0)) (ltb→lt k (a + m) (q .1))))
 
 -- kinds from 60 on have no shape
 beyond-all : (k : ℕ) (d : Shape) (xs : List Shape) → T (every (map (λ x. ltb (x .of) 60) xs)) → 60 ≤ k → first (λ x. eqb (x .of) k) d xs ≡ d
@@ -154,10 +136,6 @@ beyond-all k d (x ∷ xs) h l =
 pub shape-beyond : (k : ℕ) → 60 ≤ k → shapeOf k ≡ shape k nought nought never
 shape-beyond k l = beyond-all k (shape k nought nought never) shapes tt l
 
--- what holds of the shapes of the numbers below 60, by one test that is computed
-pub shape-below : (test : ℕ → Shape → Bool) → T (all (λ k. test k (shapeOf k)) (from 0 60)) → (k : ℕ) → k < 60 → T (test k (shapeOf k))
-shape-below test h k l = all-below (λ k. test k (shapeOf k)) 60 h k l
-
 -- Question 3 answered: no, by a clause of a row that fails; yes, by all facts.
 every-fails : (bs : List Bool) (i : ℕ) → getD bs i true ≡ false → every bs ≡ false
 every-fails bs i e = go (every bs) refl
@@ -169,12 +147,6 @@ every-fails bs i e = go (every bs) refl
 and-false : (x : Bool) → (x && false) ≡ false
 and-false true = refl
 and-false false = refl
-
-pub sheet-refused : (n : ℕ) (s : Sheet) (r i : ℕ) → r < rows s → getD (rowClauses s (tables s) (links s) n r) i true ≡ false → sheetFits n s ≡ false
-sheet-refused n s r i l e =
-    ap (λ (t : Bool). headerFirst s && mainMarked s && t)
-    (all-fails (λ r. every (rowClauses s (tables s) (links s) n r)) (rows s) r l (every-fails (rowClauses s (tables s) (links s) n r) i e))
-    ∙ and-false (headerFirst s && mainMarked s)
 
 pub all-of : (p : ℕ → Bool) (k m : ℕ) → ((i : ℕ) → k ≤ i → i < k + m → T (p i)) → T (all p (from k m))
 all-of p k zero f = tt

@@ -1,20 +1,20 @@
 -- The tree of a sheet that fits: kinds of rows and their children, units and their functions, class declarations.
 use mathlib.Core.Path.{_≡_, refl, sym, ap, _∙_, subst}
-use mathlib.Core.Logic.{_⊎_, inl, inr, _≢_}
+use mathlib.Core.Logic.{_⊎_, inl, inr}
 use mathlib.Core.List.{List, [], _∷_, _++_, map, append-assoc}
 use mathlib.Core.Bool.{Bool, true, false, not, _&&_, _||_}
 use Prim.Native.Nat.{ℕ, zero, suc, _<_}
 use native.Mathlib.Omega.{arith}
-use lib.Dec.{eqb, leb, ltb, T, T-not, not-T, eqb→eq, leb→le, ltb→lt}
+use lib.Dec.{eqb, leb, ltb, T, T-not, eqb→eq, ltb→lt}
 use Rattle.definition.specs.Basics.{if_then_else_, _⇒_, filter, all, count, from, bit, _∈?_}
 use Rattle.definition.specs.Sheet.{Sheet, kind, a, b, rows, kids, is, kidsOf, holder}
 use Rattle.definition.specs.Shape.{Part, one, many, only, holds, fits, shapeOf}
-use Rattle.definition.specs.Format.{tables, at, parentTable, functionEntry, parent, namesApart, unit, function, class, ofUnit, ofClass}
+use Rattle.definition.specs.Format.{tables, at, parentTable, functionEntry, parent, namesApart, unit, function, class, ofUnit}
 use Rattle.definition.proofs.Lists.Tests.{T-and, and-both, or-cases, T-imp, T-true, eqb-of, ℕ-trichotomy}
-use Rattle.definition.proofs.Lists.Counts.{all-below, in-head, in-tail, in-cases, once-some, once-only}
+use Rattle.definition.proofs.Lists.Counts.{in-head, in-tail, in-cases, once-some, once-only}
 use Rattle.definition.proofs.Format.Shapes.{everyEdge, edge, fits-named, no-children, one-child, many-children}
 use Rattle.definition.proofs.Format.Tables.{table-at}
-use Rattle.definition.proofs.Format.Links.{kid-bounds, held, holder-of, header-held, parent-is, function-step, class-step}
+use Rattle.definition.proofs.Format.Links.{held, header-held, parent-is, function-step, class-step}
 use Rattle.definition.proofs.Format.Facts.{SheetFacts, header-kind, link-facts}
 
 kind-in : (f : ℕ → ℕ) (r : ℕ) (xs : List ℕ) → T (r ∈? xs) → T (f r ∈? map f xs)
@@ -34,11 +34,6 @@ module _ (n : ℕ) (s : Sheet) (ok : SheetFacts n s) where
   column-a k r h l =
       subst (λ (j : ℕ). T (holds s n (shapeOf j .a) (a s r))) (eqb→eq (kind s r) k h)
       (T-and (holds s n (shapeOf (kind s r) .a) (a s r)) (holds s n (shapeOf (kind s r) .b) (b s r)) (ok .row r l .columns) .0)
-
-  pub column-b : (k r : ℕ) → T (is s k r) → r < rows s → T (holds s n (shapeOf k .b) (b s r))
-  column-b k r h l =
-      subst (λ (j : ℕ). T (holds s n (shapeOf j .b) (b s r))) (eqb→eq (kind s r) k h)
-      (T-and (holds s n (shapeOf (kind s r) .a) (a s r)) (holds s n (shapeOf (kind s r) .b) (b s r)) (ok .row r l .columns) .1)
 
   -- What every kind with every kind of child passes, a row with a child of it passes, and a holder with its row.
   pub kid-edge : (test : ℕ → ℕ → Bool) → T (everyEdge test) → (p r : ℕ) → p < rows s → T (r ∈? kids s p) → T (test (kind s p) (kind s r))
@@ -140,16 +135,6 @@ module _ (s : Sheet) (wide : List ℕ) where
       )
 
 module _ (n : ℕ) (s : Sheet) (ok : SheetFacts n s) where
-  -- the last child of a unit is a function, the others are imports, exports and classes
-  pub unit-kids : (u : ℕ) → u < rows s → T (is s 2 u) → Ends s (3 ∷ 7 ∷ 8 ∷ 4 ∷ []) (kids s u)
-  unit-kids u l h =
-      let wide : List ℕ = 3 ∷ 7 ∷ 8 ∷ 4 ∷ [] in
-      end-many s wide 3 (many (only 7) ∷ many (only 8) ∷ many (only 4) ∷ one (only 6) ∷ []) tt
-      (end-many s wide 7 (many (only 8) ∷ many (only 4) ∷ one (only 6) ∷ []) tt
-      (end-many s wide 8 (many (only 4) ∷ one (only 6) ∷ []) tt
-      (end-many s wide 4 (one (only 6) ∷ []) tt (end-one s wide))))
-      (kids s u) (children-of n s ok 2 u h l)
-
   -- b 1 stands at a unit's function
   pub marked : (f : ℕ) → f < rows s → T (is s 6 f) → b s f ≡ bit (is s 2 (holder s f))
   marked f l h =
@@ -275,29 +260,6 @@ module _ (n : ℕ) (s : Sheet) (ok : SheetFacts n s) where
   not-kind : (j k r : ℕ) → kind s r ≡ j → T (not (eqb j k)) → T (not (is s k r))
   not-kind j k r e h = subst (λ (i : ℕ). T (not (eqb i k))) (sym e) h
 
-  -- in no literal, and in no class and so in no method,
-  pub declared-outside : (d : ℕ) → d < rows s → T (is s 30 d) → (x : ℕ) → Inside s x d → T (not (is s 52 x)) × T (not (is s 4 x))
-  declared-outside d l h x i =
-      let f = declared-in d l h in
-      let e : kind s d ≡ 30 = eqb→eq (kind s d) 30 h in
-      go (f .0) (omega (arith, f .2)) (f .3) (f .5)
-      (inner-plain x (f .1) (not-header n s ok 29 d h) l (subst (λ (k : ℕ). T (leb 20 k)) (sym e) tt, not-kind 30 52 d e tt) i)
-    where
-      small : (k : ℕ) → T (leb 20 k) → T (not (eqb k 4))
-      small k q = not-T (eqb k 4) (λ w. omega (arith, leb→le 20 k q, eqb→eq k 4 w))
-
-      at-kind : (k : ℕ) → kind s x ≡ k → T (not (eqb k 52)) → T (not (eqb k 4)) → T (not (is s 52 x)) × T (not (is s 4 x))
-      at-kind k e p q = (not-kind k 52 x e p, not-kind k 4 x e q)
-
-      above : (f : ℕ) → T (is s 6 f) → T (is s 2 (holder s f)) → (x ≡ f) ⊎ ((x ≡ holder s f) ⊎ (x ≡ 0)) → T (not (is s 52 x)) × T (not (is s 4 x))
-      above f g u (inl e) = at-kind 6 (ap (kind s) e ∙ eqb→eq (kind s f) 6 g) tt tt
-      above f g u (inr (inl e)) = at-kind 2 (ap (kind s) e ∙ eqb→eq (kind s (holder s f)) 2 u) tt tt
-      above f g u (inr (inr e)) = at-kind 0 (ap (kind s) e ∙ header-kind n s ok) tt tt
-
-      go : (f : ℕ) → f < rows s → T (is s 6 f) → T (is s 2 (holder s f)) → Plain x ⊎ Inside s x f → T (not (is s 52 x)) × T (not (is s 4 x))
-      go f lf g u (inl p) = (p .1, small (kind s x) (p .0))
-      go f lf g u (inr j) = above f g u (inside-function x lf u j)
-
   -- no class, no unit and no header lies in a function
   no-header-in : {r : ℕ} (f : ℕ) → T (is s 6 f) → Inside s f r → r ≡ 0 → ⊥
   no-header-in f h self e = omega (arith, eqb→eq (kind s f) 6 h, ap (kind s) e, header-kind n s ok)
@@ -328,17 +290,6 @@ module _ (n : ℕ) (s : Sheet) (ok : SheetFacts n s) where
       go true false x e = e
       go false u x e = e
 
-  -- and after all rows of its class's methods.
-  pub declared-last : (d : ℕ) → d < rows s → T (is s 30 d) → (f r : ℕ) → T (f ∈? kids s (a s d)) → T (is s 6 f) → Inside s f r → r < rows s → r < d
-  declared-last d l h f r m k i lr =
-      let c = declares-class d l h in
-      let bf = kid-bounds s (link-facts n s ok) (a s d) f (c .0) m in
-      let e : holder s f ≡ a s d = holder-of s (link-facts n s ok) f (a s d) (c .0) m in
-      let t : class (tables s) r ≡ a s d = class-inside f (bf .1) k (subst (λ (p : ℕ). T (is s 4 p)) (sym e) (c .1)) lr i ∙ e in
-      let test : ℕ → Bool = λ m. eqb (class (tables s) m) (a s d) ⇒ ltb m d in
-      ltb→lt r d (T-imp (eqb (class (tables s) r) (a s d)) (ltb r d)
-      (all-below test (rows s) (T-imp (is s 30 d) (all test (from 0 (rows s))) (ok .row d l .after) h) r lr) (eqb-of (class (tables s) r) (a s d) t))
-
   -- every class has one declaration
   once-declared : (c : ℕ) → c < rows s → T (is s 4 c) → count (λ d. is s 30 d && eqb (a s d) c) (from 0 (rows s)) ≡ 1
   once-declared c l h =
@@ -357,36 +308,5 @@ module _ (n : ℕ) (s : Sheet) (ok : SheetFacts n s) where
       once-only (λ x. is s 30 x && eqb (a s x) (a s d)) (rows s) (once-declared (a s d) (c .0) (c .1)) d e ld le
       (and-both (is s 30 d) _ hd (eqb-of (a s d) (a s d) refl)) (and-both (is s 30 e) _ he (eqb-of (a s e) (a s d) (sym w)))
 
-  -- In one unit no two classes and no two exports of a kind share a name, nor two fields or two methods of a class.
-  pub unit-names : (u : ℕ) → u < rows s → T (is s 2 u) → T (namesApart s 4 u) × T (namesApart s 7 u) × T (namesApart s 8 u)
-  unit-names u l h =
-      let q = T-and (namesApart s 4 u && namesApart s 7 u) (namesApart s 8 u) (T-imp (is s 2 u) (namesApart s 4 u && namesApart s 7 u && namesApart s 8 u) (ok .row u l .unit-apart) h) in
-      let p = T-and (namesApart s 4 u) (namesApart s 7 u) (q .0) in
-      (p .0, p .1, q .1)
-
   pub class-names : (c : ℕ) → c < rows s → T (is s 4 c) → T (namesApart s 10 c) × T (namesApart s 6 c)
   class-names c l h = T-and (namesApart s 10 c) (namesApart s 6 c) (T-imp (is s 4 c) (namesApart s 10 c && namesApart s 6 c) (ok .row c l .class-apart) h)
-
-  -- a method has a name
-  pub method-named : (f : ℕ) → f < rows s → T (is s 6 f) → T (is s 4 (holder s f)) → a s f ≢ 0
-  method-named f l h c e =
-      T-not (eqb (a s f) 0)
-      (T-imp (ofClass s (tables s) f) (not (eqb (a s f) 0)) (ok .row f l .named)
-      (and-both (is s 6 f) (is s 4 (parent (tables s) f)) h
-      (subst (λ (p : ℕ). T (is s 4 p)) (sym (parent-is s (link-facts n s ok) f l)) c)))
-      (eqb-of (a s f) 0 e)
-
-  -- a literal's class is of its own unit
-  pub literal-unit : (r : ℕ) → r < rows s → T (is s 52 r) → a s r ≢ 0 → T (is s 4 (a s r)) × (a s r < rows s) × (unit (tables s) (a s r) ≡ unit (tables s) r)
-  literal-unit r l h z = go (or-cases (eqb (a s r) 0) (ltb (a s r) (rows s) && is s 4 (a s r)) (column-a n s ok 52 r h l))
-    where
-      go : T (eqb (a s r) 0) ⊎ T (ltb (a s r) (rows s) && is s 4 (a s r)) → T (is s 4 (a s r)) × (a s r < rows s) × (unit (tables s) (a s r) ≡ unit (tables s) r)
-      go (inl x) = absurd (z (eqb→eq (a s r) 0 x))
-      go (inr x) =
-          let q = T-and (ltb (a s r) (rows s)) (is s 4 (a s r)) x in
-          let test = eqb (unit (tables s) (a s r)) (unit (tables s) r) in (
-            q .1,
-            ltb→lt (a s r) (rows s) (q .0),
-            eqb→eq (unit (tables s) (a s r)) (unit (tables s) r) (T-imp (is s 52 r && not (eqb (a s r) 0)) test (ok .row r l .literal)
-                (and-both (is s 52 r) (not (eqb (a s r) 0)) h (not-T (eqb (a s r) 0) (λ y. z (eqb→eq (a s r) 0 y))))),
-          )

@@ -59,6 +59,9 @@ seen-in-requires c κs =
 write-decl-requires : tie.Need-write-decl-requires
 write-decl-requires c κs = search needs
 
+with-store-requires : tie.Need-with-store-requires
+with-store-requires c κs = search needs
+
 same-length : tie.Need-same-length
 same-length c = search needs
 
@@ -67,7 +70,7 @@ same-length-2 c = search needs
 
 returns-3 : tie.Need-returns-3
 returns-3 c =
-    let at-capture = c .before .before .before .before .before .before .before .before .before .before .before in
+    let at-capture = c .before .before .before .before .before .before .before .before .before .before .before .before in
     let at-if1 = at-capture .before .before .before .before .before .before .before .before .before .before in
     let start = at-if1 .before .before .before .before .before .before in
     let if1 = at-if1 .if1 in
@@ -76,27 +79,16 @@ returns-3 c =
     let is-declared = at-capture .before .before .before .before .before .is-declared in
     let if2 = at-capture .before .before .before .before .if2 in
     let capture = at-capture .capture in
-    let seen-in = c .before .before .before .before .seen-in in
-    λ O. ident-yes O (start .args .sheet .now) (start .args .row)
+    let seen-in = c .before .before .before .before .before .seen-in in
+    λ O. c .with-store .ensures _ _ _
+    ∙ ident-yes O (start .args .sheet .now) (start .args .row)
     (stateOf (start .args .walk) (start .args .entries .now) (start .args .results .now) (start .args .nodes .now))
     (if1 .left) (start .pre .1) _ _ (word .ensures) (lookup .ensures .0) _ _ _ _ _ (lookup .ensures .1)
     (lookup .ensures .2) (sym (is-declared .ensures) ∙ not-false (is-declared .result) (if2 .left)) (capture .ensures)
-    (told-four (seen-in .result) ∙ seen-in .ensures _) (c .before .before .write-decl .ensures _ _)
+    (told-four (seen-in .result) ∙ seen-in .ensures _) (c .before .before .before .write-decl .ensures _ _)
 
 pub resolve-ident-spec : {M : Type 1} → statement M
 resolve-ident-spec =
-    tie.close
-    (tie.spec
-    returns
-    word-requires
-    lookup-requires
-    is-declared-requires
-    undeclared-requires
-    refuse-requires
-    returns-2
-    capture-requires
-    seen-in-requires
-    write-decl-requires
-    same-length
-    same-length-2
+    tie.close (tie.spec returns word-requires lookup-requires is-declared-requires undeclared-requires refuse-requires
+    returns-2 capture-requires seen-in-requires write-decl-requires with-store-requires same-length same-length-2
     returns-3)

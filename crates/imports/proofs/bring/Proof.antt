@@ -66,6 +66,9 @@ returns-3 c =
 define-requires : tie.Need-define-requires
 define-requires c κs = search needs
 
+with-env-requires : tie.Need-with-env-requires
+with-env-requires c κs = search needs
+
 same-length-2 : tie.Need-same-length-2
 same-length-2 c = search needs
 
@@ -79,27 +82,16 @@ returns-4 c =
     let if2 = c .before .before .before .before .before .before .before .before .if2 in
     let has-local = c .before .before .before .before .before .before .has-local in
     let if3 = c .before .before .before .before .before .if3 in
-    λ O t q. bring-new O (start .args .sheet .now) (start .args .i) (start .args .m)
+    λ O t q. c .with-env .ensures _ t q
+    ∙ bring-new O (start .args .sheet .now) (start .args .i) (start .args .m)
     (exportOf (start .args .sheet .now) (start .args .x)) (stateOf (start .args .walk) (start .args .entries .now) t q)
     (if1 .left) (declared-as (exportOf (start .args .sheet .now) (start .args .x))
     (scopesOf (start .args .walk .env) (start .args .entries .now)) (exported .ensures (start .args .entries .now))
     (is-declared .ensures) (not-false (is-declared .result) (if2 .left)))
-    (sym (has-local .ensures) ∙ if3 .left) (c .before .before .define .ensures
+    (sym (has-local .ensures) ∙ if3 .left) (c .before .before .before .define .ensures
     (exportOf (start .args .sheet .now) (start .args .x)) (exported .ensures (start .args .entries .now)))
 
 pub bring-spec : {M : Type 1} → statement M
 bring-spec =
-    tie.close
-    (tie.spec
-    returns
-    exported-requires
-    is-declared-requires
-    refuse-requires
-    returns-2
-    has-local-requires
-    refuse-requires-2
-    same-length
-    returns-3
-    define-requires
-    same-length-2
-    returns-4)
+    tie.close (tie.spec returns exported-requires is-declared-requires refuse-requires returns-2 has-local-requires
+    refuse-requires-2 same-length returns-3 define-requires with-env-requires same-length-2 returns-4)

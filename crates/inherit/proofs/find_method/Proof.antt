@@ -8,7 +8,7 @@ use Rattle.definition.specs.Classes.{methodOf}
 use borrow.Author.Needs.{needs}
 use native.Mathlib.Omega.{arith}
 use Prim.Native.Nat.{ℕ}
-use mathlib.Core.Path.{_≡_, refl, sym, _∙_}
+use mathlib.Core.Path.{_≡_, refl, _∙_}
 use mathlib.Core.List.{List}
 use Rattle.inherit.proofs.find_method.Statement.{statement}
 use Rattle.inherit.proofs.find_method.Tie as tie

@@ -1,9 +1,8 @@
-use mathlib.Core.Path.{_≡_, refl, sym, _∙_, subst}
-use Prim.Native.Nat.{ℕ, _≤_, _<_, _+_, _*_, _-_}
+use mathlib.Core.Path.{_≡_, refl, _∙_}
+use Prim.Native.Nat.{_≤_, _<_, _+_, _*_, _-_}
 use native.Mathlib.Omega.{arith}
 use lib.ListN.{length, getD, length-set}
 use Rattle.definition.specs.Sheet.{next, child}
-use borrow.Author.Count.{below-more}
 use Rattle.links.proofs.LinkLaws.{Counted, more, counted-none, counted-next, more-le, link-below, linked-le, counted-all}
 use Rattle.links.proofs.count_links.Statement.{statement}
 use Rattle.links.proofs.count_links.Tie as tie

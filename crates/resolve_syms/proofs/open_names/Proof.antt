@@ -1,11 +1,11 @@
 use Rattle.resolve_syms.proofs.StartLaws.{namesFrom, names-last, names-more, names-all}
 use Rattle.symbols.specs.OpenScopes.{scopesOf}
-use Rattle.outside.specs.Words.{nameAt, over}
+use Rattle.outside.specs.Words.{nameAt}
 use Rattle.machine.specs.Machine.{noScopes, openNames}
 use lib.ListN.{length}
 use native.Mathlib.Omega.{arith}
-use Prim.Native.Nat.{ℕ, _-_, _≤_, min}
-use mathlib.Core.Path.{_≡_, refl, ap, _∙_}
+use Prim.Native.Nat.{_-_, _≤_, min}
+use mathlib.Core.Path.{_≡_, refl, _∙_}
 use Rattle.resolve_syms.proofs.open_names.Statement.{statement}
 use Rattle.resolve_syms.proofs.open_names.Tie as tie
 use Rattle.resolve_syms.proofs.open_names.Reads as reads

@@ -1,6 +1,6 @@
 use Rattle.definition.specs.Sheet.{word}
 use Rattle.outside.specs.Words.{nameAt}
-use borrow.Author.Tests.{ne-eqb, eq-eqb}
+use borrow.Author.Tests.{ne-eqb}
 use mathlib.Core.Path.{sym, _∙_}
 use borrow.Author.Needs.{needs}
 use Rattle.resolve_syms.proofs.visible_at.Statement.{statement}

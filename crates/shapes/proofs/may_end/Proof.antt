@@ -1,7 +1,6 @@
 use mathlib.Core.Path.{sym, ap}
 use mathlib.Core.List.{[], _∷_}
-use Prim.Native.Nat.{ℕ, _+_, _/_, _%_}
-use native.Mathlib.Omega.{arith}
+use Prim.Native.Nat.{ℕ}
 use lib.Dec.{eqb}
 use Rattle.shapes.specs.States.{entryOf, stateTable}
 use Rattle.shapes.proofs.TableLaws.{no-row}

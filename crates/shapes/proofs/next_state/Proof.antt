@@ -17,7 +17,7 @@ state-by-key-requires c κs = search needs
 returns : tie.Need-returns
 returns c =
     let start = c .before .before .before in
-    c .state-by-key .ensures ∙ keyed (start .args .state) (start .args .class) (c .before .if2 .taken)
+    c .state-by-key .ensures ∙ keyed (start .args .state) (start .args .sort) (c .before .if2 .taken)
 
 returns-2 : tie.Need-returns-2
 returns-2 c = sym (no-class _ _ (c .before .if1 .taken) (c .if2 .left))

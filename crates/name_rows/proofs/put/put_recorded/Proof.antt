@@ -1,6 +1,6 @@
 use Rattle.name_rows.proofs.PutLaws.{spaced-end, spaced-next}
-use Rattle.name_rows.specs.Put.{filled, nameRow, putAll, putNew}
-use Rattle.class_names.specs.Names.{inherited, newOf}
+use Rattle.name_rows.specs.Put.{filled, nameRow, putNew}
+use Rattle.class_names.specs.Names.{inherited}
 use Rattle.store.specs.declared.nodes.Store.{Store}
 use Rattle.store.specs.Stored.{storeOf}
 use Rattle.outside.proofs.RecordLaws.{step-few}
@@ -9,7 +9,6 @@ use borrow.Author.Needs.{needs}
 use lib.ListN.{length}
 use native.Mathlib.Omega.{arith}
 use Prim.Native.Nat.{ℕ, _+_, _*_, _≤_}
-use mathlib.Core.List.{List}
 use mathlib.Core.Path.{_≡_, refl, ap, _∙_}
 use Rattle.name_rows.proofs.put.put_recorded.Statement.{statement}
 use Rattle.name_rows.proofs.put.put_recorded.Tie as tie

@@ -1,8 +1,8 @@
 use borrow.Author.Needs.{needs}
 use Rattle.outside.proofs.RecordLaws.{sought, told, sought-none, sought-here, sought-next, all-sought}
 use native.Mathlib.Omega.{arith}
-use Prim.Native.Nat.{ℕ, _+_, _-_, _<_, _≤_}
-use mathlib.Core.Path.{_≡_, refl, sym, ap, _∙_}
+use Prim.Native.Nat.{_+_, _-_}
+use mathlib.Core.Path.{_≡_, refl, ap, _∙_}
 use Rattle.outside.proofs.records.find_record.Statement.{statement}
 use Rattle.outside.proofs.records.find_record.Tie as tie
 use Rattle.outside.proofs.records.find_record.Reads as reads

@@ -2,10 +2,9 @@ use Rattle.outside.proofs.RecordLaws.{step-few}
 use Rattle.outside.proofs.RecordLaws.{spaced-none, spaced-here, spaced-next}
 use Rattle.outside.specs.Words.{spacedAt}
 use Rattle.definition.specs.Basics.{_∈?_}
-use borrow.Author.Needs.{needs}
 use native.Mathlib.Omega.{arith}
 use Prim.Native.Nat.{ℕ, _+_, _*_, _≤_}
-use mathlib.Core.Path.{_≡_, refl, sym, ap, _∙_}
+use mathlib.Core.Path.{_≡_, refl, ap, _∙_}
 use Rattle.outside.proofs.records.is_listed.Statement.{statement}
 use Rattle.outside.proofs.records.is_listed.Tie as tie
 use Rattle.outside.proofs.records.is_listed.Reads as reads

@@ -1,5 +1,4 @@
 use Rattle.outside.proofs.RecordLaws.{own-number, own-listed, own-recorded}
-use mathlib.Core.Path.{_∙_}
 use borrow.Author.Needs.{needs}
 use Rattle.outside.proofs.records.own_method.Statement.{statement}
 use Rattle.outside.proofs.records.own_method.Tie as tie

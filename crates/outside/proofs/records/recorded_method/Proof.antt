@@ -4,8 +4,8 @@ use Rattle.outside.specs.Words.{methodsAt}
 use Rattle.definition.specs.Outside.{Method}
 use Rattle.definition.specs.Classes.{methodOf}
 use native.Mathlib.Omega.{arith}
-use Prim.Native.Nat.{ℕ, _+_, _*_, _≤_}
-use mathlib.Core.Path.{_≡_, refl, sym, ap, _∙_}
+use Prim.Native.Nat.{_+_, _*_, _≤_}
+use mathlib.Core.Path.{_≡_, refl, ap, _∙_}
 use Rattle.outside.proofs.records.recorded_method.Statement.{statement}
 use Rattle.outside.proofs.records.recorded_method.Tie as tie
 use Rattle.outside.proofs.records.recorded_method.Reads as reads

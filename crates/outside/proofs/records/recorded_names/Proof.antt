@@ -1,7 +1,7 @@
 use Rattle.outside.proofs.RecordLaws.{method-names}
 use Rattle.definition.specs.Outside.{Method}
 use mathlib.Core.Path.{ap}
-use mathlib.Core.List.{List, map}
+use mathlib.Core.List.{map}
 use borrow.Author.Tests.{eq-eqb, ne-eqb}
 use mathlib.Core.Path.{_∙_}
 use borrow.Author.Needs.{needs}

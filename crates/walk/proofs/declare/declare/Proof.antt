@@ -32,9 +32,8 @@ same-length c = search needs
 
 returns-2 : tie.Need-returns-2
 returns-2 c =
-    let at-if1 = c .before .before .before .before .before .before .before .before in
-    let start = at-if1 .before .before .before .before .before in
-    let if1 = at-if1 .if1 in
+    let start = c .before .before .before .before .before .before .before .before .before .before .before .before in
+    let if1 = c .before .before .before .before .before .before .before .if1 in
     let word = c .before .before .before .before .before .word in
     λ O q. declare-no O (start .args .sheet .now) (start .args .row)
     (stateOf (start .args .walk) (start .args .entries .now) (start .args .results .now) q) (if1 .left) _
@@ -47,8 +46,7 @@ declared-by-requires c κs = search needs
 
 store-let-requires : tie.Need-store-let-requires
 store-let-requires c κs =
-    let midway = c .before .before .before .before .before .before .before .before .before .before .before .before in
-    let start = midway .before in (
+    let start = c .before .before .before .before .before .before .before .before .before .before .before .before in (
       start .pre,
       new-declared (start .args .sheet .now) (start .args .row)
           (scopesOf (start .args .walk .env) (start .args .entries .now)) _
@@ -58,6 +56,9 @@ store-let-requires c κs =
 define-requires : tie.Need-define-requires
 define-requires c κs = search needs
 
+with-env-requires : tie.Need-with-env-requires
+with-env-requires c κs = search needs
+
 same-length-2 : tie.Need-same-length-2
 same-length-2 c = search needs
 
@@ -66,17 +67,18 @@ same-length-3 c = search needs
 
 returns-3 : tie.Need-returns-3
 returns-3 c =
-    let at-word = c .before .before .before .before .before .before .before .before .before .before .before .before in
-    let start = at-word .before .before .before .before .before .before .before .before in
-    let if1 = at-word .before .before .before .if1 in
-    let word = at-word .word in
-    let has-local = c .before .before .before .before .before .before .before .before .before .before .has-local in
-    let if2 = c .before .before .before .before .before .before .before .before .before .if2 in
-    let declared-by = c .before .before .before .before .before .before .before .before .declared-by in
-    let store-let = c .before .before .before .before .before .before .store-let in
-    λ O q. declare-yes O (start .args .sheet .now) (start .args .row)
+    let at-has-local = c .before .before .before .before .before .before .before .before .before .before .before in
+    let start = at-has-local .before .before .before .before .before .before .before .before .before in
+    let if1 = at-has-local .before .before .before .before .if1 in
+    let word = at-has-local .before .before .word in
+    let has-local = at-has-local .has-local in
+    let if2 = c .before .before .before .before .before .before .before .before .before .before .if2 in
+    let declared-by = c .before .before .before .before .before .before .before .before .before .declared-by in
+    let store-let = c .before .before .before .before .before .before .before .store-let in
+    λ O q. c .with-env .ensures _ _ q
+    ∙ declare-yes O (start .args .sheet .now) (start .args .row)
     (stateOf (start .args .walk) (start .args .entries .now) (start .args .results .now) q) (if1 .left) _
-    (word .ensures) (sym (has-local .ensures) ∙ if2 .left) (c .before .before .define .ensures
+    (word .ensures) (sym (has-local .ensures) ∙ if2 .left) (c .before .before .before .define .ensures
     (newMeaning (start .args .sheet .now) (start .args .row)
     (scopesOf (start .args .walk .env) (start .args .entries .now)))
     (declared-by .ensures (start .args .entries .now)))
@@ -85,18 +87,6 @@ returns-3 c =
 
 pub declare-spec : {M : Type 1} → statement M
 declare-spec =
-    tie.close
-    (tie.spec
-    returns
-    word-requires
-    has-local-requires
-    declare-question-requires
-    refuse-requires
-    same-length
-    returns-2
-    declared-by-requires
-    store-let-requires
-    define-requires
-    same-length-2
-    same-length-3
+    tie.close (tie.spec returns word-requires has-local-requires declare-question-requires refuse-requires same-length
+    returns-2 declared-by-requires store-let-requires define-requires with-env-requires same-length-2 same-length-3
     returns-3)

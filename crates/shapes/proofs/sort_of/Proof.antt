@@ -1,13 +1,10 @@
 use mathlib.Core.Path.{sym}
 use mathlib.Core.List.{[], _∷_}
-use Prim.Native.Nat.{ℕ, _+_, _/_, _%_}
-use native.Mathlib.Omega.{arith}
-use lib.Dec.{eqb}
 use Rattle.shapes.specs.States.{entryOf, kindTable}
 use Rattle.shapes.proofs.TableLaws.{no-row}
 use Rattle.shapes.proofs.Matching.{at-key, none-of}
-use Rattle.shapes.proofs.class_of.Statement.{statement}
-use Rattle.shapes.proofs.class_of.Tie as tie
+use Rattle.shapes.proofs.sort_of.Statement.{statement}
+use Rattle.shapes.proofs.sort_of.Tie as tie
 
 returns : tie.Need-returns
 returns c = sym (at-key (λ k. entryOf kindTable k 0) 2 1 tt (c .before .args .kind) (c .match .keys1))
@@ -136,8 +133,8 @@ returns-41 c =
     ∷ 3 ∷ 2 ∷ [])
     tt (λ k h. no-row kindTable k 0 h) (c .before .args .kind) (c .match .rest))
 
-pub class-of-spec : {M : Type 1} → statement M
-class-of-spec =
+pub sort-of-spec : {M : Type 1} → statement M
+sort-of-spec =
     tie.close (tie.spec returns returns-2 returns-3 returns-4 returns-5 returns-6 returns-7 returns-8 returns-9
     returns-10 returns-11 returns-12 returns-13 returns-14 returns-15 returns-16 returns-17 returns-18 returns-19
     returns-20 returns-21 returns-22 returns-23 returns-24 returns-25 returns-26 returns-27 returns-28 returns-29
