@@ -1,60 +1,27 @@
 -- The start of the walk: the outermost scope, and the header, at which nothing happens.
 use mathlib.Core.Path.{_≡_, sym, ap, subst, _∙_}
-use mathlib.Core.List.{List, [], _∷_, map}
+use mathlib.Core.List.{List, []}
 use mathlib.Core.Bool.{_&&_}
-use Prim.Native.Nat.{ℕ, zero, suc, _-_, _*_, _<_, _≤_, min}
+use Prim.Native.Nat.{ℕ, _-_, _*_, _≤_}
 use native.Mathlib.Omega.{arith}
 use lib.Dec.{eqb, leb, eqb→eq}
 use lib.ListN.{length}
 use Rattle.definition.specs.Basics.{from}
-use Rattle.definition.specs.Sheet.{Sheet, word, kind, rows}
-use Rattle.definition.specs.Meaning.{Named}
+use Rattle.definition.specs.Sheet.{Sheet, kind, rows}
 use Rattle.definition.specs.Outside.{Outside}
-use Rattle.outside.specs.Words.{nameAt, over}
 use Rattle.definition.specs.Walk.{walk, before, after}
 use Rattle.definition.specs.Format.{sheetFits}
 use Rattle.definition.specs.Question.{none}
 use Rattle.definition.proofs.Lists.Tests.{true-of, and-left}
 use Rattle.definition.proofs.Format.Accepted.{some-row}
 use Rattle.definition.proofs.Walk.Fitting.{fits}
-use Rattle.machine.specs.Machine.{State, Scopes, pushName, openNames, noScopes, startState, runState}
+use Rattle.machine.specs.Machine.{State, Scopes, openNames, noScopes, startState, runState}
 use Rattle.machine.specs.Reads.{PastFour, Walked}
 use Rattle.machine.proofs.Theorems.{rows-few, walk-refines}
 use Rattle.row_events.specs.Prepared.{Lent}
 use Rattle.resolve_syms.specs.Walked.{walked, partsWalked}
 use Rattle.resolve_syms.proofs.WalkLaws.{walk-by}
 use Rattle.row_events.proofs.RowLaws.{runs-none}
-
--- the names of the rows from row i to row n
-abbrev pub namesFrom : List ℕ → ℕ → ℕ → List Named
-namesFrom w i n = map (nameAt w) (from i (n - i))
-
-pub names-last : (s : Sheet) (w : List ℕ) (n : ℕ) (p : Scopes) → p ≡ openNames s (namesFrom w n n) p
-names-last s w n p = let z : n - n ≡ 0 = omega arith in sym (ap (λ (k : ℕ). openNames s (map (nameAt w) (from n k)) p) z)
-
--- one name more, that of the row before row i
-pub names-more : (s : Sheet) (w : List ℕ) (i n : ℕ) (p q : Scopes) {m : ℕ} → 1 < i → i ≤ n → q ≡ openNames s (namesFrom w i n) p → m ≡ word w (i - 1) 0
-    → pushName s m (nameAt w (i - 1) .means) q ≡ openNames s (namesFrom w (i - 1) n) p
-unfolding nameAt
-names-more s w i n p q {m} l h e g =
-    ap (λ (k : ℕ). pushName s k (nameAt w (i - 1) .means) q) g ∙ ap (pushName s (word w (i - 1) 0) (nameAt w (i - 1) .means)) e
-    ∙ sym (ap (λ (xs : List Named). openNames s xs p) (ap (λ (k : ℕ). map (nameAt w) (from (i - 1) k)) more ∙ ap (λ (k : ℕ). nameAt w (i - 1) ∷ map (nameAt w) (from k (n - i))) next))
-  where
-    more : n - (i - 1) ≡ suc (n - i)
-    more = omega arith
-
-    next : suc (i - 1) ≡ i
-    next = omega arith
-
--- all names: no row is left before row i
-pub names-all : (s : Sheet) (w : List ℕ) (i n : ℕ) (p : Scopes) {q : Scopes} → i ≤ 1 → i ≤ n → min n 1 ≤ i → n ≡ word w 0 0 → q ≡ openNames s (namesFrom w i n) p
-    → q ≡ openNames s (over w .names) p
-unfolding over
-names-all s w i n p l h f g e = e ∙ ap (λ (xs : List Named). openNames s xs p) (by n l h f ∙ ap (λ (k : ℕ). map (nameAt w) (from 1 (k - 1))) g)
-  where
-    by : (n : ℕ) → i ≤ 1 → i ≤ n → min n 1 ≤ i → namesFrom w i n ≡ map (nameAt w) (from 1 (n - 1))
-    by zero l h f = let z : 0 - i ≡ 0 = omega arith in ap (λ (k : ℕ). map (nameAt w) (from i k)) z
-    by (suc m) l h f = let z : i ≡ 1 = omega arith in ap (λ (k : ℕ). map (nameAt w) (from k (suc m - k))) z
 
 -- nothing happens at the header but the walk of its parts, the units
 before-header : (s : Sheet) (r : ℕ) → kind s r ≡ 0 → before s r ≡ []

@@ -8,7 +8,7 @@ use Rattle.resolve_syms.proofs.resolve_units.Reads as reads
 use Rattle.resolve_syms.proofs.resolve_units.Lts as lts
 use Rattle.classes.proofs.class_table.Reads as class-table-reads
 use Rattle.resolve_syms.proofs.cycle.resolve_parts.Reads as resolve-parts-reads
-use Rattle.resolve_syms.proofs.open_names.Reads as open-names-reads
+use Rattle.outermost.proofs.open_names.Reads as open-names-reads
 
 class-table-requires : tie.Need-class-table-requires
 class-table-requires c κs =

@@ -3,10 +3,10 @@ use Rattle.outside.specs.Words.{nameAt}
 use borrow.Author.Tests.{ne-eqb}
 use mathlib.Core.Path.{sym, _∙_}
 use borrow.Author.Needs.{needs}
-use Rattle.resolve_syms.proofs.visible_at.Statement.{statement}
-use Rattle.resolve_syms.proofs.visible_at.Tie as tie
-use Rattle.resolve_syms.proofs.visible_at.Reads as reads
-use Rattle.resolve_syms.proofs.visible_at.Lts as lts
+use Rattle.outermost.proofs.visible_at.Statement.{statement}
+use Rattle.outermost.proofs.visible_at.Tie as tie
+use Rattle.outermost.proofs.visible_at.Reads as reads
+use Rattle.outermost.proofs.visible_at.Lts as lts
 use Rattle.words.proofs.word.Reads as word-reads
 
 word-requires : tie.Need-word-requires

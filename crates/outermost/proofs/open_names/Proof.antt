@@ -1,4 +1,4 @@
-use Rattle.resolve_syms.proofs.StartLaws.{namesFrom, names-last, names-more, names-all}
+use Rattle.outermost.proofs.OpenedLaws.{namesFrom, names-last, names-more, names-all}
 use Rattle.symbols.specs.OpenScopes.{scopesOf}
 use Rattle.outside.specs.Words.{nameAt}
 use Rattle.machine.specs.Machine.{noScopes, openNames}
@@ -6,11 +6,11 @@ use lib.ListN.{length}
 use native.Mathlib.Omega.{arith}
 use Prim.Native.Nat.{_-_, _≤_, min}
 use mathlib.Core.Path.{_≡_, refl, _∙_}
-use Rattle.resolve_syms.proofs.open_names.Statement.{statement}
-use Rattle.resolve_syms.proofs.open_names.Tie as tie
-use Rattle.resolve_syms.proofs.open_names.Reads as reads
-use Rattle.resolve_syms.proofs.open_names.Lts as lts
-use Rattle.resolve_syms.proofs.visible_at.Reads as visible-at-reads
+use Rattle.outermost.proofs.open_names.Statement.{statement}
+use Rattle.outermost.proofs.open_names.Tie as tie
+use Rattle.outermost.proofs.open_names.Reads as reads
+use Rattle.outermost.proofs.open_names.Lts as lts
+use Rattle.outermost.proofs.visible_at.Reads as visible-at-reads
 use Rattle.symbols.proofs.decl.define.Reads as define-reads
 use Rattle.words.proofs.word.Reads as word-reads
 
