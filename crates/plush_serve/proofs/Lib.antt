@@ -1,0 +1,2 @@
+-- A step of the proofs.
+mod Laws
