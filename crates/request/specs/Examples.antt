@@ -4,7 +4,6 @@ use mathlib.Core.List.{List, [], _∷_, _++_, map}
 use Prim.Native.Nat.{ℕ}
 use lib.ListN.{take}
 use Rattle.definition.specs.Text.{textOf}
-use Rattle.request.specs.declared.Request.{Request}
 use Rattle.request.specs.Header.{largest, brokenBy, told, requestOf}
 
 -- the header of eight numbers

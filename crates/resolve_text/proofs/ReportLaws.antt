@@ -5,7 +5,7 @@ use mathlib.Core.List.{List, [], _∷_, _++_, append-assoc}
 use Prim.Native.Nat.{ℕ, zero, suc, _+_, _-_, _*_, _<_, _≤_}
 use native.Mathlib.Omega.{arith}
 use native.Mathlib.Decide.{decLe}
-use lib.ListN.{length, getD, set, take, drop, replicate, length-append, length-take, length-drop}
+use lib.ListN.{length, getD, set, take, drop, replicate, length-append, length-drop}
 use lib.Dec.{T, leb, leb→le}
 use lib.Seq.{sets-eq, drop-length, take-at, drop-at, take-append-add, length-take-le}
 use borrow.Author.Tests.{le-leb, lt-leb}

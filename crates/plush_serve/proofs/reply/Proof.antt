@@ -13,7 +13,8 @@ slice-reshare-prefix-write-all : tie.Need-slice-reshare-prefix-write-all
 slice-reshare-prefix-write-all c = reply-within _ _ _ _ _ _ (c .before .before .resolve-lent .ensures)
 
 slice-aggregate-write-all : tie.Need-slice-aggregate-write-all
-slice-aggregate-write-all c = sym (length-take-le _ _ (reply-within _ _ _ _ _ _ (c .before .before .before .resolve-lent .ensures)))
+slice-aggregate-write-all c =
+    sym (length-take-le _ _ (reply-within _ _ _ _ _ _ (c .before .before .before .resolve-lent .ensures)))
 
 write-all-requires : tie.Need-write-all-requires
 write-all-requires c κs = search needs

@@ -72,10 +72,11 @@ returns c =
     let start = at-read-sheet .before .before .before .before .before .before .before in
     let read-sheet = at-read-sheet .read-sheet in
     let write-report = c .before .before .before .before .before .before .before .write-report in
-    printed-rows (start .args .lent) (start .args .sheet .now) (start .args .names .now) (start .args .text .now) (read-sheet .result)
-    (write-report .result) _ (read-sheet .last .1 .0) (write-report .last .1 .1 .1 .0) _ (start .pre .0)
-    (subst (λ (n : ℕ). SheetRead (start .args .sheet .now) n (read-sheet .result) (read-sheet .last .1 .0))
-    (start .pre .1) (read-sheet .ensures))
+    printed-rows (start .args .lent) (start .args .sheet .now) (start .args .names .now) (start .args .text .now)
+    (read-sheet .result) (write-report .result) _ (read-sheet .last .1 .0) (write-report .last .1 .1 .1 .0) _
+    (start .pre .0) (subst
+    (λ (n : ℕ). SheetRead (start .args .sheet .now) n (read-sheet .result) (read-sheet .last .1 .0)) (start .pre .1)
+    (read-sheet .ensures))
     (write-report .ensures) (c .before .before .write-rows .ensures) (start .pre .3)
 
 pub print-report-spec : {M : Type 1} → statement M

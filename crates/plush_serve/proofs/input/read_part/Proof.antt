@@ -24,8 +24,9 @@ same-length c = search needs
 returns : tie.Need-returns
 returns c =
     let start = c .before .before .before .before .before .before in
+    let if1 = c .before .before .before .before .if1 in
     let read-full = c .before .before .read-full in
-    let room = length-take-le (start .args .n) (start .args .bytes .now) (omega (arith, c .before .before .before .before .if1 .taken)) in
+    let room = length-take-le (start .args .n) (start .args .bytes .now) (omega (arith, if1 .taken)) in
     counts-start (start .args .n) _ _ _ (read-full .ensures) (omega (arith, read-full .kept .1 .0, room))
 
 read-full-requires-2 : tie.Need-read-full-requires-2
