@@ -1,10 +1,10 @@
-"""compare_program.py REPLAY ORACLE COUNT [SEED]
+"""compare_program.py PROGRAM ORACLE COUNT [SEED]
 
-Compares the program crates/replay, built as REPLAY, with the oracle, byte by byte: COUNT random cases, in batches. Most are
-sheets of up to some hundred rows, some of more than the 320 up to which the resolver makes less scratch space; one in ten is
-damaged, so that most often questions 1 to 4 refuse it, and there format_check.py says what the program must print. Prints the
-counts by question and, of every case that differs, the sheet, its names and both outputs, those of fewest rows first. Exit
-status 1 if one differs.
+Compares the program crates/plush_serve, built as PROGRAM, with the oracle, byte by byte: COUNT random cases, in batches. Most
+are sheets of up to some hundred rows, some of more than the 320 up to which the resolver makes less scratch space; to one in
+five few answer rows are lent; one in ten is damaged, so that most often questions 1 to 4 refuse it, and there format_check.py
+says what the program must reply. Prints the counts by question and, of every case that differs, the sheet, its names and both
+outputs, those of fewest rows first. Exit status 1 if one differs.
 """
 import random
 import subprocess
@@ -12,23 +12,23 @@ import sys
 from collections import Counter
 
 from damage import WAYS, damaged, damaged_text
-from replay_cases import Case, case_of, expect, random_cases
+from serve_cases import Case, case_of, expect, random_cases
 from sheets import generate
 from tree import text_of
 
 BATCH = 2000
 SIZES = [5, 10, 15, 25, 25, 40, 60, 100, 200, 500]
 MOST_ROWS = 2048
-ROOM, NAMES_ROOM = 165_889, 32_769
+FEW_ROWS = 80
 
 
-def run(replay, cases):
+def run(program, cases):
     data = b"".join(case.input() for case in cases)
-    return subprocess.run([replay], input=data, stdout=subprocess.PIPE, check=True).stdout
+    return subprocess.run([program], input=data, stdout=subprocess.PIPE, check=True).stdout
 
 
 def damaged_cases(rng, count):
-    """Sheets, names or texts that are damaged in one way, cut to the program's room: one byte more than is allowed."""
+    """Sheets, names or texts that are damaged in one way."""
     for _ in range(count):
         seed, question = rng.randrange(10 ** 9), rng.choice([1, 2, 3, 3, 3, 3, 3, 3, 4, 5])
         if question == 5:
@@ -39,22 +39,25 @@ def damaged_cases(rng, count):
         way = rng.choice(WAYS[question])
         words, names = damaged(seed, way)
         text = case_of(way, words, names).text
-        yield Case(f"damage {seed}: {way}", text[:ROOM], names[:NAMES_ROOM])
+        yield Case(f"damage {seed}: {way}", text, names)
 
 
 def batch_of(rng, first, count):
     good = count - count // 10
     cases = list(random_cases(rng, range(first, first + good), SIZES, MOST_ROWS))
+    for case in cases:
+        if rng.random() < 0.2:
+            case.lent = rng.randrange(FEW_ROWS)
     return cases + list(damaged_cases(rng, count - good))
 
 
-def differing(replay, cases):
+def differing(program, cases):
     """The cases of a batch whose output differs. The program is asked about each alone only if the whole differs."""
-    if run(replay, cases) == b"".join(case.out for case in cases):
+    if run(program, cases) == b"".join(case.out for case in cases):
         return []
     found = []
     for case in cases:
-        case.got = run(replay, [case])
+        case.got = run(program, [case])
         if case.got != case.out:
             found.append(case)
     if not found:
@@ -63,19 +66,19 @@ def differing(replay, cases):
 
 
 def show(case):
-    print(f"\nDIFFERENCE: {case.what}\nnames {case.names!r}")
+    print(f"\nDIFFERENCE: {case.what}, {case.lent} rows lent\nnames {case.names!r}")
     for label, text in (("sheet", case.text), ("expected", case.out), ("got", case.got)):
         print(label, text.decode("latin-1"), sep="\n")
 
 
 def main():
-    replay, oracle, count = sys.argv[1], sys.argv[2], int(sys.argv[3])
+    program, oracle, count = sys.argv[1], sys.argv[2], int(sys.argv[3])
     seed = int(sys.argv[4]) if len(sys.argv) > 4 else 1
     rng = random.Random(seed)
     questions, rows, found = Counter(), 0, []
     for start in range(0, count, BATCH):
         cases = expect(oracle, batch_of(rng, seed * 1_000_000_000 + start, min(BATCH, count - start)))
-        found += differing(replay, cases)
+        found += differing(program, cases)
         questions.update(case.question for case in cases)
         rows += sum(len(case.kinds) for case in cases)
     for case in sorted(found, key=lambda case: len(case.text)):

@@ -62,7 +62,7 @@ def stray_break(column, value):
 
 def more_limits():
     """What it is, and the words and names, for the program: one less, the limit, one more, also those that questions 1 to 4
-    refuse. 2,049 rows of text find no room in it."""
+    refuse."""
     sheets = {}
     for depth in (63, 65):
         sheets[f"depth {depth}"] = at_depth(depth)
@@ -118,3 +118,18 @@ def texts():
     long = text_of(sheet_of(statements(1022)).rows).encode()
     changed["2,048 rows and a byte more"] = long + b" "
     return {what: (text, sheet.names) for what, text in changed.items()}
+
+
+def long_texts():
+    """What it is, and a text and names of which one is longer than the program keeps. What is kept would be accepted but for
+    a byte, the rest is read in parts."""
+    sheet = with_lets(5, [b"a", b"b"])
+    text = text_of(sheet.rows).encode()
+    most = text_of(sheet_of(statements(1022)).rows).encode()
+    names = b"".join(b"%03d" % i + b"x" * 252 + b"\n" for i in range(128))
+    return {
+        "no names": (text, b""), "nothing at all": (b"", b""), "names alone": (b"", sheet.names),
+        "2,176 rows, the first 2,048 a sheet": (most + text * 16, sheet.names),
+        "names and 2 bytes more": (text, names + b"y\n"),
+        "names and 9,999 bytes more": (text, names + b"y" * 9999),
+    }

@@ -1,7 +1,7 @@
 """planted.py [WORD]
 
 Plants the faults of faults.py in copies of second.py and format_check.py, one at a time, and counts the recorded cases
-that notice each: those of crates/replay whose printed rows change, and those of crates/question_tests whose answer changes.
+that notice each: those of crates/plush_serve whose reply changes, and those of crates/question_tests whose answer changes.
 Prints a line for each fault, first those that no case notices; exit status 1 if there is one, or if a copy without a fault
 answers a case otherwise. With WORD only faults that have it in their line are planted. A fault that stops the copy with an
 error counts as noticed there.
@@ -16,6 +16,7 @@ from tree import text_of
 
 HERE = Path(__file__).resolve().parent
 CRATES = HERE.parents[1] / "crates"
+RESOLVE = 1
 
 
 def altered(file, changes):
@@ -32,18 +33,19 @@ def altered(file, changes):
 
 # The recorded cases
 
-def replay_cases():
-    """(text of a sheet, names, printed text) of each case of crates/replay."""
-    data, out = ((CRATES / "replay" / name).read_bytes() for name in ("stdin", "stdout"))
-    cases, at, printed = [], 0, 0
+def serve_cases():
+    """(text of a sheet, names, answer rows lent, reply) of each case of crates/plush_serve."""
+    data, out = ((CRATES / "plush_serve" / name).read_bytes() for name in ("stdin", "stdout"))
+    cases, at, replied = [], 0, 0
     while at < len(data):
-        sizes = int(data[at:at + 10]), int(data[at + 10:at + 20])
-        start, middle = at + 20, at + 20 + sizes[0]
-        at = middle + sizes[1]
-        end = printed + 81 * (1 + int(out[printed + 50:printed + 60]))
-        cases.append((data[start:middle], data[middle:at], out[printed:end]))
-        printed = end
-    assert printed == len(out)
+        verb, sheet_bytes, name_bytes, _, lent, *_ = (int(data[at + i:at + i + 10]) for i in range(0, 80, 10))
+        assert verb == RESOLVE
+        start = at + 81
+        middle, at = start + sheet_bytes, start + sheet_bytes + name_bytes
+        end = replied + 81 * (1 + int(out[replied + 50:replied + 60]))
+        cases.append((data[start:middle], data[middle:at], lent, out[replied:end]))
+        replied = end
+    assert replied == len(out)
     return cases
 
 
@@ -59,22 +61,23 @@ def question_cases():
 class Recorded:
     def __init__(self):
         self.format = altered("format_check.py", ())
-        self.replay = replay_cases()
+        self.serve = serve_cases()
         self.questions = question_cases()
         self.sheets = []
-        for text, _, out in self.replay:
+        for text, _, lent, out in self.serve:
             words = self.format.words_of_text(text)
             if int(out[:10]) not in (1, 2, 3, 4):
-                self.sheets.append(([words[i:i + 8] for i in range(0, len(words), 8)], out))
+                self.sheets.append(([words[i:i + 8] for i in range(0, len(words), 8)], 8 * lent, out))
 
     def resolver_notices(self, module):
-        """How many cases of crates/replay the module's resolver answers otherwise."""
-        return sum(outcome(lambda: text_of(module.printed_rows(rows)).encode()) != out for rows, out in self.sheets)
+        """How many cases of crates/plush_serve the module's resolver answers otherwise."""
+        return sum(outcome(lambda: text_of(module.printed_rows(rows, lent)).encode()) != out
+                   for rows, lent, out in self.sheets)
 
     def text_notices(self, module):
-        """How many cases of crates/replay the module refuses otherwise."""
+        """How many cases of crates/plush_serve the module refuses otherwise."""
         return sum(outcome(lambda: module.first_no(module.words_of_text(text), names)) != refusal(out)
-                   for text, names, out in self.replay)
+                   for text, names, _, out in self.serve)
 
     def format_notices(self, module):
         """How many cases of crates/question_tests the module answers otherwise."""
@@ -98,8 +101,8 @@ def planted(recorded, word):
     """(noticing cases, line) of each fault."""
     source = (HERE / "format_check.py").read_text()
     groups = [
-        ("replay", "second.py", faults.RESOLVER, recorded.resolver_notices),
-        ("replay", "format_check.py", faults.TEXT, recorded.text_notices),
+        ("plush_serve", "second.py", faults.RESOLVER, recorded.resolver_notices),
+        ("plush_serve", "format_check.py", faults.TEXT, recorded.text_notices),
         ("question_tests", "format_check.py", faults.format_faults(source), recorded.format_notices),
     ]
     for program, file, group, notices in groups:
@@ -119,7 +122,7 @@ def main():
     for count, line in sorted(found, key=lambda each: each[0] > 0):
         print(f"{count:5} {line}")
     missed = sum(count == 0 for count, _ in found)
-    print(f"{len(recorded.replay)} cases of replay, {len(recorded.questions)} of question_tests")
+    print(f"{len(recorded.serve)} cases of plush_serve, {len(recorded.questions)} of question_tests")
     print(f"{len(found)} faults planted, {missed} not noticed")
     sys.exit(1 if missed else 0)
 

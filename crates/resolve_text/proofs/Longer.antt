@@ -1,7 +1,7 @@
 -- Texts longer than any accepted one: what the program prints of them is fixed by one byte more than the longest has.
 use mathlib.Core.Path.{_≡_, refl, sym, ap, subst, _∙_}
 use mathlib.Core.Bool.{Bool, true, false, not, _&&_}
-use mathlib.Core.List.{List, _++_}
+use mathlib.Core.List.{List, [], _++_}
 use Prim.Native.Nat.{ℕ, _*_, _<_, _≤_}
 use native.Mathlib.Decide.{decLe}
 use native.Mathlib.Omega.{arith}
@@ -12,14 +12,14 @@ use Rattle.definition.specs.Basics.{if_then_else_, all, from}
 use Rattle.definition.specs.Sheet.{Sheet}
 use Rattle.definition.specs.Names.{namesFew, namesShort, namesSized, namesEnded, namesUnlike, namesFit}
 use Rattle.definition.specs.Text.{lines, isSheetText, sheetOf, textOf}
-use Rattle.definition.specs.Outcome.{Outcome, rowsFit, refused, outcome, report, printed}
+use Rattle.definition.specs.Outcome.{Outcome, rowsFit, refused, outcome, report}
 use Rattle.definition.proofs.Lists.Tests.{and-left, and-right}
 use Rattle.text.specs.Lines.{lineAt, isLine}
 use Rattle.text.specs.Reading.{isReadable, linesRead}
 use Rattle.text.proofs.Reading.{readable, text-lines}
 use Rattle.text.proofs.Laws.{rows-read}
-use Rattle.resolve_text.specs.Report.{Printed, PrintedOfFiles}
-use Rattle.resolve_text.proofs.ReportLaws.{outcome-none}
+use Rattle.resolve_text.specs.Report.{printedWith, reply, Replied, RepliedOfTexts, PrintedOfFiles}
+use Rattle.resolve_text.proofs.ReportLaws.{outcome-none, printed-of}
 
 no-T : (b : Bool) → (T b → ⊥) → b ≡ false
 no-T true f = absurd (f tt)
@@ -55,41 +55,47 @@ names-long ns l =
 second : (t : Bool) (x y z : Outcome) (b : Bool) → b ≡ false → (if not t then x else if not b then y else z) ≡ (if not t then x else y)
 second t x y z b e = ap (λ (c : Bool). if not t then x else if not c then y else z) e
 
-names-none : (s : Sheet) (ns : List ℕ) → namesFit ns ≡ false → outcome s ns 16384 ≡ (if not (rowsFit s) then refused 1 else refused 2)
-names-none s ns e = second (rowsFit s) (refused 1) (refused 2) _ (namesFit ns) e
+names-none : (lent : ℕ) (s : Sheet) (ns : List ℕ) → namesFit ns ≡ false → outcome s ns lent ≡ (if not (rowsFit s) then refused 1 else refused 2)
+names-none lent s ns e = second (rowsFit s) (refused 1) (refused 2) _ (namesFit ns) e
 
-sheet-cut : (s ns : List ℕ) → outcome (sheetOf (take 165889 s)) ns 16384 ≡ outcome (sheetOf s) ns 16384
-sheet-cut s ns = go (decLe (length s) 165889)
+sheet-cut : (lent : ℕ) (s ns : List ℕ) → outcome (sheetOf (take 165889 s)) ns lent ≡ outcome (sheetOf s) ns lent
+sheet-cut lent s ns = go (decLe (length s) 165889)
   where
-    go : Dec (length s ≤ 165889) → outcome (sheetOf (take 165889 s)) ns 16384 ≡ outcome (sheetOf s) ns 16384
-    go (yes l) = ap (λ (t : List ℕ). outcome (sheetOf t) ns 16384) (take-all 165889 s l)
+    go : Dec (length s ≤ 165889) → outcome (sheetOf (take 165889 s)) ns lent ≡ outcome (sheetOf s) ns lent
+    go (yes l) = ap (λ (t : List ℕ). outcome (sheetOf t) ns lent) (take-all 165889 s l)
     go (no l) =
-        outcome-none (sheetOf (take 165889 s)) ns (sheet-long (take 165889 s) (omega (arith, length-take-le 165889 s (omega arith))))
-        ∙ sym (outcome-none (sheetOf s) ns (sheet-long s (omega arith)))
+        outcome-none lent (sheetOf (take 165889 s)) ns (sheet-long (take 165889 s) (omega (arith, length-take-le 165889 s (omega arith))))
+        ∙ sym (outcome-none lent (sheetOf s) ns (sheet-long s (omega arith)))
 
-names-cut : (s ns : List ℕ) → outcome s (take 32769 ns) 16384 ≡ outcome s ns 16384
-names-cut s ns = go (decLe (length ns) 32769)
+names-cut : (lent : ℕ) (s ns : List ℕ) → outcome s (take 32769 ns) lent ≡ outcome s ns lent
+names-cut lent s ns = go (decLe (length ns) 32769)
   where
-    go : Dec (length ns ≤ 32769) → outcome s (take 32769 ns) 16384 ≡ outcome s ns 16384
-    go (yes l) = ap (λ (t : List ℕ). outcome s t 16384) (take-all 32769 ns l)
+    go : Dec (length ns ≤ 32769) → outcome s (take 32769 ns) lent ≡ outcome s ns lent
+    go (yes l) = ap (λ (t : List ℕ). outcome s t lent) (take-all 32769 ns l)
     go (no l) =
-        names-none s (take 32769 ns) (names-long (take 32769 ns) (omega (arith, length-take-le 32769 ns (omega arith))))
-        ∙ sym (names-none s ns (names-long ns (omega arith)))
+        names-none lent s (take 32769 ns) (names-long (take 32769 ns) (omega (arith, length-take-le 32769 ns (omega arith))))
+        ∙ sym (names-none lent s ns (names-long ns (omega arith)))
 
--- A program that reads 165,889 bytes of sheet.txt and 32,769 of names.txt prints what belongs to the whole files.
-pub printed-cut : (s ns : List ℕ) → printed (take 165889 s) (take 32769 ns) ≡ printed s ns
-printed-cut s ns = ap (λ (o : Outcome). textOf (report o)) (sheet-cut s (take 32769 ns) ∙ names-cut (sheetOf s) ns)
+-- A program that reads 165,889 bytes of a sheet's text and 32,769 of its names prints what belongs to the whole texts.
+pub printed-cut : (lent : ℕ) (s ns : List ℕ) → printedWith lent (take 165889 s) (take 32769 ns) ≡ printedWith lent s ns
+printed-cut lent s ns = ap (λ (o : Outcome). textOf (report o)) (sheet-cut (8 * lent) s (take 32769 ns) ∙ names-cut (8 * lent) (sheetOf s) ns)
 
--- and so what is printed of the bytes read is what is printed of the files
-pub printed-files : {sheet names before : List ℕ} {n : ℕ} {after : List ℕ} → Printed sheet names before n after → PrintedOfFiles sheet names before n after
-printed-files {sheet} {names} {before} {n} {after} x = record {
+-- and so the reply to the bytes read is the reply to the texts
+reply-cut : (lent : ℕ) (s ns : List ℕ) (room : ℕ) → reply lent (take 165889 s) (take 32769 ns) room ≡ reply lent s ns room
+unfolding reply
+reply-cut lent s ns room = ap (λ (t : List ℕ). if leb lent 2048 && leb 165969 room then t else []) (printed-cut lent s ns)
+
+pub replied-texts : {lent : ℕ} {sheet names before : List ℕ} {n : ℕ} {after : List ℕ} → Replied lent sheet names before n after
+    → RepliedOfTexts lent sheet names before n after
+replied-texts {lent} {sheet} {names} {before} {n} {after} x = record {
   of-read = x;
-  of-files = λ s ns e f.
-      let same : printed sheet names ≡ printed s ns = ap (λ (t : List ℕ). printed t names) e ∙ ap (λ (t : List ℕ). printed (take 165889 s) t) f ∙ printed-cut s ns in
-      record {
-        count = λ l. x .count l ∙ ap length same;
-        text = λ l. x .text l ∙ ap (λ (t : List ℕ). t ++ drop n before) same;
-        no-count = x .no-count;
-        no-text = x .no-text;
-      };
+  of-texts = λ s ns e f.
+      let room : ℕ = length before in
+      let same : reply lent sheet names room ≡ reply lent s ns room =
+      ap (λ (t : List ℕ). reply lent t names room) e ∙ ap (λ (t : List ℕ). reply lent (take 165889 s) t room) f ∙ reply-cut lent s ns room in
+      record { count = x .count ∙ ap length same; text = x .text ∙ ap (λ (t : List ℕ). t ++ drop n before) same };
 }
+
+-- with 2,048 rows lent: of the files
+pub printed-files : {sheet names before : List ℕ} {n : ℕ} {after : List ℕ} → RepliedOfTexts 2048 sheet names before n after → PrintedOfFiles sheet names before n after
+printed-files x = record { of-read = printed-of (x .of-read); of-files = λ s ns e f. printed-of (x .of-texts s ns e f) }

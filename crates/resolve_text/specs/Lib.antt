@@ -1,1 +1,3 @@
+-- What the routines from text to text promise, and replies computed.
 pub mod Report
+pub mod Examples

@@ -1,12 +1,16 @@
 // The resolver from text to text: a sheet's text and the bytes of its names, and the report as text.
 ghost use mathlib.Core.Path.{_≡_};
+ghost use mathlib.Core.List.{_++_};
 ghost use Prim.Native.Nat.{_≤_};
-ghost use lib.ListN.{length};
-ghost use Rattle.resolve_text.specs.Report.{firstRow, Reported, Printed, PrintedOfFiles};
+ghost use lib.ListN.{length, drop};
+ghost use Rattle.resolve_text.specs.Report.{firstRow, printedWith, Reported, RepliedOfTexts, PrintedOfFiles};
 use resolver::Answer;
 use resolver::resolve;
 use text::read_sheet;
 use text::write_rows;
+
+// The answer rows that can be lent.
+const MOST_ROWS: usize = 2048;
 
 // The bytes of 2,049 lines: the longest report.
 const LONGEST_REPORT: usize = 165969;
@@ -27,12 +31,12 @@ fn write_first(x: Answer, row: &mut [u32])
     row[7] = 0;
 }
 
-// The report of a sheet, in rows. Returns their number.
-fn write_report(words: &[u32], names: &[u8], report: &mut [u32]) -> usize
-    requires { ⌜ length (now report) ≡ 16392 ⌝ }
-    ensures { λ n. ⌜ Reported (now (words .entry)) (now (names .entry)) n (now (report .exit)) ⌝ }
+// The report of a sheet with so many answer rows lent, in rows. Returns their number.
+fn write_report(words: &[u32], names: &[u8], lent: usize, report: &mut [u32]) -> usize
+    requires { ⌜ (length (now report) ≡ 16392) × (lent ≤ 2048) ⌝ }
+    ensures { λ n. ⌜ Reported lent (now (words .entry)) (now (names .entry)) n (now (report .exit)) ⌝ }
 {
-    let x = resolve(words, names, &mut report[8..]);
+    let x = resolve(words, names, &mut report[8..8 + 8 * lent]);
     write_first(x, &mut report[..8]);
     x.rows + 1
 }
@@ -41,28 +45,41 @@ fn write_report(words: &[u32], names: &[u8], report: &mut [u32]) -> usize
 fn print_report(
     sheet: &[u8],
     names: &[u8],
+    lent: usize,
     words: &mut [u32],
     report: &mut [u32],
     text: &mut [u8],
 ) -> usize
-    requires { ⌜ (length (now words) ≡ 16384) × (length (now report) ≡ 16392) × (165969 ≤ length (now text)) ⌝ }
-    ensures { λ n. ⌜ Printed (now (sheet .entry)) (now (names .entry)) (now (text .entry)) n (now (text .exit)) ⌝ }
+    requires { ⌜ (lent ≤ 2048) × (length (now words) ≡ 16384) × (length (now report) ≡ 16392) × (165969 ≤ length (now text)) ⌝ }
+    ensures { λ n. ⌜ (n ≡ length (printedWith lent (now (sheet .entry)) (now (names .entry))))
+        × (now (text .exit) ≡ printedWith lent (now (sheet .entry)) (now (names .entry)) ++ drop n (now (text .entry))) ⌝ }
 {
     let n = read_sheet(sheet, words);
-    let rows = write_report(&words[..8 * n], names, report);
+    let rows = write_report(&words[..8 * n], names, lent, report);
     write_rows(&report[..8 * rows], text)
 }
 
-// Writes what the program prints of the texts of sheet.txt and names.txt. Returns the number of bytes, or 0 where the lent
-// text is shorter than the longest report. Of a file that is too long to be accepted one byte more than the longest accepted has is
-// enough.
-pub fn resolve_text(sheet: &[u8], names: &[u8], text: &mut [u8]) -> usize
-    ensures { λ n. ⌜ PrintedOfFiles (now (sheet .entry)) (now (names .entry)) (now (text .entry)) n (now (text .exit)) ⌝ }
+// Writes the report of a sheet's text and its names, with so many answer rows lent. Returns the number of bytes, or 0 where more than
+// 2,048 rows are lent or the lent text is shorter than the longest report. Of a text that is too long to be accepted one byte more than
+// the longest accepted has is enough.
+pub fn resolve_lent(sheet: &[u8], names: &[u8], lent: usize, text: &mut [u8]) -> usize
+    ensures { λ n. ⌜ RepliedOfTexts lent (now (sheet .entry)) (now (names .entry)) (now (text .entry)) n (now (text .exit)) ⌝ }
 {
+    if lent > MOST_ROWS {
+        return 0;
+    }
     if text.len() < LONGEST_REPORT {
         return 0;
     }
     let mut words = [0u32; 16384];
     let mut report = [0u32; 16392];
-    print_report(sheet, names, &mut words, &mut report, text)
+    print_report(sheet, names, lent, &mut words, &mut report, text)
+}
+
+// Writes what the program prints of the texts of sheet.txt and names.txt: the report with 2,048 rows lent. Returns the number of bytes,
+// or 0 where the lent text is shorter than the longest report. Of a file that is too long one byte more is enough, as above.
+pub fn resolve_text(sheet: &[u8], names: &[u8], text: &mut [u8]) -> usize
+    ensures { λ n. ⌜ PrintedOfFiles (now (sheet .entry)) (now (names .entry)) (now (text .entry)) n (now (text .exit)) ⌝ }
+{
+    resolve_lent(sheet, names, MOST_ROWS, text)
 }

@@ -15,7 +15,7 @@ read-sheet-requires c κs = search needs
 mul-write-report : tie.Need-mul-write-report
 mul-write-report c =
     let start = c .before .before .before .before .before .before .before .before .before in
-    omega (arith, start .pre .0, read-few _ _ _ (c .before .before .read-sheet .ensures .count))
+    omega (arith, start .pre .1, read-few _ _ _ (c .before .before .read-sheet .ensures .count))
 
 slice-reshare-prefix-write-report : tie.Need-slice-reshare-prefix-write-report
 slice-reshare-prefix-write-report c =
@@ -31,7 +31,11 @@ write-report-requires : tie.Need-write-report-requires
 write-report-requires c κs = search needs
 
 mul-write-rows : tie.Need-mul-write-rows
-mul-write-rows c = omega (arith, report-few _ _ _ _ (c .before .before .write-report .ensures))
+mul-write-rows c =
+    let start =
+    c .before .before .before .before .before .before .before .before .before .before .before .before .before
+    .before in
+    omega (arith, report-few _ _ _ _ _ (start .pre .0) (c .before .before .write-report .ensures))
 
 slice-reshare-prefix-write-rows : tie.Need-slice-reshare-prefix-write-rows
 slice-reshare-prefix-write-rows c =
@@ -39,7 +43,7 @@ slice-reshare-prefix-write-rows c =
     c .before .before .before .before .before .before .before .before .before .before .before .before .before
     .before in
     let write-report = c .before .before .write-report in
-    omega (arith, start .pre .1, write-report .kept .1 .1 .0, report-few _ _ _ _ (write-report .ensures))
+    omega (arith, start .pre .2, write-report .kept .1 .1 .1 .0, report-few _ _ _ _ _ (start .pre .0) (write-report .ensures))
 
 slice-aggregate-write-rows : tie.Need-slice-aggregate-write-rows
 slice-aggregate-write-rows c =
@@ -48,7 +52,7 @@ slice-aggregate-write-rows c =
     .before .before in
     let write-report = c .before .before .before .write-report in
     sym (length-take-le _ _
-    (omega (arith, start .pre .1, write-report .kept .1 .1 .0, report-few _ _ _ _ (write-report .ensures))))
+    (omega (arith, start .pre .2, write-report .kept .1 .1 .1 .0, report-few _ _ _ _ _ (start .pre .0) (write-report .ensures))))
 
 write-rows-requires : tie.Need-write-rows-requires
 write-rows-requires c κs = search needs
@@ -68,11 +72,12 @@ returns c =
     let start = at-read-sheet .before .before .before .before .before .before .before in
     let read-sheet = at-read-sheet .read-sheet in
     let write-report = c .before .before .before .before .before .before .before .write-report in
-    printed-rows (start .args .sheet .now) (start .args .names .now) (start .args .text .now) (read-sheet .result)
-    (write-report .result) _ (read-sheet .last .1 .0) (write-report .last .1 .1 .0) _
-    (subst (λ (n : ℕ). SheetRead (start .args .sheet .now) n (read-sheet .result) (read-sheet .last .1 .0))
-    (start .pre .0) (read-sheet .ensures))
-    (write-report .ensures) (c .before .before .write-rows .ensures) (start .pre .2)
+    printed-rows (start .args .lent) (start .args .sheet .now) (start .args .names .now) (start .args .text .now)
+    (read-sheet .result) (write-report .result) _ (read-sheet .last .1 .0) (write-report .last .1 .1 .1 .0) _
+    (start .pre .0) (subst
+    (λ (n : ℕ). SheetRead (start .args .sheet .now) n (read-sheet .result) (read-sheet .last .1 .0)) (start .pre .1)
+    (read-sheet .ensures))
+    (write-report .ensures) (c .before .before .write-rows .ensures) (start .pre .3)
 
 pub print-report-spec : {M : Type 1} → statement M
 print-report-spec =

@@ -1,13 +1,13 @@
-"""replay_cases.py ORACLE COUNT SEED OUTDIR
+"""serve_cases.py ORACLE COUNT SEED OUTDIR
 
-Makes COUNT cases, at least some 160, and the later ones for the program crates/replay and writes OUTDIR/stdin, the cases,
-and OUTDIR/stdout, what the program must print of them, out of the oracle's answers. A case is two numbers in ten columns
-each, the bytes of the sheet's text and of its names, and then these bytes.
+Makes COUNT cases, at least some 160, and the later ones for the program crates/plush_serve and writes OUTDIR/stdin, the
+requests, and OUTDIR/stdout, the replies that the program must write, out of the oracle's answers.
 
 The cases are the samples of document 01, the small programs of directed.py, some sheets at the limits, and random sheets of
 at most MOST_ROWS rows, some with leading zeros in their numbers; of each question from 5 to 21 at least LEAST. The
-later ones follow these in order: small programs that planted.py asks for, sheets and texts at the limits. Of those that
-questions 1 to 4 refuse, format_check.py says so; the oracle is not asked. Prints the counts by question and by kind of row.
+later ones follow these in order: small programs that planted.py asks for, sheets and texts at the limits, bodies that are
+too long, and sheets with few answer rows lent. Of those that questions 1 to 4 refuse, format_check.py says so; the oracle is
+not asked. Prints the counts by question and by kind of row.
 """
 import random
 import sys
@@ -15,9 +15,9 @@ from collections import Counter
 from pathlib import Path
 
 import directed
-from expected import LENT, all_printed
+from expected import all_printed
 from format_check import first_no, words_of_text
-from limits import limits, more_limits, texts
+from limits import limits, long_texts, more_limits, texts
 from question_cases import cases_of
 from sheets import Sheet, generate
 from tree import text_of
@@ -27,15 +27,23 @@ LIMITS = ["header alone", "depth 64", "255-byte name", "32,768 bytes of names", 
 MOST_ROWS = 60
 LEAST = 5
 BATCH = 200
+RESOLVE = 1
+LENT_ROWS = 2048
+FEW_LENT = 8
+
+
+def header(verb, sheet, names, flags=0, x=0, y=0, second_sheet=0, second_names=0):
+    return b"%10d" * 8 % (verb, sheet, names, flags, x, y, second_sheet, second_names) + b"\n"
 
 
 class Case:
-    """A sheet's text and its names; `out` is what the program must print."""
+    """A sheet's text, its names and the answer rows lent; `out` is what the program must reply."""
 
-    def __init__(self, what, text, names):
+    def __init__(self, what, text, names, lent=LENT_ROWS):
         self.what = what
         self.text = text
         self.names = bytes(names)
+        self.lent = lent
         self.words = words_of_text(text)
         self.out = None
 
@@ -44,11 +52,18 @@ class Case:
         return int(self.out[:10])
 
     @property
+    def answer_rows(self):
+        return len(self.out) // 81 - 1
+
+    @property
     def kinds(self):
         return self.words[::8]
 
+    def with_lent(self, lent):
+        return Case(f"{self.what}, {lent} rows lent", self.text, self.names, lent)
+
     def input(self):
-        return b"%10d%10d" % (len(self.text), len(self.names)) + self.text + self.names
+        return header(RESOLVE, len(self.text), len(self.names), x=self.lent) + self.text + self.names
 
 
 def case_of(what, words, names):
@@ -56,7 +71,7 @@ def case_of(what, words, names):
 
 
 def expect(oracle, cases):
-    outs = all_printed(oracle, [(case.words, case.names, LENT) for case in cases])
+    outs = all_printed(oracle, [(case.words, case.names, 8 * case.lent) for case in cases])
     for case, rows in zip(cases, outs):
         case.out = text_of(rows).encode()
     return cases
@@ -96,8 +111,20 @@ def later_cases():
         yield case_of(what, sheet.words, sheet.names)
     for what, (words, names) in more_limits().items():
         yield case_of(what, words, names)
-    for what, (text, names) in texts().items():
+    for what, (text, names) in [*texts().items(), *long_texts().items()]:
         yield Case(what, text, names)
+
+
+def lent_cases(cases):
+    """Cases that are resolved, the first of them with fewest answer rows, with as many rows lent, one less and none; some
+    that are refused, with none."""
+    resolved = sorted((case for case in cases if case.question == 0), key=lambda case: case.answer_rows)
+    chosen = resolved[:1] + [case for case in resolved if case.answer_rows][::len(resolved) // FEW_LENT][:FEW_LENT]
+    for case in chosen:
+        for lent in sorted({case.answer_rows, max(0, case.answer_rows - 1), 0}):
+            yield case.with_lent(lent)
+    for question in (1, 2, 3, 4, 5, 18, 21):
+        yield min((case for case in cases if case.question == question), key=lambda case: len(case.text)).with_lent(0)
 
 
 def random_cases(rng, seeds, sizes, most_rows):
@@ -131,7 +158,8 @@ def make_cases(oracle, count, seed):
                 cases.append(case)
         first += BATCH
     rng.shuffle(cases)
-    return cases + expect(oracle, list(later_cases()))
+    cases += expect(oracle, list(later_cases()))
+    return cases + expect(oracle, list(lent_cases(cases)))
 
 
 def summary(cases):

@@ -1,9 +1,9 @@
--- `replay::run` is safe and ends. Invariant: the lengths stay. The measure is `left`. Assumes nothing.
+-- `run` is safe and ends. Invariant: the lengths stay. The measure is `left`. Assumes nothing.
 use mathlib.Core.Path.{_≡_}
 use borrow.Author.Needs.{needs}
 use lib.ListN.{length}
-use Rattle.replay.proofs.run.Statement.{statement}
-use Rattle.replay.proofs.run.Tie as tie
+use Rattle.plush_serve.proofs.run.Statement.{statement}
+use Rattle.plush_serve.proofs.run.Tie as tie
 
 abbrev Inv-loop : tie.InvT-loop
 Inv-loop sheet₀ names₀ text₀ left₀ sheet names text left =

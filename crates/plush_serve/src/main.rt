@@ -1,0 +1,89 @@
+// Answers requests from the standard input on the standard output, one after another.
+//
+// Each verb has its routine here, which reads the bodies of the request, calls the routine of a library and writes the reply. A request that is
+// broken ends the program, with a line on standard error.
+mod input;
+mod say;
+
+use input::read_part;
+use input::skip;
+use libc::STDIN_FILENO;
+use libc::STDOUT_FILENO;
+use request::Request;
+use request::broken;
+use request::read_request;
+use request::verb;
+use resolve_text::resolve_lent;
+use say::complain;
+
+// Writes the reply of a sheet's text and its names, with so many answer rows lent. Returns false where that fails.
+fn reply(sheet: &[u8], names: &[u8], lent: usize, text: &mut [u8]) -> bool {
+    let n = resolve_lent(sheet, names, lent, text);
+    if !io::write_all(STDOUT_FILENO, &text[..n]) {
+        os::fail(b"write");
+        return false;
+    }
+    true
+}
+
+// Verb 1: resolves a sheet. Of a body that is too long one byte more than the longest accepted is kept, and the rest is read past.
+fn resolve(request: Request, sheet: &mut [u8], names: &mut [u8], text: &mut [u8]) -> bool {
+    let s = read_part(request.sheet as usize, sheet);
+    if !skip(request.sheet as usize - s) {
+        return complain(broken::CUT_OFF);
+    }
+    let n = read_part(request.names as usize, names);
+    if !skip(request.names as usize - n) {
+        return complain(broken::CUT_OFF);
+    }
+    reply(&sheet[..s], &names[..n], request.x as usize, text)
+}
+
+// The request of a header, by its verb.
+fn answer(header: &[u8], sheet: &mut [u8], names: &mut [u8], text: &mut [u8]) -> bool {
+    let request = read_request(header);
+    if request.broken != 0 {
+        return complain(request.broken);
+    }
+    let verb = request.verb;
+    match verb {
+        verb::RESOLVE => resolve(request, sheet, names, text),
+        _ => complain(broken::VERB),
+    }
+}
+
+// One request. Returns false where there is none, or where it ends the program.
+fn step(sheet: &mut [u8], names: &mut [u8], text: &mut [u8]) -> bool {
+    let mut header = [0u8; 81];
+    let first = libc::read(STDIN_FILENO, &mut header[..1]);
+    if first == 0 {
+        return false;
+    }
+    if first < 0 {
+        os::fail(b"read");
+        return false;
+    }
+    if io::read_full(STDIN_FILENO, &mut header[1..]) < 80 {
+        return complain(broken::CUT_OFF);
+    }
+    answer(&header, sheet, names, text)
+}
+
+// All requests: more than can come.
+fn run(sheet: &mut [u8], names: &mut [u8], text: &mut [u8]) {
+    let mut left: u64 = 18446744073709551615;
+    while left > 0 {
+        if !step(sheet, names, text) {
+            return;
+        }
+        left -= 1;
+    }
+}
+
+// Room for one byte more than the longest sheet and names have, and for the longest report.
+fn main() {
+    let mut sheet = [0u8; 165889];
+    let mut names = [0u8; 32769];
+    let mut text = [0u8; 165969];
+    run(&mut sheet, &mut names, &mut text);
+}

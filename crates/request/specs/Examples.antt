@@ -1,0 +1,39 @@
+-- Headers and what breaks them.
+use mathlib.Core.Path.{_≡_, refl}
+use mathlib.Core.List.{List, [], _∷_, _++_, map}
+use Prim.Native.Nat.{ℕ}
+use lib.ListN.{take}
+use Rattle.definition.specs.Text.{textOf}
+use Rattle.request.specs.Header.{largest, brokenBy, told, requestOf}
+
+-- the header of eight numbers
+abbrev header : List ℕ → List ℕ
+header w = textOf (w ∷ [])
+
+-- a sheet of 810 bytes and 4 of names, with 2,048 rows lent
+abbrev whole : List ℕ
+whole = 1 ∷ 810 ∷ 4 ∷ 0 ∷ 2048 ∷ 0 ∷ 0 ∷ 0 ∷ []
+
+accepted : requestOf (header whole) ≡ told 0 whole
+unfolding requestOf brokenBy largest told
+accepted = refl
+
+-- the longest bodies that can be written; a row too many; an unknown verb or flag; a number where none is taken
+breaks : map (λ w. requestOf (header w) .broken)
+    ((1 ∷ 4294967295 ∷ 4294967295 ∷ 0 ∷ 0 ∷ 0 ∷ 0 ∷ 0 ∷ []) ∷
+    (1 ∷ 0 ∷ 0 ∷ 0 ∷ 2049 ∷ 0 ∷ 0 ∷ 0 ∷ []) ∷
+    (0 ∷ 0 ∷ 0 ∷ 0 ∷ 0 ∷ 0 ∷ 0 ∷ 0 ∷ []) ∷
+    (2 ∷ 0 ∷ 0 ∷ 0 ∷ 0 ∷ 0 ∷ 0 ∷ 0 ∷ []) ∷
+    (1 ∷ 0 ∷ 0 ∷ 1 ∷ 0 ∷ 0 ∷ 0 ∷ 0 ∷ []) ∷
+    (1 ∷ 0 ∷ 0 ∷ 0 ∷ 0 ∷ 1 ∷ 0 ∷ 0 ∷ []) ∷
+    (1 ∷ 0 ∷ 0 ∷ 0 ∷ 0 ∷ 0 ∷ 1 ∷ 0 ∷ []) ∷
+    (1 ∷ 0 ∷ 0 ∷ 0 ∷ 0 ∷ 0 ∷ 0 ∷ 1 ∷ []) ∷ [])
+    ≡ 0 ∷ 4 ∷ 2 ∷ 2 ∷ 3 ∷ 5 ∷ 6 ∷ 6 ∷ []
+unfolding requestOf brokenBy largest told
+breaks = refl
+
+-- no row: a byte short, a byte more, two rows, no bytes
+no-row : map requestOf (take 80 (header whole) ∷ (header whole ++ 10 ∷ []) ∷ (header whole ++ header whole) ∷ [] ∷ [])
+    ≡ told 1 [] ∷ told 1 [] ∷ told 1 [] ∷ told 1 [] ∷ []
+unfolding requestOf
+no-row = refl

@@ -1,0 +1,102 @@
+// The header of a request: a row of eight numbers, and what the verb allows of each.
+pub mod broken;
+mod column;
+pub mod verb;
+
+ghost use mathlib.Core.Path.{_≡_};
+ghost use lib.ListN.{length};
+ghost use Rattle.request.specs.Header.{largest, brokenBy, told, requestOf};
+use text::read_sheet;
+
+// A body may be of any length: what is too long is for a question to refuse.
+const ANY: u32 = 4294967295;
+
+// The answer rows that can be lent.
+const LENT_ROWS: u32 = 2048;
+
+// What breaks the request (0: nothing), and the numbers of its header.
+pub struct Request {
+    pub broken: u32,
+    pub verb: u32,
+    pub sheet: u32,
+    pub names: u32,
+    pub flags: u32,
+    pub x: u32,
+    pub y: u32,
+    pub second_sheet: u32,
+    pub second_names: u32,
+}
+
+// The largest of each number that a verb takes, in the order of the header. Of an unknown verb all are 0.
+fn largest_of(verb: u32) -> [u32; 8]
+    ensures { λ r. ⌜ r ≡ largest verb ⌝ }
+{
+    match verb {
+        verb::RESOLVE => [1, ANY, ANY, 0, LENT_ROWS, 0, 0, 0],
+        _ => [0; 8],
+    }
+}
+
+// What breaks a request whose numbers may be so large.
+fn broken_by(most: &[u32], row: &[u32]) -> u32
+    requires { ⌜ (length (now most) ≡ 8) × (length (now row) ≡ 8) ⌝ }
+    ensures { λ r. ⌜ r ≡ brokenBy (now (most .entry)) (now (row .entry)) ⌝ }
+{
+    if row[column::VERB] == 0 {
+        return broken::VERB;
+    }
+    if row[column::VERB] > most[column::VERB] {
+        return broken::VERB;
+    }
+    if row[column::FLAGS] > most[column::FLAGS] {
+        return broken::FLAGS;
+    }
+    if row[column::X] > most[column::X] {
+        return broken::X;
+    }
+    if row[column::Y] > most[column::Y] {
+        return broken::Y;
+    }
+    if row[column::SHEET] > most[column::SHEET] {
+        return broken::BODIES;
+    }
+    if row[column::NAMES] > most[column::NAMES] {
+        return broken::BODIES;
+    }
+    if row[column::SECOND_SHEET] > most[column::SECOND_SHEET] {
+        return broken::BODIES;
+    }
+    if row[column::SECOND_NAMES] > most[column::SECOND_NAMES] {
+        return broken::BODIES;
+    }
+    0
+}
+
+fn tell(why: u32, row: &[u32]) -> Request
+    requires { ⌜ length (now row) ≡ 8 ⌝ }
+    ensures { λ r. ⌜ r ≡ told why (now (row .entry)) ⌝ }
+{
+    Request {
+        broken: why,
+        verb: row[column::VERB],
+        sheet: row[column::SHEET],
+        names: row[column::NAMES],
+        flags: row[column::FLAGS],
+        x: row[column::X],
+        y: row[column::Y],
+        second_sheet: row[column::SECOND_SHEET],
+        second_names: row[column::SECOND_NAMES],
+    }
+}
+
+// Reads a header. Where it is no row, all numbers are 0.
+pub fn read_request(header: &[u8]) -> Request
+    ensures { λ r. ⌜ r ≡ requestOf (now (header .entry)) ⌝ }
+{
+    let mut row = [0u32; 8];
+    if read_sheet(header, &mut row) == 0 {
+        return tell(broken::NO_ROW, &row);
+    }
+    let most = largest_of(row[column::VERB]);
+    tell(broken_by(&most, &row), &row)
+}

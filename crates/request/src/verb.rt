@@ -1,0 +1,2 @@
+// The verbs.
+pub const RESOLVE: u32 = 1;
