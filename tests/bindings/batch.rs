@@ -1,4 +1,4 @@
-//! batch: as batch.c, through the Rust binding. Each answer row is read as an `AnswerRow` and written back.
+//! batch: as batch.c, through the Rust binding, in two threads. Each answer row is read as an `AnswerRow` and written back.
 use plush::{resolve, resolve_to_vec, Position, ANSWER_WORDS};
 use std::io::{Read, Write};
 
@@ -35,16 +35,27 @@ fn report(sheet: &[u32], names: &[u8], answer: &mut [u32]) -> String {
     }
 }
 
+/// The reports of some cases, in lent words of their own.
+fn reports(cases: &[(Vec<u32>, &[u8])]) -> String {
+    let mut answer = vec![u32::MAX; ANSWER_WORDS];
+    cases.iter().map(|(sheet, names)| report(sheet, names, &mut answer)).collect()
+}
+
 fn main() {
     let mut input = Vec::new();
     std::io::stdin().read_to_end(&mut input).unwrap();
     let mut left = &input[..];
-    let mut answer = vec![u32::MAX; ANSWER_WORDS];
-    let mut out = std::io::stdout().lock();
+    let mut cases = Vec::new();
     while !left.is_empty() {
         let size = numbers(take(&mut left, 8));
         let sheet = numbers(take(&mut left, 4 * size[0] as usize));
-        let names = take(&mut left, size[1] as usize);
-        out.write_all(report(&sheet, names, &mut answer).as_bytes()).unwrap();
+        cases.push((sheet, take(&mut left, size[1] as usize)));
     }
+    // in two threads at the same time, with the stack that threads have
+    let (first, second) = cases.split_at(cases.len() / 2);
+    let told = std::thread::scope(|scope| {
+        let threads = [first, second].map(|half| scope.spawn(move || reports(half)));
+        threads.map(|thread| thread.join().unwrap())
+    });
+    std::io::stdout().write_all(told.concat().as_bytes()).unwrap();
 }

@@ -1,7 +1,8 @@
 """compare.py REPLAY BATCH_C BATCH_RUST COUNT [ORACLE]
 
 Resolves COUNT random sheets through the C routine, through the Rust binding and with the text program, and compares the three
-reports word by word. One sheet in ten is damaged, so that most often questions 1 to 4 refuse it. With ORACLE, the Rust of Plush
+reports word by word. One sheet in ten is damaged, so that most often questions 1 to 4 refuse it; the first is the one that takes
+the most stack of those known. Each program has 2 MiB of it, which plush.h says is enough. With ORACLE, the Rust of Plush
 behind the sheet format (tests/oracle/build.sh), also with its answers. Exit status 1 if a case differs.
 """
 import random
@@ -14,13 +15,14 @@ from pathlib import Path
 sys.path.insert(0, str(Path(__file__).resolve().parents[1] / "oracle"))
 from damage import WAYS, damaged
 from expected import LENT, all_printed
-from sheets import generate
+from sheets import class_chain, generate
 from tree import text_of
 
 BATCH = 1000
 SIZES = [5, 10, 15, 25, 25, 40, 60, 100, 400]
 DAMAGED = 0.1
 LINE = 81
+STACK = 2048  # KiB
 # what the text program reads of its files
 TEXT_ROOM, NAMES_ROOM = 165_889, 32_769
 
@@ -32,6 +34,12 @@ def random_case(rng):
         words, names = damaged(seed, rng.choice(WAYS[rng.choice([1, 2, 3, 3, 3, 4])]))
         return list(words), bytes(names)
     sheet = generate(seed, rng.choice(SIZES), 0.6)
+    return list(sheet.words), bytes(sheet.names)
+
+
+def deepest_case():
+    """Classes in a line, each before its parent."""
+    sheet = class_chain(1000, 0, upwards=True)
     return list(sheet.words), bytes(sheet.names)
 
 
@@ -51,7 +59,8 @@ def for_batch(words, names):
 
 def reports(program, data):
     """What a program prints, report by report: the sixth number of the first line says how many lines follow."""
-    out = subprocess.run([program], input=data, stdout=subprocess.PIPE, check=True).stdout
+    command = ["sh", "-c", f'ulimit -s {STACK}; exec "$0"', program]
+    out = subprocess.run(command, input=data, stdout=subprocess.PIPE, check=True).stdout
     found, at = [], 0
     while at < len(out):
         end = at + LINE * (1 + int(out[at + 50:at + 60]))
@@ -66,7 +75,7 @@ def main():
     rng = random.Random(1)
     questions, words_compared, differing = Counter(), 0, 0
     for start in range(0, count, BATCH):
-        cases = [random_case(rng) for _ in range(min(BATCH, count - start))]
+        cases = [random_case(rng) if start + i else deepest_case() for i in range(min(BATCH, count - start))]
         expected = reports(replay, b"".join(for_text_program(*case) for case in cases))
         told = {"C": reports(batch_c, b"".join(for_batch(*case) for case in cases)),
                 "Rust": reports(batch_rust, b"".join(for_batch(*case) for case in cases))}
