@@ -28,7 +28,7 @@ extern "C" {
  * sheet, sheet_words     the sheet's rows, eight words each
  * names, name_bytes      the listed names, each ended by byte 10
  * answer, answer_words   lent: the answer rows, eight words each, and zeros to its end. If they do not fit, question 22 gets a no
- * report, report_words   lent: the words PLUSH_REPORT_.. below as far as it goes, and zeros after the eighth. Of any length, also 0
+ * report, report_words   lent, of any length, also 0: the words PLUSH_REPORT_.. as far as it goes, and zeros after the eighth
  *
  * Returns the number of the question that got a no (PLUSH_QUESTION_..), or 0: everything was resolved. After a refusal every
  * answer word is 0, and so are the numbers of rows and globals; position and name stand in the report.

@@ -8,8 +8,30 @@ use plush::{columns, Answer, AnswerRow, Kind, ANSWER_WORDS, ROW_WORDS};
 use std::process::ExitCode;
 
 const FIXED: [&str; 25] = [
-    "no name", "Int64", "Float64", "String", "Array", "ByteArray", "Dict", "UIEvent", "AudioNeeded", "AudioData", "kind",
-    "window_id", "key", "button", "x", "y", "dx", "dy", "text", "num_samples", "num_channels", "device_id", "null", "init",
+    "no name",
+    "Int64",
+    "Float64",
+    "String",
+    "Array",
+    "ByteArray",
+    "Dict",
+    "UIEvent",
+    "AudioNeeded",
+    "AudioData",
+    "kind",
+    "window_id",
+    "key",
+    "button",
+    "x",
+    "y",
+    "dx",
+    "dy",
+    "text",
+    "num_samples",
+    "num_channels",
+    "device_id",
+    "null",
+    "init",
     "MAIN_UNIT",
 ];
 

@@ -60,20 +60,52 @@ mod code {
 pub enum Answer {
     /// Nothing is declared.
     Nothing,
-    Function { function: u32 },
-    Class { class: u32 },
-    Global { index: u32, mutable: bool },
-    Argument { index: u32, function: u32 },
-    Local { slot: u32, function: u32, mutable: bool },
+    Function {
+        function: u32,
+    },
+    Class {
+        class: u32,
+    },
+    Global {
+        index: u32,
+        mutable: bool,
+    },
+    Argument {
+        index: u32,
+        function: u32,
+    },
+    Local {
+        slot: u32,
+        function: u32,
+        mutable: bool,
+    },
     /// `index` counts the captures of the function that the row lies in.
-    Captured { index: u32, mutable: bool },
+    Captured {
+        index: u32,
+        mutable: bool,
+    },
     True,
     False,
-    FunctionCounts { locals: u32, captures: u32, escapes: u32 },
+    FunctionCounts {
+        locals: u32,
+        captures: u32,
+        escapes: u32,
+    },
     /// `parent` is 0 where there is none.
-    ClassCounts { parent: u32, has_children: bool, fields: u32, methods: u32 },
-    Field { slot: u32, name: u32 },
-    Method { name: u32, function: u32 },
+    ClassCounts {
+        parent: u32,
+        has_children: bool,
+        fields: u32,
+        methods: u32,
+    },
+    Field {
+        slot: u32,
+        name: u32,
+    },
+    Method {
+        name: u32,
+        function: u32,
+    },
 }
 
 /// An answer and the sheet row that it belongs to.
@@ -202,10 +234,11 @@ pub fn resolve<'a>(sheet: &[u32], names: &[u8], answer: &'a mut [u32]) -> Result
         )
     };
     let [number, file, line, column, name, rows, globals, _] = report;
-    match Question::from_number(number) {
-        Some(question) => Err(Refusal { question, position: Position { file, line, column }, name }),
-        None => Ok(Resolved { words: &answer[..ROW_WORDS * rows as usize], globals }),
+    if number == 0 {
+        return Ok(Resolved { words: &answer[..ROW_WORDS * rows as usize], globals });
     }
+    let question = Question::from_number(number).expect("the library asks the questions of this crate");
+    Err(Refusal { question, position: Position { file, line, column }, name })
 }
 
 /// The answer rows and the globals of a sheet, with as many words as they need.

@@ -70,7 +70,9 @@ impl fmt::Display for Question {
     fn fmt(&self, f: &mut fmt::Formatter<'_>) -> fmt::Result {
         f.write_str(match self {
             Question::RowsFit => "the sheet is not 1 to 2,048 rows of eight numbers",
-            Question::NamesFit => "the name list does not fit: a name is fixed, listed twice, empty, too long or not ended, or there are too many",
+            Question::NamesFit => {
+                "the name list does not fit: a name is fixed, listed twice, empty, too long or not ended, or there are too many"
+            }
             Question::FormatFits => "a row does not fit the format",
             Question::DepthFits => "a row lies deeper than 64",
             Question::InLoop => "a break or continue stands outside the loops of its function",
