@@ -1,7 +1,7 @@
 -- What callers cite of the contract, and what ties the exported routine to `resolve`. Assumes nothing.
-use mathlib.Core.Path.{_≡_, refl, sym, ap, subst, _∙_}
+use mathlib.Core.Path.{_≡_, ap, subst, _∙_}
 use mathlib.Core.List.{List, [], _∷_}
-use Prim.Native.Nat.{ℕ, min, _*_, _<_, _≤_}
+use Prim.Native.Nat.{ℕ, min, _<_, _≤_}
 use native.Mathlib.Omega.{arith}
 use lib.ListN.{length, getD}
 use Rattle.definition.specs.Sheet.{Sheet}
@@ -27,8 +27,8 @@ line-exact s ns lent l = go (outcome s ns lent) (omega (arith, good-outcome lent
         ap (λ (k : ℕ). o .number ∷ o .file ∷ o .line ∷ o .column ∷ o .name ∷ k ∷ o .globals ∷ 0 ∷ []) e
 
 -- a line of words, told by an answer
-pub told-words : (x : Answer) (f l c k : ℕ) → f ≡ fileOf (x .pos .0) → l ≡ lineOf (x .pos .0) → c ≡ columnOf (x .pos .0) → k ≡ min 4294967295 (x .rows)
-    → x .number ∷ f ∷ l ∷ c ∷ x .name ∷ k ∷ x .globals ∷ 0 ∷ [] ≡ toldBy x
+pub told-words : (x : Answer) (f l c k : ℕ) → f ≡ fileOf (x .pos .0) → l ≡ lineOf (x .pos .0) → c ≡ columnOf (x .pos .0)
+    → k ≡ min 4294967295 (x .rows) → x .number ∷ f ∷ l ∷ c ∷ x .name ∷ k ∷ x .globals ∷ 0 ∷ [] ≡ toldBy x
 unfolding toldBy
 told-words x f l c k hf hl hc hk = rw (hf, hl, hc, hk)
 

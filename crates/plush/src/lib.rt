@@ -1,6 +1,6 @@
 // The library to link: what C, or Rust through `bindings/rust`, calls. `include/plush.h` declares it.
 ghost use mathlib.Core.Path.{_≡_};
-ghost use Prim.Native.Nat.{_≤_, min};
+ghost use Prim.Native.Nat.{min};
 ghost use lib.ListN.{length};
 ghost use Rattle.plush.specs.Resolved.{fitted, toldBy, Resolved};
 use resolver::Answer;
