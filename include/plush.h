@@ -1,0 +1,203 @@
+/* plush.h: the symbol resolver of Plush, as a library to link (libplush.a).
+ *
+ * Build it in the repository's top folder with `rt staticlib plush`; it is then target/staticlib/libplush.a, for x86-64 Linux.
+ * docs/FORMAT.md says what sheets, names and answer rows are; the names of the constants below stand for its numbers.
+ *
+ * What every routine here does:
+ * - Memory is the caller's. A routine reads the sheet and the names, writes the lent words and its own stack, keeps no pointer
+ *   after it returns, allocates nothing, and has no static data.
+ * - So several threads may call at the same time, each with lent words of its own; they may share sheets and names that nobody
+ *   changes meanwhile.
+ * - Any numbers and bytes are accepted as input: what does not fit is refused, and a call always ends.
+ * - What the proofs take for granted is what a C compiler cannot see: a pointer is aligned and not null, also with length 0; so
+ *   many elements stand behind it as the length says; lent words overlap nothing else that is passed.
+ * - Stack: 2 MiB are enough for each call. A thread with less must be given more before it calls (pthread_attr_setstacksize).
+ */
+#ifndef PLUSH_H
+#define PLUSH_H
+
+#include <stddef.h>
+#include <stdint.h>
+
+#ifdef __cplusplus
+extern "C" {
+#endif
+
+/* Resolves a sheet: every name in it gets its meaning, or the first question that gets a no is told.
+ *
+ * sheet, sheet_words     the sheet's rows, eight words each
+ * names, name_bytes      the listed names, each ended by byte 10
+ * answer, answer_words   lent: the answer rows, eight words each, and zeros to its end. If they do not fit, question 22 gets a no
+ * report, report_words   lent, of any length, also 0: the words PLUSH_REPORT_.. as far as it goes, and zeros after the eighth
+ *
+ * Returns the number of the question that got a no (PLUSH_QUESTION_..), or 0: everything was resolved. After a refusal every
+ * answer word is 0, and so are the numbers of rows and globals; position and name stand in the report.
+ */
+uint32_t plush_resolve(const uint32_t *sheet, size_t sheet_words, const uint8_t *names, size_t name_bytes, uint32_t *answer,
+                       size_t answer_words, uint32_t *report, size_t report_words);
+
+/* The words of a report. */
+enum {
+    PLUSH_REPORT_QUESTION = 0, /* 0: resolved */
+    PLUSH_REPORT_FILE = 1,
+    PLUSH_REPORT_LINE = 2,
+    PLUSH_REPORT_COLUMN = 3,
+    PLUSH_REPORT_NAME = 4,
+    PLUSH_REPORT_ROWS = 5, /* answer rows */
+    PLUSH_REPORT_GLOBALS = 6,
+    PLUSH_REPORT_WORDS = 8
+};
+
+/* The words of a sheet row and of an answer row, and the answer words that the program plush_resolve lends: 2,048 rows. */
+enum {
+    PLUSH_ROW_WORDS = 8,
+    PLUSH_ANSWER_WORDS = 16384
+};
+
+/* The columns of a sheet row. */
+enum {
+    PLUSH_COLUMN_KIND = 0,
+    PLUSH_COLUMN_NEXT = 1, /* next row of the same child list, or 0 */
+    PLUSH_COLUMN_CHILD = 2, /* first row of the row's own child list, or 0 */
+    PLUSH_COLUMN_FILE = 3,
+    PLUSH_COLUMN_LINE = 4,
+    PLUSH_COLUMN_COLUMN = 5,
+    PLUSH_COLUMN_A = 6,
+    PLUSH_COLUMN_B = 7
+};
+
+/* The kinds of sheet rows. */
+enum {
+    PLUSH_KIND_HEADER = 0,
+    PLUSH_KIND_UNIT = 2,
+    PLUSH_KIND_IMPORT = 3,
+    PLUSH_KIND_CLASS = 4,
+    PLUSH_KIND_FUNCTION = 6,
+    PLUSH_KIND_FUNCTION_EXPORT = 7,
+    PLUSH_KIND_CONSTANT_EXPORT = 8,
+    PLUSH_KIND_LISTED = 9, /* a name that an import lists */
+    PLUSH_KIND_FIELD = 10,
+    PLUSH_KIND_PARAMETER = 11,
+    PLUSH_KIND_EXPRESSION_STATEMENT = 20, /* statements: 20 to 30 */
+    PLUSH_KIND_ASSIGN = 21,
+    PLUSH_KIND_RETURN = 22,
+    PLUSH_KIND_BREAK = 23,
+    PLUSH_KIND_CONTINUE = 24,
+    PLUSH_KIND_BLOCK = 25,
+    PLUSH_KIND_IF = 26,
+    PLUSH_KIND_FOR = 27,
+    PLUSH_KIND_ASSERT = 28,
+    PLUSH_KIND_LET = 29,
+    PLUSH_KIND_CLASS_DECLARATION = 30,
+    PLUSH_KIND_NIL = 40, /* expressions: 40 to 59, but for 49 */
+    PLUSH_KIND_TRUE = 41,
+    PLUSH_KIND_FALSE = 42,
+    PLUSH_KIND_INTEGER = 43,
+    PLUSH_KIND_FLOAT = 44,
+    PLUSH_KIND_STRING = 45,
+    PLUSH_KIND_BYTES = 46,
+    PLUSH_KIND_ARRAY = 47,
+    PLUSH_KIND_DICT = 48,
+    PLUSH_KIND_PAIR = 49, /* of a dict */
+    PLUSH_KIND_IDENTIFIER = 50,
+    PLUSH_KIND_HOST_CONSTANT = 51, /* $name */
+    PLUSH_KIND_LITERAL = 52, /* a function literal */
+    PLUSH_KIND_INDEX = 53,
+    PLUSH_KIND_MEMBER = 54,
+    PLUSH_KIND_INSTANCEOF = 55,
+    PLUSH_KIND_UNARY = 56,
+    PLUSH_KIND_BINARY = 57,
+    PLUSH_KIND_TERNARY = 58,
+    PLUSH_KIND_CALL = 59
+};
+
+/* Column b, where it is no row or number. */
+enum {
+    PLUSH_FLAG_MUTABLE = 1,
+    PLUSH_FLAG_FIRST_CONSTANT = 2, /* 2 + g: a let that is constant at global g */
+    PLUSH_FLAG_UNIT_FUNCTION = 1,
+    PLUSH_FLAG_IMPORT_ALL = 1
+};
+
+/* Fixed names; the first listed name is PLUSH_NAME_LAST_FIXED + 1. */
+enum {
+    PLUSH_NAME_NULL = 22,
+    PLUSH_NAME_INIT = 23, /* a constructor */
+    PLUSH_NAME_MAIN_UNIT = 24,
+    PLUSH_NAME_LAST_FIXED = 24
+};
+
+/* The codes of answer rows: word 1. Word 0 is the sheet row; the values follow from word 2 on. */
+enum {
+    PLUSH_CODE_NOTHING = 0,
+    PLUSH_CODE_FUN = 1, /* function */
+    PLUSH_CODE_CLASS = 2, /* class */
+    PLUSH_CODE_GLOBAL = 3, /* index, 0, mutable */
+    PLUSH_CODE_ARG = 4, /* index, function */
+    PLUSH_CODE_LOCAL = 5, /* slot, function, mutable */
+    PLUSH_CODE_CAPTURED = 6, /* index, 0, mutable */
+    PLUSH_CODE_TRUE = 7,
+    PLUSH_CODE_FALSE = 8,
+    PLUSH_CODE_FUNCTION_COUNTS = 20, /* local count, captures, escapes */
+    PLUSH_CODE_CLASS_COUNTS = 22, /* parent or 0, 1 if it has children, fields, methods */
+    PLUSH_CODE_FIELD = 23, /* slot, name */
+    PLUSH_CODE_METHOD = 24 /* name, function */
+};
+
+/* The questions, by what gets a yes. */
+enum {
+    PLUSH_QUESTION_ROWS_FIT = 1, /* the sheet is 1 to 2,048 rows of eight */
+    PLUSH_QUESTION_NAMES_FIT = 2, /* the name list */
+    PLUSH_QUESTION_FORMAT_FITS = 3, /* every row */
+    PLUSH_QUESTION_DEPTH_FITS = 4, /* every depth */
+    PLUSH_QUESTION_IN_LOOP = 5, /* a break or continue stands in a loop */
+    PLUSH_QUESTION_MUTABLE = 6, /* an assigned identifier is mutable */
+    PLUSH_QUESTION_LET_FREE = 7, /* a let's name is free in its scope */
+    PLUSH_QUESTION_DECLARED = 8, /* an identifier is declared */
+    PLUSH_QUESTION_NULL_DECLARED = 9, /* the same of null */
+    PLUSH_QUESTION_INSTANCEOF_CLASS = 10, /* instanceof names a class */
+    PLUSH_QUESTION_PARENT_CLASS = 11, /* a class's parent names a class */
+    PLUSH_QUESTION_CONSTRUCTED_RECORD = 12, /* a class called as a constructor has a record */
+    PLUSH_QUESTION_METHOD_THERE = 13, /* a class has the method called on it */
+    PLUSH_QUESTION_METHOD_ARITY = 14, /* with as many parameters as arguments */
+    PLUSH_QUESTION_EXPORTED = 15, /* an imported unit has the listed name */
+    PLUSH_QUESTION_NAME_FREE = 16, /* an import, class, parameter or literal let is new in its scope */
+    PLUSH_QUESTION_KNOWN = 17, /* a host constant is MAIN_UNIT; a method's class is none of 3 to 9 */
+    PLUSH_QUESTION_NO_CYCLE = 18, /* no class is its own ancestor */
+    PLUSH_QUESTION_PARENT_RECORD = 19, /* a class's parent has a record */
+    PLUSH_QUESTION_INIT_THERE = 20, /* a constructed class has an init */
+    PLUSH_QUESTION_INIT_ARITY = 21, /* with one parameter more than arguments */
+    PLUSH_QUESTION_ROOM = 22 /* the answer rows fit the lent words */
+};
+
+/* The limits of what is accepted. */
+enum {
+    PLUSH_LIMIT_ROWS = 2048,
+    PLUSH_LIMIT_DEPTH = 64,
+    PLUSH_LIMIT_GLOBALS = 1000000, /* that exist before the walk */
+    PLUSH_LIMIT_FILES = 262144, /* numbered below this */
+    PLUSH_LIMIT_NAMES = 1024,
+    PLUSH_LIMIT_LIST_BYTES = 32768, /* of the whole list, with ends */
+    PLUSH_LIMIT_NAME_BYTES = 255 /* of one name */
+};
+
+/* Classes that are there without being declared. A class of the sheet has the number PLUSH_CLASS_FIRST + its row, and a function
+ * the number of its row. */
+enum {
+    PLUSH_CLASS_INT64 = 3,
+    PLUSH_CLASS_FLOAT64 = 4,
+    PLUSH_CLASS_STRING = 5,
+    PLUSH_CLASS_ARRAY = 7,
+    PLUSH_CLASS_BYTEARRAY = 8,
+    PLUSH_CLASS_DICT = 9,
+    PLUSH_CLASS_UIEVENT = 100,
+    PLUSH_CLASS_AUDIO_NEEDED = 101,
+    PLUSH_CLASS_AUDIO_DATA = 102,
+    PLUSH_CLASS_FIRST = 256
+};
+
+#ifdef __cplusplus
+}
+#endif
+
+#endif

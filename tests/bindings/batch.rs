@@ -1,0 +1,61 @@
+//! batch: as batch.c, through the Rust binding, in two threads. Each answer row is read as an `AnswerRow` and written back.
+use plush::{resolve, resolve_to_vec, Position, ANSWER_WORDS};
+use std::io::{Read, Write};
+
+fn numbers(bytes: &[u8]) -> Vec<u32> {
+    bytes.chunks_exact(4).map(|four| u32::from_le_bytes(four.try_into().unwrap())).collect()
+}
+
+fn take<'a>(bytes: &mut &'a [u8], count: usize) -> &'a [u8] {
+    let (first, rest) = bytes.split_at(count);
+    *bytes = rest;
+    first
+}
+
+fn line(words: [u32; 8]) -> String {
+    words.iter().map(|word| format!("{word:10}")).collect::<String>() + "\n"
+}
+
+fn report(sheet: &[u32], names: &[u8], answer: &mut [u32]) -> String {
+    match resolve(sheet, names, answer) {
+        Ok(resolved) => {
+            let rows: Vec<_> = resolved.rows().collect();
+            assert_eq!(rows.len() * 8, resolved.words().len(), "every row is read");
+            assert_eq!(resolve_to_vec(sheet, names), Ok((rows.clone(), resolved.globals())));
+            let first = line([0, 0, 0, 0, 0, rows.len() as u32, resolved.globals(), 0]);
+            first + &rows.into_iter().map(|row| line(row.to_words())).collect::<String>()
+        }
+        Err(refusal) => {
+            assert!(answer.iter().all(|&word| word == 0), "zeros after a refusal");
+            let Position { file, line: line_no, column } = refusal.position;
+            let at = [file, line_no, column];
+            assert!(refusal.question.has_position() || at == [0; 3], "{refusal}");
+            line([refusal.question as u32, file, line_no, column, refusal.name, 0, 0, 0])
+        }
+    }
+}
+
+/// The reports of some cases, in lent words of their own.
+fn reports(cases: &[(Vec<u32>, &[u8])]) -> String {
+    let mut answer = vec![u32::MAX; ANSWER_WORDS];
+    cases.iter().map(|(sheet, names)| report(sheet, names, &mut answer)).collect()
+}
+
+fn main() {
+    let mut input = Vec::new();
+    std::io::stdin().read_to_end(&mut input).unwrap();
+    let mut left = &input[..];
+    let mut cases = Vec::new();
+    while !left.is_empty() {
+        let size = numbers(take(&mut left, 8));
+        let sheet = numbers(take(&mut left, 4 * size[0] as usize));
+        cases.push((sheet, take(&mut left, size[1] as usize)));
+    }
+    // in two threads at the same time, with the stack that threads have
+    let (first, second) = cases.split_at(cases.len() / 2);
+    let told = std::thread::scope(|scope| {
+        let threads = [first, second].map(|half| scope.spawn(move || reports(half)));
+        threads.map(|thread| thread.join().unwrap())
+    });
+    std::io::stdout().write_all(told.concat().as_bytes()).unwrap();
+}

@@ -1,0 +1,87 @@
+/* edges: the C routine at the edges of what it is lent. Exit status 1 if a check fails. */
+#include <stdio.h>
+#include <string.h>
+
+#include "plush.h"
+
+#define STALE 0xA5A5A5A5u
+
+/* S1 of document 01, `let f = |p| return p`, and its answer. */
+static const uint32_t SHEET[80] = {
+    0,  0, 1, 0, 0, 0, 0, 2,  2, 0, 2, 0, 0, 0, 0, 0,  6,  0, 3, 0, 1, 1,  0, 1,  25, 0, 4, 0, 1, 1,  0, 0,  29, 0, 5, 0, 1, 1,  25, 0,
+    52, 0, 6, 0, 1, 9, 0, 0,  6, 0, 7, 0, 1, 9, 0, 0,  11, 8, 0, 0, 1, 10, 26, 0, 22, 0, 9, 0, 1, 13, 0, 0,  50, 0, 0, 0, 1, 20, 26, 0};
+static const uint8_t NAMES[] = "f\np\n";
+static const uint32_t ANSWER[32] = {2, 20, 0, 0, 0, 0, 0, 0, 4, 1, 6, 0, 0, 0, 0, 0, 6, 20, 0, 0, 0, 0, 0, 0, 9, 4, 0, 6, 0, 0, 0, 0};
+
+static int failed;
+
+static void check(int holds, const char *what) {
+    if (!holds) {
+        printf("FAILED: %s\n", what);
+        failed = 1;
+    }
+}
+
+static int all(const uint32_t *words, size_t count, uint32_t value) {
+    for (size_t i = 0; i < count; i++) {
+        if (words[i] != value) {
+            return 0;
+        }
+    }
+    return 1;
+}
+
+/* Resolves with lent words that hold something else before, in arrays that go on behind them: nothing may be written there. */
+static uint32_t answer[64], report[16];
+
+static uint32_t resolve(const uint32_t *sheet, size_t words, size_t name_bytes, size_t lent, size_t room) {
+    memset(answer, 0xA5, sizeof answer);
+    memset(report, 0xA5, sizeof report);
+    uint32_t question = plush_resolve(sheet, words, NAMES, name_bytes, answer, lent, report, room);
+    check(all(answer + lent, 64 - lent, STALE), "words after the lent answer words are as before");
+    check(all(report + room, 16 - room, STALE), "words after the lent report words are as before");
+    if (question != 0) {
+        check(all(answer, lent, 0), "after a refusal every answer word is 0");
+    }
+    return question;
+}
+
+static void check_resolved(size_t lent, size_t room) {
+    static const uint32_t line[16] = {0, 0, 0, 0, 0, 4, 0, 0};
+    check(resolve(SHEET, 80, 4, lent, room) == 0, "S1 is resolved");
+    check(memcmp(answer, ANSWER, sizeof ANSWER) == 0, "its answer rows");
+    check(all(answer + 32, lent - 32, 0), "zeros after them");
+    check(memcmp(report, line, room * sizeof *report) == 0, "its report, and zeros after the eighth word");
+}
+
+static void check_refused(uint32_t number, const uint32_t *sheet, size_t words, size_t name_bytes, size_t lent, const char *what) {
+    for (size_t room = 0; room <= 16; room++) {
+        uint32_t line[16] = {number};
+        check(resolve(sheet, words, name_bytes, lent, room) == number, what);
+        check(memcmp(report, line, room * sizeof *report) == 0, what);
+    }
+}
+
+int main(void) {
+    for (size_t room = 0; room <= 16; room++) {
+        check_resolved(64, room);
+    }
+    check_resolved(32, 8);
+    check_refused(PLUSH_QUESTION_ROWS_FIT, SHEET, 0, 4, 64, "an empty sheet");
+    check_refused(PLUSH_QUESTION_ROWS_FIT, SHEET, 79, 4, 64, "a sheet whose words are no rows of eight");
+    check_refused(PLUSH_QUESTION_NAMES_FIT, SHEET, 80, 3, 64, "a last name without its end");
+    check_refused(PLUSH_QUESTION_FORMAT_FITS, SHEET, 72, 4, 64, "a link to a row that is not there");
+    check_refused(PLUSH_QUESTION_FORMAT_FITS, SHEET, 80, 2, 64, "a name that is not listed");
+    check_refused(PLUSH_QUESTION_ROOM, SHEET, 80, 4, 31, "31 answer words for 4 rows");
+    check_refused(PLUSH_QUESTION_ROOM, SHEET, 80, 4, 0, "no answer words");
+
+    uint32_t undeclared[80];
+    memcpy(undeclared, SHEET, sizeof SHEET);
+    undeclared[8 * 9 + PLUSH_COLUMN_A] = PLUSH_NAME_NULL;
+    undeclared[8 * 9 + PLUSH_COLUMN_FILE] = 7;
+    static const uint32_t line[8] = {PLUSH_QUESTION_NULL_DECLARED, 7, 1, 20, PLUSH_NAME_NULL, 0, 0, 0};
+    check(resolve(undeclared, 80, 4, 64, 8) == PLUSH_QUESTION_NULL_DECLARED, "null is not declared");
+    check(memcmp(report, line, sizeof line) == 0, "position and name of a refusal");
+    puts(failed ? "edges: FAILED" : "edges: S1, refusals 1, 2, 3, 9 and 22, report slices of 0 to 16 words: as they must be");
+    return failed;
+}
