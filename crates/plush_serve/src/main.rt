@@ -16,6 +16,12 @@ use request::verb;
 use resolve_text::resolve_lent;
 use say::complain;
 
+// A loop needs an end; this one is out of reach.
+const MOST_REQUESTS: u64 = 18446744073709551615;
+
+// The bytes of a header after its first.
+const REST_OF_HEADER: usize = 80;
+
 // Writes the reply of a sheet's text and its names, with so many answer rows lent. Returns false where that fails.
 fn reply(sheet: &[u8], names: &[u8], lent: usize, text: &mut [u8]) -> bool {
     let n = resolve_lent(sheet, names, lent, text);
@@ -52,7 +58,8 @@ fn answer(header: &[u8], sheet: &mut [u8], names: &mut [u8], text: &mut [u8]) ->
     }
 }
 
-// One request. Returns false where there is none, or where it ends the program.
+// One request. Its first byte is read alone: where there is none, there is no request, and nothing is said. Returns false where the program
+// is to end.
 fn step(sheet: &mut [u8], names: &mut [u8], text: &mut [u8]) -> bool {
     let mut header = [0u8; 81];
     let first = libc::read(STDIN_FILENO, &mut header[..1]);
@@ -63,15 +70,15 @@ fn step(sheet: &mut [u8], names: &mut [u8], text: &mut [u8]) -> bool {
         os::fail(b"read");
         return false;
     }
-    if io::read_full(STDIN_FILENO, &mut header[1..]) < 80 {
+    if io::read_full(STDIN_FILENO, &mut header[1..]) < REST_OF_HEADER {
         return complain(broken::CUT_OFF);
     }
     answer(&header, sheet, names, text)
 }
 
-// All requests: more than can come.
+// All requests.
 fn run(sheet: &mut [u8], names: &mut [u8], text: &mut [u8]) {
-    let mut left: u64 = 18446744073709551615;
+    let mut left = MOST_REQUESTS;
     while left > 0 {
         if !step(sheet, names, text) {
             return;

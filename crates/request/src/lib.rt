@@ -32,7 +32,7 @@ fn largest_of(verb: u32) -> [u32; 8]
     ensures { λ r. ⌜ r ≡ largest verb ⌝ }
 {
     match verb {
-        verb::RESOLVE => [1, ANY, ANY, 0, LENT_ROWS, 0, 0, 0],
+        verb::RESOLVE => [verb::RESOLVE, ANY, ANY, 0, LENT_ROWS, 0, 0, 0],
         _ => [0; 8],
     }
 }
