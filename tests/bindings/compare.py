@@ -1,6 +1,6 @@
-"""compare.py REPLAY BATCH_C BATCH_RUST COUNT [ORACLE]
+"""compare.py SERVE BATCH_C BATCH_RUST COUNT [ORACLE]
 
-Resolves COUNT random sheets through the C routine, through the Rust binding and with the text program, and compares the three
+Resolves COUNT random sheets through the C routine, through the Rust binding and over the pipe (plush_serve), and compares the three
 reports word by word. One sheet in ten is damaged, so that most often questions 1 to 4 refuse it; the first is the one that takes
 the most stack of those known. Each program has 2 MiB of it, which plush.h says is enough. With ORACLE, the Rust of Plush
 behind the sheet format (tests/oracle/build.sh), also with its answers. Exit status 1 if a case differs.
@@ -23,8 +23,7 @@ SIZES = [5, 10, 15, 25, 25, 40, 60, 100, 400]
 DAMAGED = 0.1
 LINE = 81
 STACK = 2048  # KiB
-# what the text program reads of its files
-TEXT_ROOM, NAMES_ROOM = 165_889, 32_769
+RESOLVE = 1  # the verb
 
 
 def random_case(rng):
@@ -43,11 +42,10 @@ def deepest_case():
     return list(sheet.words), bytes(sheet.names)
 
 
-def for_text_program(words, names):
-    """A case as the text program takes it: two numbers in ten columns, the sheet's text, the names."""
-    text = text_of([words[i:i + 8] for i in range(0, len(words), 8)]).encode()[:TEXT_ROOM]
-    names = names[:NAMES_ROOM]
-    return b"%10d%10d" % (len(text), len(names)) + text + names
+def for_serve(words, names):
+    """A case as a request: the header's row, the sheet's text, the names."""
+    text = text_of([words[i:i + 8] for i in range(0, len(words), 8)]).encode()
+    return text_of([[RESOLVE, len(text), len(names), 0, LENT, 0, 0, 0]]).encode() + text + names
 
 
 def for_batch(words, names):
@@ -70,13 +68,13 @@ def reports(program, data):
 
 
 def main():
-    replay, batch_c, batch_rust, count = sys.argv[1], sys.argv[2], sys.argv[3], int(sys.argv[4])
+    serve, batch_c, batch_rust, count = sys.argv[1], sys.argv[2], sys.argv[3], int(sys.argv[4])
     oracle = sys.argv[5] if len(sys.argv) > 5 else None
     rng = random.Random(1)
     questions, words_compared, differing = Counter(), 0, 0
     for start in range(0, count, BATCH):
         cases = [random_case(rng) if start + i else deepest_case() for i in range(min(BATCH, count - start))]
-        expected = reports(replay, b"".join(for_text_program(*case) for case in cases))
+        expected = reports(serve, b"".join(for_serve(*case) for case in cases))
         told = {"C": reports(batch_c, b"".join(for_batch(*case) for case in cases)),
                 "Rust": reports(batch_rust, b"".join(for_batch(*case) for case in cases))}
         if oracle:

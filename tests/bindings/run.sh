@@ -59,14 +59,14 @@ g++ -std=c++11 -Wall -Wextra -Wpedantic -Werror "-I$top/include" "$out/header.cp
 echo "header: C11 and C++11, no warning"
 python3 "$here/constants.py"
 
-# random sheets: C, Rust and the text program
+# random sheets: C, Rust and the pipe
 gcc $flags "$here/batch.c" "$library/libplush.a" -o "$out/batch_c"
 cargo build --offline --quiet --release --manifest-path "$top/bindings/rust/Cargo.toml"
 rustc --edition 2021 -O "$here/batch.rs" --extern plush="$out/cargo/release/libplush.rlib" -L native="$library" -o "$out/batch_rust"
-(cd "$build" && rt check replay > "$out/replay.log" 2>&1) || { tail -20 "$out/replay.log"; exit 1; }
+(cd "$build" && rt check plush_serve > "$out/serve.log" 2>&1) || { tail -20 "$out/serve.log"; exit 1; }
 oracle=
 if [ -n "$plush" ]; then
     "$here/../oracle/build.sh" "$plush" "$out/oracle" > /dev/null
     oracle=$out/oracle/oracle
 fi
-python3 "$here/compare.py" "$build/target/bin/replay" "$out/batch_c" "$out/batch_rust" "$count" $oracle
+python3 "$here/compare.py" "$build/target/bin/plush_serve" "$out/batch_c" "$out/batch_rust" "$count" $oracle
