@@ -45,7 +45,7 @@ def deepest_case():
 def for_serve(words, names):
     """A case as a request: the header's row, the sheet's text, the names."""
     text = text_of([words[i:i + 8] for i in range(0, len(words), 8)]).encode()
-    return text_of([[RESOLVE, len(text), len(names), 0, LENT, 0, 0, 0]]).encode() + text + names
+    return text_of([[RESOLVE, len(text), len(names), 0, LENT // 8, 0, 0, 0]]).encode() + text + names
 
 
 def for_batch(words, names):
