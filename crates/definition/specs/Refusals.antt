@@ -318,7 +318,10 @@ constructor-short = record {
 
 abbrev pub refusals : List Sample
 refusals =
-    jump-outside ∷ immutable-assigned ∷ let-twice ∷ undeclared ∷ null-written ∷ no-class-of ∷ no-class-extended ∷ dict-constructed ∷ no-such-method ∷ one-argument-short ∷ no-such-export ∷ parameter-twice ∷ imported-twice ∷ unknown-host-constant ∷ method-of-a-core-class ∷ circle-of-parents ∷ string-extended ∷ no-constructor ∷ constructor-short ∷ []
+    jump-outside ∷ immutable-assigned ∷ let-twice ∷ undeclared ∷ null-written ∷ no-class-of
+    ∷ no-class-extended ∷ dict-constructed ∷ no-such-method ∷ one-argument-short
+    ∷ no-such-export ∷ parameter-twice ∷ imported-twice ∷ unknown-host-constant
+    ∷ method-of-a-core-class ∷ circle-of-parents ∷ string-extended ∷ no-constructor ∷ constructor-short ∷ []
 
 pub results : map printedOf refusals ≡ map expected refusals
 results = refl
