@@ -1,6 +1,9 @@
 // The limits of what is accepted.
 pub const ROWS: usize = 2048;
 
+// Rows that can be lent over the pipe: answer rows, or those of a target.
+pub const LENT_ROWS: u32 = 2048;
+
 pub const DEPTH: u32 = 64;
 
 // Globals that exist before the walk.

@@ -5,6 +5,7 @@
 mod input;
 mod say;
 
+use input::fill;
 use input::read_part;
 use input::skip;
 use libc::STDIN_FILENO;
@@ -19,8 +20,7 @@ use say::complain;
 // A loop needs an end; this one is out of reach.
 const MOST_REQUESTS: u64 = 18446744073709551615;
 
-// The bytes of a header after its first.
-const REST_OF_HEADER: usize = 80;
+const HEADER_BYTES: usize = 81;
 
 // Writes the reply of a sheet's text and its names, with so many answer rows lent. Returns false where that fails.
 fn reply(sheet: &[u8], names: &[u8], lent: usize, text: &mut [u8]) -> bool {
@@ -58,11 +58,10 @@ fn answer(header: &[u8], sheet: &mut [u8], names: &mut [u8], text: &mut [u8]) ->
     }
 }
 
-// One request. Its first byte is read alone: where there is none, there is no request, and nothing is said. Returns false where the program
-// is to end.
+// One request. Where there is no byte of a header, there is no request, and nothing is said. Returns false where the program is to end.
 fn step(sheet: &mut [u8], names: &mut [u8], text: &mut [u8]) -> bool {
     let mut header = [0u8; 81];
-    let first = libc::read(STDIN_FILENO, &mut header[..1]);
+    let first = libc::read(STDIN_FILENO, &mut header);
     if first == 0 {
         return false;
     }
@@ -70,7 +69,8 @@ fn step(sheet: &mut [u8], names: &mut [u8], text: &mut [u8]) -> bool {
         os::fail(b"read");
         return false;
     }
-    if io::read_full(STDIN_FILENO, &mut header[1..]) < REST_OF_HEADER {
+    let got = io::count(first, &header);
+    if fill(&mut header, got) < HEADER_BYTES {
         return complain(broken::CUT_OFF);
     }
     answer(&header, sheet, names, text)

@@ -6,13 +6,11 @@ pub mod verb;
 ghost use mathlib.Core.Path.{_≡_};
 ghost use lib.ListN.{length};
 ghost use Rattle.request.specs.Header.{largest, brokenBy, told, requestOf};
+use ast::limit;
 use text::read_sheet;
 
 // A body may be of any length: what is too long is for a question to refuse.
 const ANY: u32 = 4294967295;
-
-// The answer rows that can be lent.
-const LENT_ROWS: u32 = 2048;
 
 // What breaks the request (0: nothing), and the numbers of its header.
 pub struct Request {
@@ -32,7 +30,7 @@ fn largest_of(verb: u32) -> [u32; 8]
     ensures { λ r. ⌜ r ≡ largest verb ⌝ }
 {
     match verb {
-        verb::RESOLVE => [verb::RESOLVE, ANY, ANY, 0, LENT_ROWS, 0, 0, 0],
+        verb::RESOLVE => [verb::RESOLVE, ANY, ANY, 0, limit::LENT_ROWS, 0, 0, 0],
         _ => [0; 8],
     }
 }

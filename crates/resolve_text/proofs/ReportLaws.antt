@@ -5,9 +5,9 @@ use mathlib.Core.List.{List, [], _∷_, _++_, append-assoc}
 use Prim.Native.Nat.{ℕ, zero, suc, _+_, _-_, _*_, _<_, _≤_}
 use native.Mathlib.Omega.{arith}
 use native.Mathlib.Decide.{decLe}
-use lib.ListN.{length, getD, set, take, drop, replicate, length-append, length-drop}
+use lib.ListN.{length, getD, take, drop, replicate, length-append, length-drop}
 use lib.Dec.{T, leb, leb→le}
-use lib.Seq.{sets-eq, drop-length, take-at, drop-at, take-append-add, length-take-le}
+use lib.Seq.{take-at, drop-at, take-append-add, length-take-le}
 use borrow.Author.Tests.{le-leb, lt-leb}
 use borrow.Rule.Slice.PartMut.{putMid}
 use Rattle.definition.specs.Basics.{if_then_else_, concatMap}
@@ -16,7 +16,6 @@ use Rattle.definition.specs.Text.{lines, isSheetText, sheetOf, textOf}
 use Rattle.definition.specs.Outcome.{Outcome, rowsFit, refused, outcome, buffer, report, printed}
 use Rattle.definition.proofs.Lists.Tests.{and-right}
 use Rattle.definition.proofs.Format.Accepted.{Eights, good-outcome}
-use Rattle.lexer.specs.SrcPos.{fileOf, lineOf, columnOf}
 use Rattle.text.specs.Lines.{lineOf as textLine}
 use Rattle.text.specs.Reading.{SheetRead, isReadable, linesRead, wordsRead}
 use Rattle.text.specs.Writing.{RowsWritten, rowsIn, bytesWritten, textWritten}
@@ -24,8 +23,10 @@ use Rattle.text.proofs.Lists.{pieces-length}
 use Rattle.text.proofs.Laws.{line-length, sheet-words, rows-read, rows-fit, rows-of-joined}
 use Rattle.answer.specs.declared.Answer.{Answer}
 use Rattle.answer.specs.Tells.{Tells}
+use Rattle.report.specs.Line.{toldBy, fitted}
+use Rattle.report.proofs.Laws.{told-line, line-first, fitted-whole}
 use Rattle.resolver.specs.Answered.{Answered}
-use Rattle.resolve_text.specs.Report.{firstRow, printedWith, reply, Reported, Replied, Printed}
+use Rattle.resolve_text.specs.Report.{printedWith, reply, Reported, Replied, Printed}
 
 -- the words of rows
 abbrev flat : List (List ℕ) → List ℕ
@@ -35,21 +36,14 @@ flat rs = concatMap (λ r. r) rs
 abbrev firstOf : Outcome → List ℕ
 firstOf o = o .number ∷ o .file ∷ o .line ∷ o .column ∷ o .name ∷ length (o .rows) ∷ o .globals ∷ 0 ∷ []
 
--- eight words stored one after another
-eight-stored : (w : List ℕ) (a b c d e f g h : ℕ) → length w ≡ 8
-    → set (set (set (set (set (set (set (set w 0 a) 1 b) 2 c) 3 d) 4 e) 5 f) 6 g) 7 h ≡ a ∷ b ∷ c ∷ d ∷ e ∷ f ∷ g ∷ h ∷ []
-eight-stored w a b c d e f g h l =
-    let v : List ℕ = a ∷ b ∷ c ∷ d ∷ e ∷ f ∷ g ∷ h ∷ [] in
-    sets-eq v w 0 (omega arith) ∙ ap (λ (xs : List ℕ). v ++ xs) (ap (λ (n : ℕ). drop n w) (sym l) ∙ drop-length w)
-
-pub first-stored : (x : Answer) (w : List ℕ) (f l c : ℕ) → length w ≡ 8 → f ≡ fileOf (x .pos .0) → l ≡ lineOf (x .pos .0) → c ≡ columnOf (x .pos .0)
-    → set (set (set (set (set (set (set (set w 0 (x .number)) 1 f) 2 l) 3 c) 4 (x .name)) 5 (x .rows)) 6 (x .globals)) 7 0 ≡ firstRow x
-unfolding firstRow
-first-stored x w f l c e hf hl hc = rw (hf, hl, hc) (eight-stored w (x .number) (fileOf (x .pos .0)) (lineOf (x .pos .0)) (columnOf (x .pos .0)) (x .name) (x .rows) (x .globals) 0 e)
-
-first-told : (o : Outcome) (x : Answer) → Tells o x → firstRow x ≡ firstOf o
-unfolding firstRow
-first-told o x h = rw (h .number, h .file, h .line, h .column, h .name, h .rows, h .globals)
+-- the line that an answer tells, in room for eight words
+first-row : (o : Outcome) (x : Answer) (line row : List ℕ) (n : ℕ) → Tells o x → length (o .rows) ≤ 4294967295
+    → line ≡ toldBy x → n ≡ 8 → row ≡ fitted n line → row ≡ firstOf o
+first-row o x line row n t few l e r =
+    r
+    ∙ ap (λ (k : ℕ). fitted k line) e
+    ∙ ap (fitted 8) (l ∙ told-line o x t ∙ line-first o few)
+    ∙ fitted-whole 8 (firstOf o) refl
 
 -- rows of eight
 eight-at : {rs : List (List ℕ)} → Eights rs → (i : ℕ) → i < length rs → length (getD rs i []) ≡ 8
@@ -60,14 +54,13 @@ eight-at (Eights.more e p) (suc i) l = eight-at p i (omega arith)
 flat-length : (rs : List (List ℕ)) → Eights rs → length (flat rs) ≡ 8 * length rs
 flat-length rs p = pieces-length 8 (λ (r : List ℕ). r) [] rs (eight-at p)
 
--- an answer's first row and its rows are the report
+-- the first row and an answer's rows are the report
 told-words : (lent : ℕ) (o : Outcome) (x : Answer) (rest : List ℕ) → Eights (o .rows) → Tells o x
-    → take (8 * (x .rows + 1)) (firstRow x ++ (buffer lent o ++ rest)) ≡ flat (report o)
+    → take (8 * (x .rows + 1)) (firstOf o ++ (buffer lent o ++ rest)) ≡ flat (report o)
 told-words lent o x rest g h =
     let n : 8 * (x .rows + 1) ≡ 8 + 8 * x .rows = omega arith in
     let zeros : List ℕ = replicate (lent - 8 * length (o .rows)) 0 in
-    ap (λ (k : ℕ). take k (firstRow x ++ (buffer lent o ++ rest))) n
-    ∙ ap (λ (xs : List ℕ). take (8 + 8 * x .rows) (xs ++ (buffer lent o ++ rest))) (first-told o x h)
+    ap (λ (k : ℕ). take k (firstOf o ++ (buffer lent o ++ rest))) n
     ∙ take-append-add (firstOf o) (buffer lent o ++ rest) (8 * x .rows)
     ∙ ap (λ (xs : List ℕ). firstOf o ++ xs)
     (ap (take (8 * x .rows)) (append-assoc (flat (o .rows)) zeros rest)
@@ -91,16 +84,25 @@ module _ (lent : ℕ) (s : Sheet) (ns rep out : List ℕ) (m : ℕ) (x : Answer)
   pub few : x .rows ≤ 2048
   few = omega (arith, answered .tells .rows, good-outcome (8 * lent) s ns .1)
 
-  words-told : (row : List ℕ) → row ≡ firstRow x → take (8 * (x .rows + 1)) (row ++ drop 8 (putMid 8 m rep out)) ≡ flat (report (outcome s ns (8 * lent)))
-  words-told row r =
-      let rest : List ℕ = drop m (drop 8 rep) in
-      ap (λ (xs : List ℕ). take (8 * (x .rows + 1)) (row ++ xs)) (drop-at (take 8 rep) (out ++ rest) 8 (length-take-le 8 rep (omega arith)))
-      ∙ ap (λ (xs : List ℕ). take (8 * (x .rows + 1)) (xs ++ (out ++ rest))) r
-      ∙ ap (λ (xs : List ℕ). take (8 * (x .rows + 1)) (firstRow x ++ (xs ++ rest))) (answered .words)
-      ∙ told-words (8 * lent) (outcome s ns (8 * lent)) x rest (good-outcome (8 * lent) s ns .0) (answered .tells)
+  -- the room for the first row, and what is written there
+  module _ (line row : List ℕ) (told : line ≡ toldBy x) (written : row ≡ fitted (length (take 8 (putMid 8 m rep out))) line) where
+    abbrev told-outcome : Outcome
+    told-outcome = outcome s ns (8 * lent)
 
-  pub reported : (row : List ℕ) → row ≡ firstRow x → Reported lent s ns (x .rows + 1) (row ++ drop 8 (putMid 8 m rep out))
-  reported row r = record { count = omega (arith, answered .tells .rows); words = words-told row r }
+    row-told : row ≡ firstOf told-outcome
+    row-told =
+        first-row told-outcome x line row _ (answered .tells) (omega (arith, good-outcome (8 * lent) s ns .1)) told (first-room rep out m size) written
+
+    words-told : take (8 * (x .rows + 1)) (row ++ drop 8 (putMid 8 m rep out)) ≡ flat (report told-outcome)
+    words-told =
+        let rest : List ℕ = drop m (drop 8 rep) in
+        ap (λ (xs : List ℕ). take (8 * (x .rows + 1)) (row ++ xs)) (drop-at (take 8 rep) (out ++ rest) 8 (length-take-le 8 rep (omega arith)))
+        ∙ ap (λ (xs : List ℕ). take (8 * (x .rows + 1)) (xs ++ (out ++ rest))) row-told
+        ∙ ap (λ (xs : List ℕ). take (8 * (x .rows + 1)) (firstOf told-outcome ++ (xs ++ rest))) (answered .words)
+        ∙ told-words (8 * lent) told-outcome x rest (good-outcome (8 * lent) s ns .0) (answered .tells)
+
+    pub reported : Reported lent s ns (x .rows + 1) (row ++ drop 8 (putMid 8 m rep out))
+    reported = record { count = omega (arith, answered .tells .rows); words = words-told }
 
 -- a sheet that question 1 refuses
 unless : (x y : Outcome) (t : Bool) → t ≡ false → (if not t then x else y) ≡ x

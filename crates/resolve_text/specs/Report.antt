@@ -1,7 +1,7 @@
 -- What the routines from text to text promise, and their parts.
 use mathlib.Core.Path.{_≡_}
 use mathlib.Core.Bool.{_&&_}
-use mathlib.Core.List.{List, [], _∷_, _++_}
+use mathlib.Core.List.{List, [], _++_}
 use Prim.Native.Nat.{ℕ, _+_, _*_, _<_, _≤_}
 use lib.ListN.{length, take, drop}
 use lib.Dec.{leb}
@@ -9,13 +9,6 @@ use Rattle.definition.specs.Basics.{if_then_else_, concatMap}
 use Rattle.definition.specs.Sheet.{Sheet}
 use Rattle.definition.specs.Text.{sheetOf, textOf}
 use Rattle.definition.specs.Outcome.{outcome, report, printed}
-use Rattle.lexer.specs.SrcPos.{fileOf, lineOf, columnOf}
-use Rattle.answer.specs.declared.Answer.{Answer}
-
--- the report's first row
-unfoldable pub firstRow : Answer → List ℕ
-firstRow x =
-    x .number ∷ fileOf (x .pos .0) ∷ lineOf (x .pos .0) ∷ columnOf (x .pos .0) ∷ x .name ∷ x .rows ∷ x .globals ∷ 0 ∷ []
 
 -- With `lent` answer rows lent, the first n rows of the words w are the report of sheet s and the bytes ns of its names.
 pub record Reported (lent : ℕ) (s : Sheet) (ns : List ℕ) (n : ℕ) (w : List ℕ) : Type 0 where

@@ -3,33 +3,16 @@ ghost use mathlib.Core.Path.{_≡_};
 ghost use mathlib.Core.List.{_++_};
 ghost use Prim.Native.Nat.{_≤_};
 ghost use lib.ListN.{length, drop};
-ghost use Rattle.resolve_text.specs.Report.{firstRow, printedWith, Reported, RepliedOfTexts, PrintedOfFiles};
-use resolver::Answer;
+ghost use Rattle.resolve_text.specs.Report.{printedWith, Reported, RepliedOfTexts, PrintedOfFiles};
+use ast::limit;
+use report::first_line;
+use report::write_fitted;
 use resolver::resolve;
 use text::read_sheet;
 use text::write_rows;
 
-// The answer rows that can be lent.
-const MOST_ROWS: usize = 2048;
-
 // The bytes of 2,049 lines: the longest report.
 const LONGEST_REPORT: usize = 165969;
-
-// The report's first row.
-fn write_first(x: Answer, row: &mut [u32])
-    requires { ⌜ (length (now row) ≡ 8) × (x .rows ≤ 2048) ⌝ }
-    ensures { λ r. ⌜ now (row .exit) ≡ firstRow x ⌝ }
-{
-    let pos = x.pos;
-    row[0] = x.number;
-    row[1] = pos.file_id();
-    row[2] = pos.line_no();
-    row[3] = pos.col_no();
-    row[4] = x.name;
-    row[5] = x.rows as u32;
-    row[6] = x.globals;
-    row[7] = 0;
-}
 
 // The report of a sheet with so many answer rows lent, in rows. Returns their number.
 fn write_report(words: &[u32], names: &[u8], lent: usize, report: &mut [u32]) -> usize
@@ -37,7 +20,8 @@ fn write_report(words: &[u32], names: &[u8], lent: usize, report: &mut [u32]) ->
     ensures { λ n. ⌜ Reported lent (now (words .entry)) (now (names .entry)) n (now (report .exit)) ⌝ }
 {
     let x = resolve(words, names, &mut report[8..8 + 8 * lent]);
-    write_first(x, &mut report[..8]);
+    let line = first_line(x);
+    write_fitted(&line, &mut report[..8]);
     x.rows + 1
 }
 
@@ -65,7 +49,7 @@ fn print_report(
 pub fn resolve_lent(sheet: &[u8], names: &[u8], lent: usize, text: &mut [u8]) -> usize
     ensures { λ n. ⌜ RepliedOfTexts lent (now (sheet .entry)) (now (names .entry)) (now (text .entry)) n (now (text .exit)) ⌝ }
 {
-    if lent > MOST_ROWS {
+    if lent > limit::LENT_ROWS as usize {
         return 0;
     }
     if text.len() < LONGEST_REPORT {
@@ -81,5 +65,5 @@ pub fn resolve_lent(sheet: &[u8], names: &[u8], lent: usize, text: &mut [u8]) ->
 pub fn resolve_text(sheet: &[u8], names: &[u8], text: &mut [u8]) -> usize
     ensures { λ n. ⌜ PrintedOfFiles (now (sheet .entry)) (now (names .entry)) (now (text .entry)) n (now (text .exit)) ⌝ }
 {
-    resolve_lent(sheet, names, MOST_ROWS, text)
+    resolve_lent(sheet, names, limit::LENT_ROWS as usize, text)
 }

@@ -7,8 +7,8 @@ use Rattle.plush.proofs.plush_resolve.Tie as tie
 resolve-requires : tie.Need-resolve-requires
 resolve-requires c κs = search needs
 
-report-words-requires : tie.Need-report-words-requires
-report-words-requires c κs = search needs
+first-line-requires : tie.Need-first-line-requires
+first-line-requires c κs = search needs
 
 slice-aggregate-write-fitted : tie.Need-slice-aggregate-write-fitted
 slice-aggregate-write-fitted c = search needs
@@ -25,19 +25,19 @@ same-length-2 c = search needs
 returns : tie.Need-returns
 returns c =
     let write-fitted = c .before .before .write-fitted in
-    let report-words = c .before .before .before .before .before .report-words in
+    let first-line = c .before .before .before .before .before .first-line in
     let at-resolve = c .before .before .before .before .before .before .before .before in
     let resolve = at-resolve .resolve in
     let a = at-resolve .before .before .before .before .before .before .args in
-    resolved (a .sheet .now) (a .names .now) _ _ (resolve .result) _ (report-words .result) _ (resolve .ensures)
-    (report-words .ensures) (write-fitted .ensures)
+    resolved (a .sheet .now) (a .names .now) _ _ (resolve .result) _ (first-line .result) _ (resolve .ensures)
+    (first-line .ensures) (write-fitted .ensures)
 
 pub plush-resolve-spec : {M : Type 1} → statement M
 plush-resolve-spec =
     tie.close
     (tie.spec
     resolve-requires
-    report-words-requires
+    first-line-requires
     slice-aggregate-write-fitted
     write-fitted-requires
     same-length

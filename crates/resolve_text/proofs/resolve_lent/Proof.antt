@@ -5,6 +5,9 @@ use Rattle.resolve_text.proofs.Longer.{replied-texts}
 use Rattle.resolve_text.proofs.resolve_lent.Statement.{statement}
 use Rattle.resolve_text.proofs.resolve_lent.Tie as tie
 
+cast-if1 : tie.Need-cast-if1
+cast-if1 c = search needs
+
 returns : tie.Need-returns
 returns c =
     let start = c .before .before .before .before in
@@ -41,5 +44,5 @@ returns-3 c =
 
 pub resolve-lent-spec : {M : Type 1} → statement M
 resolve-lent-spec =
-    tie.close (tie.spec returns returns-2 slice-aggregate-print-report slice-aggregate-print-report-2
+    tie.close (tie.spec cast-if1 returns returns-2 slice-aggregate-print-report slice-aggregate-print-report-2
     print-report-requires same-length returns-3)

@@ -4,6 +4,9 @@ use Rattle.resolve_text.proofs.Longer.{printed-files}
 use Rattle.resolve_text.proofs.resolve_text.Statement.{statement}
 use Rattle.resolve_text.proofs.resolve_text.Tie as tie
 
+cast-resolve-lent : tie.Need-cast-resolve-lent
+cast-resolve-lent c = search needs
+
 resolve-lent-requires : tie.Need-resolve-lent-requires
 resolve-lent-requires c κs = search needs
 
@@ -14,4 +17,4 @@ returns : tie.Need-returns
 returns c = printed-files (c .before .before .resolve-lent .ensures)
 
 pub resolve-text-spec : {M : Type 1} → statement M
-resolve-text-spec = tie.close (tie.spec resolve-lent-requires same-length returns)
+resolve-text-spec = tie.close (tie.spec cast-resolve-lent resolve-lent-requires same-length returns)

@@ -25,34 +25,32 @@ part-resolve-end c = search needs
 resolve-requires : tie.Need-resolve-requires
 resolve-requires c κs = search needs
 
-slice-relend-prefix-write-first : tie.Need-slice-relend-prefix-write-first
-slice-relend-prefix-write-first c = search needs
+first-line-requires : tie.Need-first-line-requires
+first-line-requires c κs = search needs
 
-slice-aggregate-write-first : tie.Need-slice-aggregate-write-first
-slice-aggregate-write-first c =
-    let start = c .before .before .before .before .before .before .before .before in
-    sym (first-room (start .args .report .now) (c .before .before .before .resolve .last .1 .1 .0)
+slice-aggregate-write-fitted : tie.Need-slice-aggregate-write-fitted
+slice-aggregate-write-fitted c = search needs
+
+slice-relend-prefix-write-fitted : tie.Need-slice-relend-prefix-write-fitted
+slice-relend-prefix-write-fitted c = search needs
+
+slice-aggregate-write-fitted-2 : tie.Need-slice-aggregate-write-fitted-2
+slice-aggregate-write-fitted-2 c =
+    let start = c .before .before .before .before .before .before .before .before .before .before in
+    sym (first-room (start .args .report .now) (c .before .before .before .before .before .resolve .last .1 .1 .0)
     (8 + 8 * start .args .lent - 8) (start .pre .0))
 
-write-first-requires : tie.Need-write-first-requires
-write-first-requires c κs =
-    let start = c .before .before .before .before .before .before .before .before in
-    let resolve = c .before .before .before .resolve in (
-      first-room (start .args .report .now) (resolve .last .1 .1 .0) (8 + 8 * start .args .lent - 8) (start .pre .0),
-      few (start .args .lent) (start .args .words .now) (start .args .names .now) (start .args .report .now) _
-          (8 + 8 * start .args .lent - 8) (resolve .result) (start .pre .0) (start .pre .1) (omega arith)
-          (resolve .ensures),
-    )
+write-fitted-requires : tie.Need-write-fitted-requires
+write-fitted-requires c κs = search needs
 
 add-result : tie.Need-add-result
 add-result c =
-    let start = c .before .before .before .before .before .before .before .before .before .before .before .before in
-    let resolve = c .before .before .before .before .before .before .before .resolve in
+    let start = c .before .before .before .before .before .before .before .before .before .before .before .before .before .before in
+    let resolve = c .before .before .before .before .before .before .before .before .before .resolve in
     omega (
       arith,
       few (start .args .lent) (start .args .words .now) (start .args .names .now) (start .args .report .now) _
-          (8 + 8 * start .args .lent - 8) (resolve .result) (start .pre .0) (start .pre .1) (omega arith)
-          (resolve .ensures),
+          (8 + 8 * start .args .lent - 8) (resolve .result) (start .pre .0) (start .pre .1) (omega arith) (resolve .ensures),
     )
 
 same-length : tie.Need-same-length
@@ -60,11 +58,11 @@ same-length c = search needs
 
 returns : tie.Need-returns
 returns c =
-    let start = c .before .before .before .before .before .before .before .before .before .before .before .before in
-    let resolve = c .before .before .before .before .before .before .before .resolve in
+    let start = c .before .before .before .before .before .before .before .before .before .before .before .before .before .before in
+    let resolve = c .before .before .before .before .before .before .before .before .before .resolve in
     reported (start .args .lent) (start .args .words .now) (start .args .names .now) (start .args .report .now) _
-    (8 + 8 * start .args .lent - 8) (resolve .result) (start .pre .0) (start .pre .1) (omega arith) (resolve .ensures) _
-    (c .before .before .before .write-first .ensures)
+    (8 + 8 * start .args .lent - 8) (resolve .result) (start .pre .0) (start .pre .1) (omega arith) (resolve .ensures) (c .before .before .before .before .before .before .first-line .result) _
+    (c .before .before .before .before .before .before .first-line .ensures) (c .before .before .before .write-fitted .ensures)
 
 pub write-report-spec : {M : Type 1} → statement M
 write-report-spec =
@@ -76,9 +74,11 @@ write-report-spec =
     part-resolve-start
     part-resolve-end
     resolve-requires
-    slice-relend-prefix-write-first
-    slice-aggregate-write-first
-    write-first-requires
+    first-line-requires
+    slice-aggregate-write-fitted
+    slice-relend-prefix-write-fitted
+    slice-aggregate-write-fitted-2
+    write-fitted-requires
     add-result
     same-length
     returns)

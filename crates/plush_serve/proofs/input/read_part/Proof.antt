@@ -7,16 +7,16 @@ use Rattle.plush_serve.proofs.Laws.{counts-start}
 use Rattle.plush_serve.proofs.input.read_part.Statement.{statement}
 use Rattle.plush_serve.proofs.input.read_part.Tie as tie
 
-slice-relend-prefix-read-full : tie.Need-slice-relend-prefix-read-full
-slice-relend-prefix-read-full c = search needs
+slice-relend-prefix-fill : tie.Need-slice-relend-prefix-fill
+slice-relend-prefix-fill c = search needs
 
-slice-aggregate-read-full : tie.Need-slice-aggregate-read-full
-slice-aggregate-read-full c =
+slice-aggregate-fill : tie.Need-slice-aggregate-fill
+slice-aggregate-fill c =
     sym
     (length-take-le (c .before .before .before .args .n) (c .before .before .before .args .bytes .now) (search needs))
 
-read-full-requires : tie.Need-read-full-requires
-read-full-requires c κs = search needs
+fill-requires : tie.Need-fill-requires
+fill-requires c κs = search needs
 
 same-length : tie.Need-same-length
 same-length c = search needs
@@ -25,12 +25,12 @@ returns : tie.Need-returns
 returns c =
     let start = c .before .before .before .before .before .before in
     let if1 = c .before .before .before .before .if1 in
-    let read-full = c .before .before .read-full in
+    let fill = c .before .before .fill in
     let room = length-take-le (start .args .n) (start .args .bytes .now) (omega (arith, if1 .taken)) in
-    counts-start (start .args .n) _ _ _ (read-full .ensures) (omega (arith, read-full .kept .1 .0, room))
+    counts-start (start .args .n) _ _ _ (fill .ensures) (omega (arith, fill .kept .0, room))
 
-read-full-requires-2 : tie.Need-read-full-requires-2
-read-full-requires-2 c κs = search needs
+fill-requires-2 : tie.Need-fill-requires-2
+fill-requires-2 c κs = search needs
 
 same-length-2 : tie.Need-same-length-2
 same-length-2 c = search needs
@@ -42,11 +42,11 @@ pub read-part-spec : {M : Type 1} → statement M
 read-part-spec =
     tie.close
     (tie.spec
-    slice-relend-prefix-read-full
-    slice-aggregate-read-full
-    read-full-requires
+    slice-relend-prefix-fill
+    slice-aggregate-fill
+    fill-requires
     same-length
     returns
-    read-full-requires-2
+    fill-requires-2
     same-length-2
     returns-2)

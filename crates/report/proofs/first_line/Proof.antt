@@ -1,8 +1,8 @@
--- `report_words` meets its contract. Assumes nothing.
+-- `first_line` meets its contract. Assumes nothing.
 use borrow.Author.Needs.{needs}
-use Rattle.plush.proofs.Laws.{told-words}
-use Rattle.plush.proofs.report_words.Statement.{statement}
-use Rattle.plush.proofs.report_words.Tie as tie
+use Rattle.report.proofs.Laws.{told-words}
+use Rattle.report.proofs.first_line.Statement.{statement}
+use Rattle.report.proofs.first_line.Tie as tie
 
 file-id-requires : tie.Need-file-id-requires
 file-id-requires c κs = search needs
@@ -22,5 +22,5 @@ returns c =
     told-words x _ _ _ _ (c .before .before .before .file-id .ensures) (c .before .before .line-no .ensures)
     (c .before .col-no .ensures) (c .count-word .ensures)
 
-pub report-words-spec : {M : Type 1} → statement M
-report-words-spec = tie.close (tie.spec file-id-requires line-no-requires col-no-requires count-word-requires returns)
+pub first-line-spec : {M : Type 1} → statement M
+first-line-spec = tie.close (tie.spec file-id-requires line-no-requires col-no-requires count-word-requires returns)

@@ -5,10 +5,10 @@ use Prim.Native.Nat.{_≤_, _-_}
 use native.Mathlib.Omega.{arith}
 use borrow.Author.Needs.{needs}
 use lib.ListN.{length, take, drop, length-set}
-use Rattle.plush.specs.Resolved.{fitted}
-use Rattle.plush.proofs.FitLaws.{fit-more, fit-all}
-use Rattle.plush.proofs.write_fitted.Statement.{statement}
-use Rattle.plush.proofs.write_fitted.Tie as tie
+use Rattle.report.specs.Line.{fitted}
+use Rattle.report.proofs.FitLaws.{fit-more, fit-all}
+use Rattle.report.proofs.write_fitted.Statement.{statement}
+use Rattle.report.proofs.write_fitted.Tie as tie
 
 abbrev Inv-loop : tie.InvT-loop
 Inv-loop words lent₀ i₀ lent i = (i ≤ length lent₀) × (length lent ≡ length lent₀) × (lent ≡ take i (fitted (length lent₀) words) ++ drop i lent₀)

@@ -1,0 +1,42 @@
+// The first line of a report: an answer as the eight numbers of document 01.
+ghost use mathlib.Core.Path.{_≡_};
+ghost use Prim.Native.Nat.{min};
+ghost use lib.ListN.{length};
+ghost use Rattle.report.specs.Line.{fitted, toldBy};
+use answer::Answer;
+use words::word_at;
+
+// A count in a report word, where any that is larger than a word is the largest word.
+fn count_word(n: usize) -> u32
+    ensures { λ x. ⌜ x ≡ min 4294967295 n ⌝ }
+{
+    if n < 4294967295 { n as u32 } else { 4294967295 }
+}
+
+// The line that an answer tells.
+pub fn first_line(x: Answer) -> [u32; 8]
+    ensures { λ r. ⌜ r ≡ toldBy x ⌝ }
+{
+    let pos = x.pos;
+    [
+        x.number,
+        pos.file_id(),
+        pos.line_no(),
+        pos.col_no(),
+        x.name,
+        count_word(x.rows),
+        x.globals,
+        0,
+    ]
+}
+
+// Writes words as far as the lent ones go, and zeros after them.
+pub fn write_fitted(words: &[u32], lent: &mut [u32])
+    ensures { λ _. ⌜ now (lent .exit) ≡ fitted (length (now (lent .entry))) (now (words .entry)) ⌝ }
+{
+    let mut i: usize = 0;
+    while i < lent.len() {
+        lent[i] = word_at(words, i);
+        i += 1;
+    }
+}
