@@ -173,6 +173,7 @@ enum {
 /* The limits of what is accepted. */
 enum {
     PLUSH_LIMIT_ROWS = 2048,
+    PLUSH_LIMIT_LENT_ROWS = 2048, /* over the pipe; here any number may be lent */
     PLUSH_LIMIT_DEPTH = 64,
     PLUSH_LIMIT_GLOBALS = 1000000, /* that exist before the walk */
     PLUSH_LIMIT_FILES = 262144, /* numbered below this */

@@ -1,5 +1,7 @@
 //! The limits of what is accepted.
 pub const ROWS: usize = 2048;
+/// That can be lent over the pipe; here any number may be.
+pub const LENT_ROWS: usize = 2048;
 pub const DEPTH: usize = 64;
 /// That exist before the walk.
 pub const GLOBALS: usize = 1000000;
