@@ -1,15 +1,22 @@
--- What callers cite of the line that an answer tells. Assumes nothing.
-use mathlib.Core.Path.{_≡_, ap, _∙_}
+-- What callers cite of the line that an answer tells, and of a report as text. Assumes nothing.
+use mathlib.Core.Path.{_≡_, refl, sym, ap, _∙_}
 use mathlib.Core.List.{List, [], _∷_, _++_}
-use Prim.Native.Nat.{ℕ, min, _≤_}
+use Prim.Native.Nat.{ℕ, zero, suc, _+_, _*_, min, _<_, _≤_}
 use native.Mathlib.Omega.{arith}
-use lib.ListN.{length, getD, replicate}
-use lib.Seq.{take-at}
+use lib.ListN.{length, getD, take, drop, replicate}
+use lib.Seq.{take-at, take-append-add}
+use Rattle.definition.specs.Basics.{concatMap}
+use Rattle.definition.specs.Text.{textOf}
 use Rattle.definition.specs.Outcome.{Outcome, report}
+use Rattle.definition.proofs.Format.Accepted.{Eights}
+use Rattle.text.specs.Lines.{lineOf as textLine}
+use Rattle.text.specs.Writing.{rowsIn}
+use Rattle.text.proofs.Lists.{pieces-length}
+use Rattle.text.proofs.Laws.{line-length, rows-of-joined}
 use Rattle.lexer.specs.SrcPos.{fileOf, lineOf, columnOf}
 use Rattle.answer.specs.declared.Answer.{Answer}
 use Rattle.answer.specs.Tells.{Tells}
-use Rattle.report.specs.Line.{reportLine, toldBy, fitted}
+use Rattle.report.specs.Line.{reportLine, toldBy, fitted, Printed}
 
 -- an answer tells the line of its outcome
 pub told-line : (o : Outcome) (x : Answer) → Tells o x → toldBy x ≡ reportLine o
@@ -33,3 +40,46 @@ told-words x f l c k hf hl hc hk = rw (hf, hl, hc, hk)
 pub fitted-whole : (n : ℕ) (ws : List ℕ) → length ws ≡ n → fitted n ws ≡ ws
 unfolding fitted
 fitted-whole n ws l = take-at ws (replicate n 0) n l
+
+eight-at : {rs : List (List ℕ)} → Eights rs → (i : ℕ) → i < length rs → length (getD rs i []) ≡ 8
+eight-at Eights.none i l = absurd (omega arith)
+eight-at (Eights.more e p) zero l = e
+eight-at (Eights.more e p) (suc i) l = eight-at p i (omega arith)
+
+-- the words of rows
+abbrev flat : List (List ℕ) → List ℕ
+flat rs = concatMap (λ r. r) rs
+
+-- as many as eight to a row
+pub flat-length : (rs : List (List ℕ)) → Eights rs → length (flat rs) ≡ 8 * length rs
+flat-length rs p = pieces-length 8 (λ (r : List ℕ). r) [] rs (eight-at p)
+
+-- The report of an outcome o, whose answer is x and whose rows stand in the words w from the ninth on.
+module _ (o : Outcome) (x : Answer) (w : List ℕ) (tells : Tells o x) (good : Eights (o .rows)) (few : length (o .rows) ≤ 4294967295)
+    (there : take (8 * x .rows) (drop 8 w) ≡ flat (o .rows)) where
+  abbrev lines-good : Eights (report o)
+  lines-good = Eights.more refl good
+
+  words-told : take (8 * (x .rows + 1)) (toldBy x ++ drop 8 w) ≡ flat (report o)
+  words-told =
+      let line : List ℕ = getD (report o) 0 [] in
+      let size : 8 * (x .rows + 1) ≡ 8 + 8 * x .rows = omega arith in
+      ap (λ (xs : List ℕ). take (8 * (x .rows + 1)) (xs ++ drop 8 w)) (told-line o x tells ∙ line-first o few)
+      ∙ ap (λ (k : ℕ). take k (line ++ drop 8 w)) size
+      ∙ take-append-add line (drop 8 w) (8 * x .rows)
+      ∙ ap (λ (xs : List ℕ). line ++ xs) there
+
+  rows-told : rowsIn (take (8 * (x .rows + 1)) (toldBy x ++ drop 8 w)) ≡ report o
+  rows-told = ap rowsIn words-told ∙ rows-of-joined (report o) (eight-at lines-good)
+
+  report-length : length (textOf (report o)) ≡ 81 * length (report o)
+  unfolding textLine
+  report-length = pieces-length 81 textLine [] (report o) (λ i l. line-length (getD (report o) i []) (eight-at lines-good i l))
+
+  -- what is printed of x is the report of o
+  pub report-printed : (before : List ℕ) (n : ℕ) (filled after : List ℕ) → Printed x w before n filled after
+      → (n ≡ length (textOf (report o))) × (after ≡ textOf (report o) ++ drop n before)
+  report-printed before n filled after h = (
+    omega (arith, h .count, report-length, tells .rows),
+    h .text ∙ ap (λ (rs : List (List ℕ)). textOf rs ++ drop n before) rows-told,
+  )

@@ -1,10 +1,13 @@
--- The first line of a report, and words in lent ones.
+-- The first line of a report, words in lent ones, and a report as text.
+use mathlib.Core.Path.{_≡_}
 use mathlib.Core.List.{List, [], _∷_, _++_}
-use Prim.Native.Nat.{ℕ, min}
-use lib.ListN.{length, take, replicate}
+use Prim.Native.Nat.{ℕ, _+_, _*_, min}
+use lib.ListN.{length, take, drop, replicate}
+use Rattle.definition.specs.Text.{textOf}
 use Rattle.definition.specs.Outcome.{Outcome}
 use Rattle.lexer.specs.SrcPos.{fileOf, lineOf, columnOf}
 use Rattle.answer.specs.declared.Answer.{Answer}
+use Rattle.text.specs.Writing.{rowsIn}
 
 -- The report's first line, as document 01 has it. Rows are counted up to the largest word, which takes 2^35 lent words to reach
 -- (`line-exact` in proofs/Laws.antt).
@@ -20,3 +23,11 @@ toldBy x =
 -- the words ws in n lent ones: as many as fit, then zeros
 unfoldable pub fitted : ℕ → List ℕ → List ℕ
 fitted n ws = take n (ws ++ replicate n 0)
+
+-- Of an answer x whose rows stand in the words w from the ninth on, and a lent text:
+pub record Printed (x : Answer) (w before : List ℕ) (n : ℕ) (filled after : List ℕ) : Type 0 where
+  -- the first line then stands before the rows,
+  pub words : filled ≡ toldBy x ++ drop 8 w
+  -- and the text begins with that line and the rows, n bytes, and the rest is unchanged.
+  pub count : n ≡ 81 * (x .rows + 1)
+  pub text : after ≡ textOf (rowsIn (take (8 * (x .rows + 1)) (toldBy x ++ drop 8 w))) ++ drop n before

@@ -1,9 +1,10 @@
-// The first line of a report: an answer as the eight numbers of document 01.
+// Reports: an answer as the eight numbers of document 01, and with its rows as text.
 ghost use mathlib.Core.Path.{_≡_};
-ghost use Prim.Native.Nat.{min};
+ghost use Prim.Native.Nat.{_+_, _*_, _≤_, min};
 ghost use lib.ListN.{length};
-ghost use Rattle.report.specs.Line.{fitted, toldBy};
+ghost use Rattle.report.specs.Line.{fitted, toldBy, Printed};
 use answer::Answer;
+use text::write_rows;
 use words::word_at;
 
 // A count in a report word, where any that is larger than a word is the largest word.
@@ -39,4 +40,15 @@ pub fn write_fitted(words: &[u32], lent: &mut [u32])
         lent[i] = word_at(words, i);
         i += 1;
     }
+}
+
+// Writes the report of an answer as text. Its rows stand in the words from the ninth on; the first line is put before them. Returns the
+// number of bytes.
+pub fn print_answer(x: Answer, words: &mut [u32], text: &mut [u8]) -> usize
+    requires { ⌜ (8 * (x .rows + 1) ≤ length (now words)) × (81 * (x .rows + 1) ≤ length (now text)) ⌝ }
+    ensures { λ n. ⌜ Printed x (now (words .entry)) (now (text .entry)) n (now (words .exit)) (now (text .exit)) ⌝ }
+{
+    let line = first_line(x);
+    write_fitted(&line, &mut words[..8]);
+    write_rows(&words[..8 * (x.rows + 1)], text)
 }

@@ -1,108 +1,29 @@
--- The report in rows, and its text.
+-- What is read, resolved and printed.
 use mathlib.Core.Path.{_≡_, refl, sym, ap, subst, _∙_}
 use mathlib.Core.Bool.{Bool, true, false, not, _&&_}
-use mathlib.Core.List.{List, [], _∷_, _++_, append-assoc}
-use Prim.Native.Nat.{ℕ, zero, suc, _+_, _-_, _*_, _<_, _≤_}
+use mathlib.Core.List.{List, [], _++_, append-assoc}
+use Prim.Native.Nat.{ℕ, _-_, _*_, _<_, _≤_}
 use native.Mathlib.Omega.{arith}
 use native.Mathlib.Decide.{decLe}
-use lib.ListN.{length, getD, take, drop, replicate, length-append, length-drop}
+use lib.ListN.{length, take, drop, replicate, length-drop}
 use lib.Dec.{T, leb, leb→le}
-use lib.Seq.{take-at, drop-at, take-append-add, length-take-le}
+use lib.Seq.{take-at, drop-at, length-take-le}
 use borrow.Author.Tests.{le-leb, lt-leb}
 use borrow.Rule.Slice.PartMut.{putMid}
 use Rattle.definition.specs.Basics.{if_then_else_, concatMap}
-use Rattle.definition.specs.Sheet.{Sheet, rows}
-use Rattle.definition.specs.Text.{lines, isSheetText, sheetOf, textOf}
-use Rattle.definition.specs.Outcome.{Outcome, rowsFit, refused, outcome, buffer, report, printed}
+use Rattle.definition.specs.Sheet.{Sheet}
+use Rattle.definition.specs.Text.{lines, isSheetText, sheetOf}
+use Rattle.definition.specs.Outcome.{Outcome, rowsFit, refused, outcome, buffer, printed}
 use Rattle.definition.proofs.Lists.Tests.{and-right}
-use Rattle.definition.proofs.Format.Accepted.{Eights, good-outcome}
-use Rattle.text.specs.Lines.{lineOf as textLine}
+use Rattle.definition.proofs.Format.Accepted.{good-outcome}
 use Rattle.text.specs.Reading.{SheetRead, isReadable, linesRead, wordsRead}
-use Rattle.text.specs.Writing.{RowsWritten, rowsIn, bytesWritten, textWritten}
-use Rattle.text.proofs.Lists.{pieces-length}
-use Rattle.text.proofs.Laws.{line-length, sheet-words, rows-read, rows-fit, rows-of-joined}
+use Rattle.text.proofs.Laws.{sheet-words, rows-read}
 use Rattle.answer.specs.declared.Answer.{Answer}
 use Rattle.answer.specs.Tells.{Tells}
-use Rattle.report.specs.Line.{toldBy, fitted}
-use Rattle.report.proofs.Laws.{told-line, line-first, fitted-whole}
+use Rattle.report.specs.Line.{Printed as AnswerPrinted}
+use Rattle.report.proofs.Laws.{flat-length, report-printed}
 use Rattle.resolver.specs.Answered.{Answered}
-use Rattle.resolve_text.specs.Report.{printedWith, reply, Reported, Replied, Printed}
-
--- the words of rows
-abbrev flat : List (List ℕ) → List ℕ
-flat rs = concatMap (λ r. r) rs
-
--- the first row of an outcome's report
-abbrev firstOf : Outcome → List ℕ
-firstOf o = o .number ∷ o .file ∷ o .line ∷ o .column ∷ o .name ∷ length (o .rows) ∷ o .globals ∷ 0 ∷ []
-
--- the line that an answer tells, in room for eight words
-first-row : (o : Outcome) (x : Answer) (line row : List ℕ) (n : ℕ) → Tells o x → length (o .rows) ≤ 4294967295
-    → line ≡ toldBy x → n ≡ 8 → row ≡ fitted n line → row ≡ firstOf o
-first-row o x line row n t few l e r =
-    r
-    ∙ ap (λ (k : ℕ). fitted k line) e
-    ∙ ap (fitted 8) (l ∙ told-line o x t ∙ line-first o few)
-    ∙ fitted-whole 8 (firstOf o) refl
-
--- rows of eight
-eight-at : {rs : List (List ℕ)} → Eights rs → (i : ℕ) → i < length rs → length (getD rs i []) ≡ 8
-eight-at Eights.none i l = absurd (omega arith)
-eight-at (Eights.more e p) zero l = e
-eight-at (Eights.more e p) (suc i) l = eight-at p i (omega arith)
-
-flat-length : (rs : List (List ℕ)) → Eights rs → length (flat rs) ≡ 8 * length rs
-flat-length rs p = pieces-length 8 (λ (r : List ℕ). r) [] rs (eight-at p)
-
--- the first row and an answer's rows are the report
-told-words : (lent : ℕ) (o : Outcome) (x : Answer) (rest : List ℕ) → Eights (o .rows) → Tells o x
-    → take (8 * (x .rows + 1)) (firstOf o ++ (buffer lent o ++ rest)) ≡ flat (report o)
-told-words lent o x rest g h =
-    let n : 8 * (x .rows + 1) ≡ 8 + 8 * x .rows = omega arith in
-    let zeros : List ℕ = replicate (lent - 8 * length (o .rows)) 0 in
-    ap (λ (k : ℕ). take k (firstOf o ++ (buffer lent o ++ rest))) n
-    ∙ take-append-add (firstOf o) (buffer lent o ++ rest) (8 * x .rows)
-    ∙ ap (λ (xs : List ℕ). firstOf o ++ xs)
-    (ap (take (8 * x .rows)) (append-assoc (flat (o .rows)) zeros rest)
-    ∙ take-at (flat (o .rows)) (zeros ++ rest) (8 * x .rows) (flat-length (o .rows) g ∙ ap (λ (k : ℕ). 8 * k) (sym (h .rows))))
-
--- the room for the first row
-pub first-room : (rep out : List ℕ) (m : ℕ) → length rep ≡ 16392 → length (take 8 (putMid 8 m rep out)) ≡ 8
-first-room rep out m l =
-    let rest : List ℕ = out ++ drop m (drop 8 rep) in
-    length-take-le 8 (take 8 rep ++ rest) (omega (arith, length-append (take 8 rep) rest, length-take-le 8 rep (omega arith)))
-
--- The report in rows: the first row, stored before the answer rows, for which m words are lent.
-module _ (lent : ℕ) (s : Sheet) (ns rep out : List ℕ) (m : ℕ) (x : Answer) (size : length rep ≡ 16392) (low : lent ≤ 2048) (e : m ≡ 8 * lent)
-    (a : Answered s ns (length (take m (drop 8 rep))) x out) where
-  words-lent : length (take m (drop 8 rep)) ≡ 8 * lent
-  words-lent = length-take-le m (drop 8 rep) (omega (arith, length-drop 8 rep)) ∙ e
-
-  answered : Answered s ns (8 * lent) x out
-  answered = subst (λ (n : ℕ). Answered s ns n x out) words-lent a
-
-  pub few : x .rows ≤ 2048
-  few = omega (arith, answered .tells .rows, good-outcome (8 * lent) s ns .1)
-
-  -- the room for the first row, and what is written there
-  module _ (line row : List ℕ) (told : line ≡ toldBy x) (written : row ≡ fitted (length (take 8 (putMid 8 m rep out))) line) where
-    abbrev told-outcome : Outcome
-    told-outcome = outcome s ns (8 * lent)
-
-    row-told : row ≡ firstOf told-outcome
-    row-told =
-        first-row told-outcome x line row _ (answered .tells) (omega (arith, good-outcome (8 * lent) s ns .1)) told (first-room rep out m size) written
-
-    words-told : take (8 * (x .rows + 1)) (row ++ drop 8 (putMid 8 m rep out)) ≡ flat (report told-outcome)
-    words-told =
-        let rest : List ℕ = drop m (drop 8 rep) in
-        ap (λ (xs : List ℕ). take (8 * (x .rows + 1)) (row ++ xs)) (drop-at (take 8 rep) (out ++ rest) 8 (length-take-le 8 rep (omega arith)))
-        ∙ ap (λ (xs : List ℕ). take (8 * (x .rows + 1)) (xs ++ (out ++ rest))) row-told
-        ∙ ap (λ (xs : List ℕ). take (8 * (x .rows + 1)) (firstOf told-outcome ++ (xs ++ rest))) (answered .words)
-        ∙ told-words (8 * lent) told-outcome x rest (good-outcome (8 * lent) s ns .0) (answered .tells)
-
-    pub reported : Reported lent s ns (x .rows + 1) (row ++ drop 8 (putMid 8 m rep out))
-    reported = record { count = omega (arith, answered .tells .rows); words = words-told }
+use Rattle.resolve_text.specs.Report.{printedWith, reply, Replied, Printed}
 
 -- a sheet that question 1 refuses
 unless : (x y : Outcome) (t : Bool) → t ≡ false → (if not t then x else y) ≡ x
@@ -122,22 +43,7 @@ same-outcome lent t ns = go (decLe 1 (linesRead t 16384))
         outcome-none lent (take (8 * linesRead t 16384) (wordsRead t 16384)) ns (ap (λ (n : ℕ). rowsFit (take (8 * n) (wordsRead t 16384))) z)
         ∙ sym (outcome-none lent (sheetOf t) ns (rows-read t 16384 (omega arith) ∙ ap (leb 1) z))
 
--- the report's text
-module _ (o : Outcome) (good : Eights (o .rows)) where
-  abbrev all-rows : Eights (report o)
-  all-rows = Eights.more refl good
-
-  pub text-length : length (textOf (report o)) ≡ 81 * length (report o)
-  unfolding textLine
-  text-length = pieces-length 81 textLine [] (report o) (λ i l. line-length (getD (report o) i []) (eight-at all-rows i l))
-
-  pub report-back : rowsIn (flat (report o)) ≡ report o
-  report-back = rows-of-joined (report o) (eight-at all-rows)
-
-  pub report-rows : rows (flat (report o)) ≡ length (report o)
-  report-rows = omega (arith, flat-length (report o) all-rows)
-
--- what is read fits its words, and a report its rows
+-- what is read fits its words
 pub read-few : (t : List ℕ) (lent k : ℕ) → k ≡ linesRead t lent → 8 * k ≤ lent
 unfolding linesRead isReadable
 read-few t lent k e = subst (λ (n : ℕ). 8 * n ≤ lent) (sym e) (go (isReadable t lent) (λ h. h))
@@ -146,50 +52,51 @@ read-few t lent k e = subst (λ (n : ℕ). 8 * n ≤ lent) (sym e) (go (isReadab
     go true f = leb→le (8 * lines t) lent (and-right (isSheetText t && leb (lines t) 2048) (leb (8 * lines t) lent) (f tt))
     go false f = omega arith
 
-pub report-few : (lent : ℕ) (s ns : List ℕ) (n : ℕ) (w : List ℕ) → lent ≤ 2048 → Reported lent s ns n w → n ≤ 2049
-report-few lent s ns n w l h = omega (arith, h .count, good-outcome (8 * lent) s ns .1)
-
--- What is printed: the rows of the report of what was read, as text.
-module _ (lent : ℕ) (sheet names before : List ℕ) (k n r : ℕ) (words rep after : List ℕ) (low : lent ≤ 2048) where
+-- A text of which k lines were read into `words`, and what `resolve` answers of them with m words lent after room for the first line.
+module _ (lent : ℕ) (sheet names rep out : List ℕ) (k : ℕ) (words : List ℕ) (m : ℕ) (x : Answer) (low : lent ≤ 2048) (size : length rep ≡ 16392)
+    (e : m ≡ 8 * lent) (read : SheetRead sheet 16384 k words)
+    (a : Answered (take (8 * k) words) names (length (take m (drop 8 rep))) x out) where
   abbrev whole : Outcome
   whole = outcome (sheetOf sheet) names (8 * lent)
 
-  module _ (read : SheetRead sheet 16384 k words) (told : Reported lent (take (8 * k) words) names n rep) where
-    same : outcome (take (8 * k) words) names (8 * lent) ≡ whole
-    same =
-        ap (λ (m : ℕ). outcome (take (8 * m) words) names (8 * lent)) (read .count)
-        ∙ ap (λ (w : List ℕ). outcome (take (8 * linesRead sheet 16384) w) names (8 * lent)) (read .words)
-        ∙ same-outcome (8 * lent) sheet names
+  same : outcome (take (8 * k) words) names (8 * lent) ≡ whole
+  same =
+      ap (λ (n : ℕ). outcome (take (8 * n) words) names (8 * lent)) (read .count)
+      ∙ ap (λ (w : List ℕ). outcome (take (8 * linesRead sheet 16384) w) names (8 * lent)) (read .words)
+      ∙ same-outcome (8 * lent) sheet names
 
-    rows-told : take (8 * n) rep ≡ flat (report whole)
-    rows-told = told .words ∙ ap (λ (o : Outcome). flat (report o)) same
+  words-lent : length (take m (drop 8 rep)) ≡ 8 * lent
+  words-lent = length-take-le m (drop 8 rep) (omega (arith, length-drop 8 rep)) ∙ e
 
-  printed-as : (o : Outcome) (ws : List ℕ) → Eights (o .rows) → length (o .rows) ≤ 2048 → ws ≡ flat (report o) → RowsWritten ws before r after → 165969 ≤ length before
-      → (r ≡ length (textOf (report o))) × (after ≡ textOf (report o) ++ drop r before)
-  printed-as o ws g m e w l = (
-    count ∙ ap (λ (i : ℕ). 81 * i) (report-rows o g) ∙ sym (text-length o g),
-    there .text
-        ∙ fit .1
-        ∙ ap (λ (rs : List (List ℕ)). textOf rs ++ drop (81 * rows (flat (report o))) before) (report-back o g)
-        ∙ ap (λ (i : ℕ). textOf (report o) ++ drop i before) (sym count),
-  )
-    where
-      there : RowsWritten (flat (report o)) before r after
-      there = subst (λ (v : List ℕ). RowsWritten v before r after) e w
+  answered : Answered (take (8 * k) words) names (8 * lent) x out
+  answered = subst (λ (n : ℕ). Answered (take (8 * k) words) names n x out) words-lent a
 
-      fit : (bytesWritten (flat (report o)) (length before) ≡ 81 * rows (flat (report o)))
-          × (textWritten (flat (report o)) before
-          ≡ textOf (rowsIn (flat (report o))) ++ drop (81 * rows (flat (report o))) before)
-      fit = rows-fit (flat (report o)) before (omega (arith, report-rows o g))
+  tells : Tells whole x
+  tells = subst (λ (o : Outcome). Tells o x) same (answered .tells)
 
-      count : r ≡ 81 * rows (flat (report o))
-      count = there .count ∙ fit .0
+  out-is : out ≡ buffer (8 * lent) whole
+  out-is = answered .words ∙ ap (buffer (8 * lent)) same
 
-  pub printed-rows : SheetRead sheet 16384 k words → Reported lent (take (8 * k) words) names n rep → RowsWritten (take (8 * n) rep) before r after → 165969 ≤ length before
-      → (r ≡ length (printedWith lent sheet names)) × (after ≡ printedWith lent sheet names ++ drop r before)
-  printed-rows read told written l =
-      let g = good-outcome (8 * lent) (sheetOf sheet) names in
-      printed-as whole (take (8 * n) rep) (g .0) (omega (arith, g .1)) (rows-told read told) written l
+  pub few : x .rows ≤ 2048
+  few = omega (arith, tells .rows, good-outcome (8 * lent) (sheetOf sheet) names .1)
+
+  rows-there : take (8 * x .rows) (drop 8 (putMid 8 m rep out)) ≡ concatMap (λ r. r) (whole .rows)
+  rows-there =
+      let rest : List ℕ = drop m (drop 8 rep) in
+      let told : List ℕ = concatMap (λ r. r) (whole .rows) in
+      let zeros : List ℕ = replicate (8 * lent - 8 * length (whole .rows)) 0 in
+      ap (take (8 * x .rows)) (drop-at (take 8 rep) (out ++ rest) 8 (length-take-le 8 rep (omega arith)))
+      ∙ ap (λ (xs : List ℕ). take (8 * x .rows) (xs ++ rest)) out-is
+      ∙ ap (take (8 * x .rows)) (append-assoc told zeros rest)
+      ∙ take-at told (zeros ++ rest) (8 * x .rows)
+      (flat-length (whole .rows) (good-outcome (8 * lent) (sheetOf sheet) names .0) ∙ ap (λ (n : ℕ). 8 * n) (sym (tells .rows)))
+
+  -- what is printed of the answer is the report
+  pub printed-report : (before : List ℕ) (n : ℕ) (filled after : List ℕ) → AnswerPrinted x (putMid 8 m rep out) before n filled after
+      → (n ≡ length (printedWith lent sheet names)) × (after ≡ printedWith lent sheet names ++ drop n before)
+  printed-report before n filled after h =
+      let good = good-outcome (8 * lent) (sheetOf sheet) names in
+      report-printed whole x (putMid 8 m rep out) tells (good .0) (omega (arith, good .1)) rows-there before n filled after h
 
 -- The reply: the report where few rows and a long text are lent, and nothing elsewhere.
 reply-there : (lent : ℕ) (sheet names : List ℕ) (room : ℕ) → lent ≤ 2048 → 165969 ≤ room → reply lent sheet names room ≡ printedWith lent sheet names

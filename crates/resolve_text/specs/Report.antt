@@ -2,18 +2,12 @@
 use mathlib.Core.Path.{_≡_}
 use mathlib.Core.Bool.{_&&_}
 use mathlib.Core.List.{List, [], _++_}
-use Prim.Native.Nat.{ℕ, _+_, _*_, _<_, _≤_}
+use Prim.Native.Nat.{ℕ, _*_, _<_, _≤_}
 use lib.ListN.{length, take, drop}
 use lib.Dec.{leb}
-use Rattle.definition.specs.Basics.{if_then_else_, concatMap}
-use Rattle.definition.specs.Sheet.{Sheet}
+use Rattle.definition.specs.Basics.{if_then_else_}
 use Rattle.definition.specs.Text.{sheetOf, textOf}
 use Rattle.definition.specs.Outcome.{outcome, report, printed}
-
--- With `lent` answer rows lent, the first n rows of the words w are the report of sheet s and the bytes ns of its names.
-pub record Reported (lent : ℕ) (s : Sheet) (ns : List ℕ) (n : ℕ) (w : List ℕ) : Type 0 where
-  pub count : n ≡ length (report (outcome s ns (8 * lent)))
-  pub words : take (8 * n) w ≡ concatMap (λ r. r) (report (outcome s ns (8 * lent)))
 
 -- the report of a sheet's text and its names as text, with `lent` answer rows lent; with 2,048 it is what the program prints
 abbrev pub printedWith : ℕ → List ℕ → List ℕ → List ℕ

@@ -3,29 +3,17 @@ ghost use mathlib.Core.Path.{_≡_};
 ghost use mathlib.Core.List.{_++_};
 ghost use Prim.Native.Nat.{_≤_};
 ghost use lib.ListN.{length, drop};
-ghost use Rattle.resolve_text.specs.Report.{printedWith, Reported, RepliedOfTexts, PrintedOfFiles};
+ghost use Rattle.resolve_text.specs.Report.{printedWith, RepliedOfTexts, PrintedOfFiles};
 use ast::limit;
-use report::first_line;
-use report::write_fitted;
+use report::print_answer;
 use resolver::resolve;
 use text::read_sheet;
-use text::write_rows;
 
 // The bytes of 2,049 lines: the longest report.
 const LONGEST_REPORT: usize = 165969;
 
-// The report of a sheet with so many answer rows lent, in rows. Returns their number.
-fn write_report(words: &[u32], names: &[u8], lent: usize, report: &mut [u32]) -> usize
-    requires { ⌜ (length (now report) ≡ 16392) × (lent ≤ 2048) ⌝ }
-    ensures { λ n. ⌜ Reported lent (now (words .entry)) (now (names .entry)) n (now (report .exit)) ⌝ }
-{
-    let x = resolve(words, names, &mut report[8..8 + 8 * lent]);
-    let line = first_line(x);
-    write_fitted(&line, &mut report[..8]);
-    x.rows + 1
-}
-
-// The report of a sheet's text, as text, with the lent words for the sheet and the report.
+// The report of a sheet's text, as text, with the lent words for the sheet and the report: the answer rows stand after room for the first
+// line.
 fn print_report(
     sheet: &[u8],
     names: &[u8],
@@ -39,8 +27,8 @@ fn print_report(
         × (now (text .exit) ≡ printedWith lent (now (sheet .entry)) (now (names .entry)) ++ drop n (now (text .entry))) ⌝ }
 {
     let n = read_sheet(sheet, words);
-    let rows = write_report(&words[..8 * n], names, lent, report);
-    write_rows(&report[..8 * rows], text)
+    let x = resolve(&words[..8 * n], names, &mut report[8..8 + 8 * lent]);
+    print_answer(x, report, text)
 }
 
 // Writes the report of a sheet's text and its names, with so many answer rows lent. Returns the number of bytes, or 0 where more than
