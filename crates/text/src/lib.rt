@@ -50,13 +50,19 @@ fn read_digits(column: &[u8], start: usize) -> u64
     v
 }
 
-// The number in a column.
+// The number in a column. A digit 0 that comes first stands alone.
 fn read_number(column: &[u8]) -> u64
     requires { ⌜ length (now column) ≤ 10 ⌝ }
     ensures { λ r. ⌜ r ≡ numberIn (now (column .entry)) ⌝ }
 {
     let start = skip_spaces(column);
     if start == column.len() {
+        return NO_NUMBER;
+    }
+    if column[start] == 48 {
+        if start + 1 == column.len() {
+            return 0;
+        }
         return NO_NUMBER;
     }
     let v = read_digits(column, start);
