@@ -25,14 +25,14 @@ returns-2 : tie.Need-returns-2
 returns-2 c =
     let start = c .before .before .before .before .before .before in
     let skip-spaces = c .before .before .before .before .skip-spaces in
-    sym (number-zero (start .args .column .now) (skip-spaces .result) (skip-spaces .ensures .1) (c .before .if2 .taken)
+    sym (number-padded (start .args .column .now) (skip-spaces .result) (skip-spaces .ensures .1) (c .before .if2 .taken)
     (omega arith))
 
 returns-3 : tie.Need-returns-3
 returns-3 c =
     let start = c .before .before .before .before .before .before in
     let skip-spaces = c .before .before .before .before .skip-spaces in
-    sym (number-padded (start .args .column .now) (skip-spaces .result) (skip-spaces .ensures .1) (c .before .if2 .taken)
+    sym (number-zero (start .args .column .now) (skip-spaces .result) (skip-spaces .ensures .1) (c .before .if2 .taken)
     (omega (arith, skip-spaces .ensures .0)))
 
 read-digits-requires : tie.Need-read-digits-requires
