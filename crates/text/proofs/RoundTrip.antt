@@ -1,7 +1,7 @@
 -- Printing what was read gives the text, so each sheet has one text; and the promises of both routines. Assumes nothing.
 use mathlib.Core.Path.{_≡_, refl, sym, ap, _∙_, subst}
 use mathlib.Core.Logic.{_⊎_, inl, inr}
-use mathlib.Core.Bool.{Bool, true, false, not, _&&_, _||_}
+use mathlib.Core.Bool.{Bool, not, _&&_, _||_}
 use mathlib.Core.List.{List, [], _∷_, _++_, map}
 use Prim.Native.Nat.{ℕ, suc, _+_, _*_, _-_, _/_, _%_, _^_, _<_, _≤_}
 use native.Mathlib.Omega.{arith}
@@ -71,6 +71,7 @@ shortest-bytes [] n h s = absurd n
 shortest-bytes (x ∷ xs) n h s =
     digit-bytes 0 (x ∷ xs) h (λ j l. later (digits 0 (x ∷ xs)) (length xs) j (no-space x xs h s) (omega arith))
 
+-- without its leading spaces a column is no longer
 trimmed-short : (xs : List ℕ) → length (trimmed xs) ≤ length xs
 trimmed-short [] = omega arith
 trimmed-short (x ∷ xs) = go (decide (eqb x 32)) (trimmed-short xs)
@@ -79,8 +80,11 @@ trimmed-short (x ∷ xs) = go (decide (eqb x 32)) (trimmed-short xs)
     go (inl s) up = rw (trimmed-space x xs (eqb→eq x 32 s)) (omega arith)
     go (inr s) up = rw (trimmed-other x xs (λ e. T-not (eqb x 32) s (eqb-of x 32 e))) (omega arith)
 
--- bytes after spaces are those of m, where they are without the spaces
+-- bytes after spaces are those of m, if they are without the spaces
 module _ (m : ℕ) where
+  space-is : (k : ℕ) → 1 ≤ k → m < 10 ^ k → digitByte m k ≡ 32
+  space-is k l h = if-true (spaceAt m k) 32 (48 + m / 10 ^ k % 10) (and-both (leb 1 k) (ltb m (10 ^ k)) (le→leb 1 k l) (lt→ltb m (10 ^ k) h))
+
   abbrev Shown : List ℕ → Type 0
   Shown ds = (1 ≤ length ds) × (m < 10 ^ length ds) × (bytesFrom m (length ds) ≡ ds)
 
@@ -94,11 +98,7 @@ module _ (m : ℕ) where
           let k : ℕ = length xs in
           let v : Shown (trimmed xs) = subst Shown (trimmed-space x xs (eqb→eq x 32 s)) w in
           let p : 10 ^ length (trimmed xs) ≤ 10 ^ k = pow-le-pow-right {n = 10} (omega arith) {i = length (trimmed xs)} {j = k} (trimmed-short xs) in
-          let b : digitByte m k ≡ 32 =
-          if-true (spaceAt m k) 32 (48 + m / 10 ^ k % 10)
-          (and-both (leb 1 k) (ltb m (10 ^ k)) (le→leb 1 k (omega (arith, v .0, trimmed-short xs))) (lt→ltb m (10 ^ k) (omega (arith, v .1, p))))
-          in
-          cc (b, eqb→eq x 32 s, up v)
+          cc (space-is k (omega (arith, v .0, trimmed-short xs)) (omega (arith, v .1, p)), eqb→eq x 32 s, up v)
       go (inr s) up = subst Shown (trimmed-other x xs (λ e. T-not (eqb x 32) s (eqb-of x 32 e))) w .2
 
 -- a column that is a number is that number in ten columns
@@ -199,11 +199,11 @@ pub rows-written : (ws before : List ℕ) (r : ℕ) (after : List ℕ) → ((i :
     → (r ≡ bytesWritten ws (length before)) × (after ≡ textWritten ws before) → RowsWritten ws before r after
 rows-written ws before r after small e = record { count = e .0; text = e .1; read = go (decLe (81 * rows ws) (length before)) }
   where
-    go : Dec (81 * rows ws ≤ length before) → 1 ≤ r → sheetOf (take r after) ≡ take (8 * rows ws) ws
-    go (yes l) h =
+    written : 81 * rows ws ≤ length before → take r after ≡ textOf (rowsIn ws)
+    written l =
         let f = rows-fit ws before l in
-        let q : take r after ≡ textOf (rowsIn ws) =
         cc (e .0, e .1, f .0, f .1, take-at (textOf (rowsIn ws)) (drop (81 * rows ws) before) (81 * rows ws) (text-length ws small))
-        in
-        ap sheetOf q ∙ read-back ws small .2
+
+    go : Dec (81 * rows ws ≤ length before) → 1 ≤ r → sheetOf (take r after) ≡ take (8 * rows ws) ws
+    go (yes l) h = ap sheetOf (written l) ∙ read-back ws small .2
     go (no l) h = absurd (omega (arith, e .0, rows-refused ws before (omega arith) .0))
