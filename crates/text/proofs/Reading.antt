@@ -71,6 +71,7 @@ ten-power i h = (pow-le-pow-right {n = 10} (omega arith) {i = i} {j = 9} (omega 
 abbrev numberOf : List ℕ → ℕ
 numberOf ds = if leb 1 (length ds) && all isDigit ds && isShortest ds && leb (digits 0 ds) 4294967295 then digits 0 ds else 4294967296
 
+-- it is none where a zero stands before another digit, or where it is too large
 zero-padded : (x : ℕ) (xs : List ℕ) → numberOf (48 ∷ x ∷ xs) ≡ 4294967296
 zero-padded x xs = rw (ne-eqb (suc (suc (length xs))) 1 (λ e. omega arith)) (go (leb 1 (suc (suc (length xs)))) (all isDigit (48 ∷ x ∷ xs)))
   where
@@ -89,6 +90,7 @@ too-large ds = go (digits 0 ds) (leb 1 (length ds)) (all isDigit ds) (isShortest
     go v true false s h = refl
     go v false d s h = refl
 
+-- it is what the digits write where they begin with no zero
 not-padded : (x : ℕ) (xs : List ℕ) → (x ≡ 48 → ⊥) → digitsFrom 0 (x ∷ xs) ≤ 4294967295 → numberOf (x ∷ xs) ≡ digitsFrom 0 (x ∷ xs)
 unfolding digitsFrom
 not-padded x xs n h =
