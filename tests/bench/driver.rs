@@ -1,5 +1,5 @@
-//! driver COUNT SHEET NAMES: times the resolver from words to words and from text to text, and questions 1 to 4, through the static
-//! library of the Rattle crates. Prints a line for each measurement: what it is, then the median and the least time in nanoseconds.
+//! driver COUNT SHEET NAMES: times the resolver from words to words and from text to text, questions 1 to 4, and the reading of the sheet's
+//! text, through the static library of the Rattle crates. Prints a line for each measurement: what it is, then the median and the least time in nanoseconds.
 //! driver --stack BYTES SHEET NAMES: runs the resolver once from words to words, in a thread with a stack of that size.
 use std::hint::black_box;
 use std::time::Instant;
@@ -8,6 +8,7 @@ use std::time::Instant;
 extern "C" {
     fn bench_first_four(words: *const u32, word_count: usize, names: *const u8, name_bytes: usize) -> u32;
     fn bench_resolve(words: *const u32, word_count: usize, names: *const u8, name_bytes: usize, out: *mut u32, out_words: usize) -> u32;
+    fn bench_read_sheet(sheet: *const u8, sheet_bytes: usize, words: *mut u32, word_count: usize) -> usize;
     fn bench_resolve_text(sheet: *const u8, sheet_bytes: usize, names: *const u8, name_bytes: usize, text: *mut u8, text_bytes: usize) -> usize;
 }
 
@@ -21,6 +22,10 @@ fn resolve(words: &[u32], names: &[u8], out: &mut [u32]) -> u32 {
 
 fn resolve_text(sheet: &[u8], names: &[u8], text: &mut [u8]) -> u32 {
     unsafe { bench_resolve_text(sheet.as_ptr(), sheet.len(), names.as_ptr(), names.len(), text.as_mut_ptr(), text.len()) as u32 }
+}
+
+fn read_sheet(sheet: &[u8], words: &mut [u32]) -> u32 {
+    unsafe { bench_read_sheet(sheet.as_ptr(), sheet.len(), words.as_mut_ptr(), words.len()) as u32 }
 }
 
 fn first_four(words: &[u32], names: &[u8]) -> u32 {
@@ -51,6 +56,7 @@ fn time_all(count: usize, text: &str, names: &[u8]) {
     let bytes = resolve_text(text.as_bytes(), names, &mut printed);
     time("resolve", count, || resolve(black_box(&words), black_box(names), &mut out), 0);
     time("resolve_text", count, || resolve_text(black_box(text.as_bytes()), black_box(names), &mut printed), bytes);
+    time("read_sheet", count, || read_sheet(black_box(text.as_bytes()), &mut out), (words.len() / 8) as u32);
     time("first_four", count, || first_four(black_box(&words), black_box(names)), 0);
 }
 

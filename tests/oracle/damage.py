@@ -518,7 +518,7 @@ TEXT_DAMAGES = ["no newline", "newline more", "byte", "blank", "number", "left",
 
 
 def damaged_text(rng, text):
-    """A sheet's text, changed in one way; leading zeros leave its numbers as they are, "none" all of it."""
+    """A sheet's text, changed in one way; "none" leaves it as it is."""
     way = rng.choice(TEXT_DAMAGES)
     line = 81 * rng.randrange(len(text) // 81)
     field = line + 10 * rng.randrange(8)

@@ -492,8 +492,22 @@ def later_imports():
         unit(imports=[bring(rich, everything=1)], classes=[record(B), record(A)]), rich), []
 
 
+def later_chances():
+    """What only a random sheet now and then has shown."""
+    yield "a capture and an escape in an inner literal", in_function(
+        var(b), do(lit([], block(var(a), do(use(b)), do(lit([], give(use(a)))))))), []
+    yield "a let after a literal whose body is one", in_function(do(lit([], let(a))), let(b), do(use(b))), []
+    yield "a loop after a let", in_function(let(a), loop(let(b), nil(), do(use(b)), block())), []
+    yield "the step before the body", in_function(loop(do(nil()), nil(), do(use(a)), do(use(b)))), []
+    yield "init undeclared", in_function(do(use(INIT))), []
+    far = unit(classes=[record(A)])
+    near = unit(imports=[bring(far, everything=1)])
+    yield "a class that an imported unit imports", sheet(unit(do(use(A)), imports=[bring(near, everything=1)]), near, far), []
+
+
 def later_programs():
-    groups = [rows_against_the_walk, later_order, later_scopes, later_loops, later_classes, later_imports]
+    groups = [rows_against_the_walk, later_order, later_scopes, later_loops, later_classes, later_imports,
+              later_chances]
     for group in groups:
         for what, root, earlier in group():
             yield f"{group.__name__}: {what}", root, earlier

@@ -1,4 +1,4 @@
-"""Questions 1 to 4 of document 01: of a sheet as a list of numbers, and a byte list of names.
+"""Questions 1 to 4 of documents 01 and 02: of a sheet as a list of numbers, and a byte list of names.
 
 `first_no(words, names)` is the number of the first question with a no, or 0. `words_of_text(text)` reads a sheet's text.
 """
@@ -60,7 +60,8 @@ def words_of_text(text):
 
 
 def is_number(field):
-    return field != b"" and all(48 <= byte <= 57 for byte in field) and int(field) <= MAX_WORD
+    digits = field != b"" and all(48 <= byte <= 57 for byte in field)
+    return digits and (field == b"0" or field[0] != 48) and int(field) <= MAX_WORD
 
 
 def rows_fit(words):

@@ -1,4 +1,4 @@
-"""Sheets and name lists at the limits of document 01."""
+"""Sheets, name lists and texts at the limits of documents 01 and 02."""
 import random
 
 from sheets import MAIN_UNIT, Sheet, add_tower, class_chain, generate
@@ -106,7 +106,11 @@ def texts():
         "a byte more": text + b" ", "an end of a line more": text + b"\n", "half a line more": text + text[:40],
         "a return for an end": text[:-1] + b"\r",
         "a space for an end": text[:80] + b" " + text[81:], "an empty field": with_field(b""),
-        "ten zeros": with_field(b"0000000000"), "a leading zero": with_field(b"07"),
+        "zero": with_field(b"0"), "two zeros": with_field(b"00"), "ten zeros": with_field(b"0000000000"),
+        "a leading zero": with_field(b"07"), "nine leading zeros": with_field(b"0000000005"),
+        "zeros inside a number": with_field(b"1002003"), "zeros at its end": with_field(b"7000000"),
+        "999,999,999": with_field(b"999999999"), "a zero and 999,999,999": with_field(b"0999999999"),
+        "1,000,000,000": with_field(b"1000000000"),
         "4,294,967,294": with_field(b"4294967294"), "4,294,967,295": with_field(b"4294967295"),
         "4,294,967,296": with_field(b"4294967296"), "9,999,999,999": with_field(b"9999999999"),
     }
@@ -115,9 +119,14 @@ def texts():
               "the byte after 9": b":7", "a letter after a number": b"7a", "a point": b"7.0",
               "spaces behind": b"7".ljust(10)}
     changed.update({f"{what} in a field": with_field(number) for what, number in fields.items()})
+    for c in range(8):
+        start = 81 * c + 10 * c
+        zeros = (b"0" + text[start:start + 10].strip()).rjust(10)
+        changed[f"a leading zero in column {c}"] = text[:start] + zeros + text[start + 10:]
     long = text_of(sheet_of(statements(1022)).rows).encode()
     changed["2,048 rows and a byte more"] = long + b" "
-    return {what: (text, sheet.names) for what, text in changed.items()}
+    cases = {what: (text, sheet.names) for what, text in changed.items()}
+    return cases | {"a leading zero and an empty name": (changed["a leading zero"], b"\n")}
 
 
 def long_texts():

@@ -4,10 +4,10 @@ Makes COUNT cases, at least some 160, and the later ones for the program crates/
 requests, and OUTDIR/stdout, the replies that the program must write, out of the oracle's answers.
 
 The cases are the samples of document 01, the small programs of directed.py, some sheets at the limits, and random sheets of
-at most MOST_ROWS rows, some with leading zeros in their numbers; of each question from 5 to 21 at least LEAST. The
-later ones follow these in order: small programs that planted.py asks for, sheets and texts at the limits, bodies that are
-too long, and sheets with few answer rows lent. Of those that questions 1 to 4 refuse, format_check.py says so; the oracle is
-not asked. Prints the counts by question and by kind of row.
+at most MOST_ROWS rows; of each question from 5 to 21 at least LEAST. The later ones follow these in order: small programs
+that planted.py asks for, sheets and texts at the limits, bodies that are too long, and sheets with few answer rows lent. Of
+those that questions 1 to 4 refuse, format_check.py says so; the oracle is not asked. Prints the counts by question and by
+kind of row.
 """
 import random
 import sys
@@ -77,16 +77,6 @@ def expect(oracle, cases):
     return cases
 
 
-def with_zeros(rng, text):
-    """Some numbers of a sheet's text with zeros for spaces before them."""
-    text = bytearray(text)
-    for _ in range(rng.randrange(1, 9)):
-        field = 81 * rng.randrange(len(text) // 81) + 10 * rng.randrange(8)
-        number = text[field:field + 10].strip()
-        text[field:field + 10] = number.rjust(rng.choice([10, len(number)]), b"0").rjust(10)
-    return bytes(text)
-
-
 def samples():
     """The samples that pass questions 1 to 4."""
     for what, words, names in cases_of(SAMPLES.read_text()):
@@ -131,10 +121,7 @@ def random_cases(rng, seeds, sizes, most_rows):
     for seed in seeds:
         sheet = generate(seed, rng.choice(sizes), 0.85)
         if len(sheet.rows) <= most_rows:
-            case = case_of(f"sheet {seed}", sheet.words, sheet.names)
-            if rng.random() < 0.1:
-                case.text = with_zeros(rng, case.text)
-            yield case
+            yield case_of(f"sheet {seed}", sheet.words, sheet.names)
 
 
 def wanted_counts(cases, count):

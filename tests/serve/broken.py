@@ -36,6 +36,8 @@ def broken():
     yield "no number in a column", "row", head[:70] + b" " * 10 + WHOLE[80:]
     yield "a space after a number", "row", head[:70] + b"0".ljust(10) + WHOLE[80:]
     yield "a number of 4,294,967,296", "row", head[:70] + b"4294967296" + WHOLE[80:]
+    yield "a leading zero", "row", b"01".rjust(10) + WHOLE[10:]
+    yield "two zeros", "row", head[:70] + b"00".rjust(10) + WHOLE[80:]
     yield "no newline after the header", "row", head[:80] + b" " + WHOLE[81:]
     yield "81 zero bytes", "row", bytes(81)
     for verb in (0, 2, 3, 4, 5, 6, 7, 8, 9, 10, 11, 12, MOST):

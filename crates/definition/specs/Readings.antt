@@ -1,11 +1,14 @@
--- Further samples: points of document 01 that are easily read otherwise, each settled against the Rust.
+-- Further samples: points of document 01 that are easily read otherwise, each settled against the Rust; and numbers in a text.
 use mathlib.Core.Path.{_≡_, refl}
+use mathlib.Core.Bool.{true, false}
 use mathlib.Core.List.{List, [], _∷_, _++_, map}
 use Prim.Native.Nat.{ℕ, zero, suc, _-_}
+use Prim.Native.String.{String}
 use lib.ListN.{replicate}
 use Rattle.definition.specs.Basics.{concatMap}
 use Rattle.definition.specs.Sheet.{Sheet}
 use Rattle.definition.specs.Bytes.{bytes}
+use Rattle.definition.specs.Text.{isNumber, value, inTen}
 use Rattle.definition.specs.Answer.{eight}
 use Rattle.definition.specs.Outcome.{Outcome, outcome, buffer}
 use Rattle.definition.specs.Samples.{Sample, s1, printedOf, expected}
@@ -396,3 +399,24 @@ lent-enough = refl
 
 pub lent-short : map lending (0 ∷ 31 ∷ []) ≡ (22 ∷ []) ∷ (22 ∷ replicate 31 0) ∷ []
 lent-short = refl
+
+-- columns that are no number: four with a leading zero, two of zeros alone, no digit, too large
+pub no-numbers : map (λ t. isNumber (bytes t))
+    ("        05" ∷ "0000000005" ∷ "0123456789" ∷ " 000000010" ∷ "        00" ∷ "0000000000" ∷ "          " ∷ "4294967296" ∷ [])
+    ≡ replicate 8 false
+no-numbers = refl
+
+-- columns that are a number: zero; one digit; zeros inside and at the end; nine and ten digits; the largest
+abbrev numbers : List String
+numbers =
+    "         0" ∷ "         5" ∷ "        10" ∷ "   1002003" ∷ "   1000000" ∷ " 999999999" ∷ "1000000000" ∷ "4294967295" ∷ []
+
+pub number-texts : map (λ t. isNumber (bytes t)) numbers ≡ replicate 8 true
+number-texts = refl
+
+pub number-values : map (λ t. value (bytes t)) numbers ≡ 0 ∷ 5 ∷ 10 ∷ 1002003 ∷ 1000000 ∷ 999999999 ∷ 1000000000 ∷ 4294967295 ∷ []
+number-values = refl
+
+-- written again they are the same bytes
+pub number-again : map (λ t. inTen (value (bytes t))) numbers ≡ map bytes numbers
+number-again = refl

@@ -2,7 +2,7 @@
 use mathlib.Core.Path.{_≡_, refl}
 use mathlib.Core.List.{List, [], _∷_, _++_, map}
 use Prim.Native.Nat.{ℕ}
-use lib.ListN.{take}
+use lib.ListN.{take, set, replicate}
 use Rattle.definition.specs.Text.{textOf}
 use Rattle.request.specs.Header.{largest, brokenBy, told, requestOf}
 
@@ -32,8 +32,8 @@ breaks : map (λ w. requestOf (header w) .broken)
 unfolding requestOf brokenBy largest told
 breaks = refl
 
--- no row: a byte short, a byte more, two rows, no bytes
-no-row : map requestOf (take 80 (header whole) ∷ (header whole ++ 10 ∷ []) ∷ (header whole ++ header whole) ∷ [] ∷ [])
-    ≡ told 1 [] ∷ told 1 [] ∷ told 1 [] ∷ told 1 [] ∷ []
+-- no row: a byte short, a byte more, two rows, no bytes, a leading zero
+no-row : map requestOf (take 80 (header whole) ∷ (header whole ++ 10 ∷ []) ∷ (header whole ++ header whole) ∷ [] ∷ set (header whole) 8 48 ∷ [])
+    ≡ replicate 5 (told 1 [])
 unfolding requestOf
 no-row = refl

@@ -1,46 +1,51 @@
 -- Reading gives back what was written; and what callers cite of the contracts. Assumes nothing.
 use mathlib.Core.Path.{_≡_, refl, sym, ap, _∙_, subst}
 use mathlib.Core.Logic.{_⊎_, inl, inr}
-use mathlib.Core.Bool.{Bool, true, false, not, _&&_}
+use mathlib.Core.Bool.{Bool, true, false, not, _&&_, _||_}
 use mathlib.Core.List.{List, [], _∷_, _++_, map, append-nil}
 use Prim.Native.Nat.{ℕ, zero, suc, _+_, _*_, _-_, _/_, _%_, _^_, _<_, _≤_}
-use native.Mathlib.Numerals.{add-one}
 use native.Mathlib.Omega.{arith}
-use native.Mathlib.Nat.{div-eq-of-lt, pow-le-pow-right}
+use native.Mathlib.Nat.{div-eq-of-lt, one-le-pow, pow-le-pow-right}
 use native.Mathlib.Decide.{decLe}
 use borrow.Author.Tests.{eq-eqb, le-leb, lt-leb}
-use lib.Dec.{T, leb, ltb, eqb, leb→le, ltb→lt, le→leb, lt→ltb, T-not, not-T}
+use lib.Dec.{T, leb, ltb, eqb, leb→le, ltb→lt, eqb→eq, le→leb, lt→ltb, T-not, not-T}
 use lib.ListN.{length, getD, take, drop, replicate, length-append, length-map, length-take, length-drop}
-use lib.Seq.{take-at, take-add, take-all, ext-getD, getD-at}
+use lib.Seq.{take-at, ext-getD, getD-at}
 use Rattle.definition.specs.Basics.{if_then_else_, all, from, concatMap}
 use Rattle.definition.specs.Sheet.{rows}
-use Rattle.definition.specs.Text.{isDigit, trimmed, digits, value, isNumber, lines, isSheetText, sheetOf, digitByte, inTen, textOf}
-use Rattle.definition.proofs.Lists.Tests.{and-both, and-left, and-right, decide, eqb-of, if-true, if-false}
+use Rattle.definition.specs.Text.{isDigit, trimmed, digits, value, isShortest, isNumber, lines, isSheetText, sheetOf, digitByte, inTen, textOf}
+use Rattle.definition.proofs.Lists.Tests.{and-both, and-left, and-right, or-left, or-right, decide, eqb-of, if-true, if-false}
 use Rattle.definition.proofs.Format.Passes.{all-of}
 use Rattle.definition.specs.Outcome.{rowsFit}
 use Rattle.text.specs.Lines.{lineAt, columnAt, isLine, numbersOf, numbersIn, lineOf}
 use Rattle.text.specs.Reading.{isReadable, linesRead, wordsRead}
 use Rattle.text.specs.Writing.{rowAt, rowsIn, bytesWritten, textWritten}
-use Rattle.text.proofs.Lists.{element-of-part, map-alike, concat-alike, map-at, from-length, concat-more, pieces-length, piece-at}
+use Rattle.text.proofs.Lists.{element-of-part, map-alike, concat-alike, map-at, from-length, parts-joined, pieces-length, piece-at}
 use Rattle.text.proofs.Reading.{readable, trimmed-space, trimmed-other, text-lines, sheet-is, text-numbers}
-use Rattle.text.proofs.Writing.{quotient-more}
+use Rattle.text.proofs.Writing.{quotient-zero, quotient-more}
 
 -- the bytes of m at the weights below 10 ^ k
-bytesFrom : ℕ → ℕ → List ℕ
+unfoldable pub bytesFrom : ℕ → ℕ → List ℕ
 bytesFrom m zero = []
 bytesFrom m (suc k) = digitByte m k ∷ bytesFrom m k
 
--- digits that write m
+bytes-length : (m k : ℕ) → length (bytesFrom m k) ≡ k
+unfolding bytesFrom
+bytes-length m zero = refl
+bytes-length m (suc k) = ap suc (bytes-length m k)
+
+-- digits that write m, without a leading zero
 record Writes (m : ℕ) (xs : List ℕ) : Type 0 where
   number : digits 0 xs ≡ m
   some : T (leb 1 (length xs))
   alone : T (all isDigit xs)
+  shortest : T (isShortest xs)
 
 module _ (m : ℕ) where
-  abbrev spaceAt : ℕ → Bool
+  abbrev pub spaceAt : ℕ → Bool
   spaceAt k = leb 1 k && ltb m (10 ^ k)
 
-  digit-is : (k : ℕ) → T (not (spaceAt k)) → digitByte m k ≡ 48 + m / 10 ^ k % 10
+  pub digit-is : (k : ℕ) → T (not (spaceAt k)) → digitByte m k ≡ 48 + m / 10 ^ k % 10
   digit-is k h = if-false (spaceAt k) 32 (48 + m / 10 ^ k % 10) h
 
   digits-of : (k : ℕ) → ((j : ℕ) → j < k → T (not (spaceAt j))) → (digits (m / 10 ^ k) (bytesFrom m k) ≡ m) × T (all isDigit (bytesFrom m k))
@@ -56,7 +61,7 @@ module _ (m : ℕ) where
       )
 
   -- no space after the first digit
-  later : (k j : ℕ) → T (not (spaceAt k)) → j ≤ k → T (not (spaceAt j))
+  pub later : (k j : ℕ) → T (not (spaceAt k)) → j ≤ k → T (not (spaceAt j))
   later k j h l =
       not-T (spaceAt j)
       (λ s.
@@ -64,6 +69,23 @@ module _ (m : ℕ) where
       let b : m < 10 ^ j = ltb→lt m (10 ^ j) (and-right (leb 1 j) (ltb m (10 ^ j)) s) in
       let p : 10 ^ j ≤ 10 ^ k = pow-le-pow-right {n = 10} (omega arith) {i = j} {j = k} l in
       T-not (spaceAt k) h (and-both (leb 1 k) (ltb m (10 ^ k)) (le→leb 1 k (omega arith)) (lt→ltb m (10 ^ k) (omega arith))))
+
+  -- the first digit is not 0, or it is the only one
+  not-zero : (k : ℕ) → m < 10 ^ suc k → T (not (spaceAt k)) → T (isShortest (bytesFrom m (suc k)))
+  unfolding bytesFrom
+  not-zero k h n = go (decLe 1 k)
+    where
+      one : Bool
+      one = eqb (suc (length (bytesFrom m k))) 1
+
+      space : 1 ≤ k → digitByte m k ≡ 48 → T (spaceAt k)
+      space l e =
+          let q : m / 10 ^ k ≡ 0 = omega (arith, digit-is k n, quotient-more m k, div-eq-of-lt h) in
+          and-both (leb 1 k) (ltb m (10 ^ k)) (le→leb 1 k l) (subst T (quotient-zero m (10 ^ k) (one-le-pow k 10 (omega arith))) (eqb-of (m / 10 ^ k) 0 q))
+
+      go : Dec (1 ≤ k) → T (one || not (eqb (digitByte m k) 48))
+      go (yes l) = or-right one (not (eqb (digitByte m k) 48)) (not-T (eqb (digitByte m k) 48) (λ e. T-not (spaceAt k) n (space l (eqb→eq (digitByte m k) 48 e))))
+      go (no l) = or-left one (not (eqb (digitByte m k) 48)) (eqb-of (suc (length (bytesFrom m k))) 1 (omega (arith, bytes-length m k)))
 
   first-digit : (k : ℕ) → m < 10 ^ suc k → T (not (spaceAt k)) → Writes m (trimmed (bytesFrom m (suc k)))
   unfolding bytesFrom
@@ -76,6 +98,7 @@ module _ (m : ℕ) where
         number = subst (λ (v : ℕ). digits v (bytesFrom m (suc k)) ≡ m) z (r .0);
         some = le→leb 1 (suc (length (bytesFrom m k))) (omega arith);
         alone = r .1;
+        shortest = not-zero k h n;
       })
 
   number-of : (k : ℕ) → m < 10 ^ suc k → Writes m (trimmed (bytesFrom m (suc k)))
@@ -101,8 +124,9 @@ module _ (m : ℕ) (small : m < 2 ^ 32) where
   number-written : T (isNumber (inTen m))
   number-written =
       let e : value (inTen m) ≡ m = value-written in
-      and-both (leb 1 (length (trimmed (inTen m))) && all isDigit (trimmed (inTen m))) (leb (value (inTen m)) 4294967295)
-      (and-both (leb 1 (length (trimmed (inTen m)))) (all isDigit (trimmed (inTen m))) (unpadded .some) (unpadded .alone))
+      let ds = trimmed (inTen m) in
+      and-both (leb 1 (length ds) && all isDigit ds && isShortest ds) (leb (value (inTen m)) 4294967295)
+      (and-both (leb 1 (length ds) && all isDigit ds) (isShortest ds) (and-both (leb 1 (length ds)) (all isDigit ds) (unpadded .some) (unpadded .alone)) (unpadded .shortest))
       (le→leb (value (inTen m)) 4294967295 (omega arith))
 
 -- a row as a line is a line of its numbers
@@ -137,52 +161,42 @@ module _ (row : List ℕ) (eight : length row ≡ 8) where
         map-alike (λ c. value (columnAt (lineOf row) c)) (λ c. getD row c 0) 0 8 (λ c l. ap value (column-at c (omega arith)) ∙ value-written (getD row c 0) (small c (omega arith)))
         ∙ ext-getD 0 (map (λ c. getD row c 0) (from 0 8)) row (sym eight) (λ i l. map-at (λ c. getD row c 0) 0 8 i l)
 
--- words that are whole rows
-rows-joined : (ws : List ℕ) (n : ℕ) → concatMap (rowAt ws) (from 0 n) ≡ take (8 * n) ws
-rows-joined ws zero = refl
-rows-joined ws (suc n) =
-    let q : 8 * suc n ≡ 8 * n + 8 = omega arith in
-    ap (λ (k : ℕ). concatMap (rowAt ws) (from 0 k)) (sym (add-one n)) ∙ concat-more (rowAt ws) n
-    ∙ ap (λ (l : List ℕ). l ++ rowAt ws n) (rows-joined ws n) ∙ rw q (sym (take-add (8 * n) 8 ws))
-
-module _ (ws : List ℕ) (n : ℕ) (whole : length ws ≡ 8 * n) (small : (i : ℕ) → i < length ws → getD ws i 0 < 2 ^ 32) where
-  count : rows ws ≡ n
-  count = omega arith
-
+-- the whole rows of words
+module _ (ws : List ℕ) (small : (i : ℕ) → i < length ws → getD ws i 0 < 2 ^ 32) where
   abbrev text : List ℕ
   text = textOf (rowsIn ws)
 
-  row-length : (r : ℕ) → r < n → length (rowAt ws r) ≡ 8
+  row-length : (r : ℕ) → r < rows ws → length (rowAt ws r) ≡ 8
   row-length r h = simp (length-take, length-drop) (omega arith)
 
-  row-small : (r : ℕ) → r < n → (c : ℕ) → c < 8 → getD (rowAt ws r) c 0 < 2 ^ 32
+  row-small : (r : ℕ) → r < rows ws → (c : ℕ) → c < 8 → getD (rowAt ws r) c 0 < 2 ^ 32
   row-small r h c l = rw (element-of-part c 8 (8 * r) ws 0 l) (small (8 * r + c) (omega arith))
 
-  rows-length : length (rowsIn ws) ≡ n
-  rows-length = length-map (from 0 (rows ws)) (rowAt ws) ∙ from-length 0 (rows ws) ∙ count
+  rows-length : length (rowsIn ws) ≡ rows ws
+  rows-length = length-map (from 0 (rows ws)) (rowAt ws) ∙ from-length 0 (rows ws)
 
-  row-at : (r : ℕ) → r < n → getD (rowsIn ws) r [] ≡ rowAt ws r
-  row-at r h = map-at (rowAt ws) [] (rows ws) r (omega (arith, count))
+  row-at : (r : ℕ) → r < rows ws → getD (rowsIn ws) r [] ≡ rowAt ws r
+  row-at r h = map-at (rowAt ws) [] (rows ws) r h
 
   line-size : (r : ℕ) → r < length (rowsIn ws) → length (lineOf (getD (rowsIn ws) r [])) ≡ 81
   line-size r h =
-      let l : r < n = omega (arith, rows-length) in
+      let l : r < rows ws = omega (arith, rows-length) in
       rw (row-at r l) (line-length (rowAt ws r) (row-length r l))
 
   text-is : concatMap lineOf (rowsIn ws) ≡ text
   unfolding lineOf
   text-is = refl
 
-  text-length : length text ≡ 81 * n
+  pub text-length : length text ≡ 81 * rows ws
   text-length = ap length (sym text-is) ∙ pieces-length 81 lineOf [] (rowsIn ws) line-size ∙ ap (λ (k : ℕ). 81 * k) rows-length
 
-  line-at : (r : ℕ) → r < n → lineAt text r ≡ lineOf (rowAt ws r)
+  line-at : (r : ℕ) → r < rows ws → lineAt text r ≡ lineOf (rowAt ws r)
   line-at r h =
       ap (λ (t : List ℕ). lineAt t r) (sym text-is ∙ sym (append-nil (concatMap lineOf (rowsIn ws))))
       ∙ piece-at 81 lineOf [] (rowsIn ws) [] r line-size (omega (arith, rows-length))
       ∙ ap lineOf (row-at r h)
 
-  lines-written : lines text ≡ n
+  lines-written : lines text ≡ rows ws
   lines-written = omega (arith, text-length)
 
   text-written : T (isSheetText text)
@@ -192,24 +206,23 @@ module _ (ws : List ℕ) (n : ℕ) (whole : length ws ≡ 8 * n) (small : (i : �
       (eqb-of (81 * lines text) (length text) (omega (arith, text-length)))
       (all-of (λ r. isLine (lineAt text r)) 0 (lines text)
       (λ r a b.
-      let l : r < n = omega (arith, lines-written) in
+      let l : r < rows ws = omega (arith, lines-written) in
       subst (λ (xs : List ℕ). T (isLine xs)) (sym (line-at r l)) (is-line (rowAt ws r) (row-length r l) (row-small r l)))))
 
-  words-back : sheetOf text ≡ ws
+  words-back : sheetOf text ≡ take (8 * rows ws) ws
   unfolding numbersIn
   words-back =
       text-numbers text text-written
       ∙ ap (λ (k : ℕ). numbersIn text k) lines-written
-      ∙ concat-alike (λ r. numbersOf (lineAt text r)) (rowAt ws) 0 n
+      ∙ concat-alike (λ r. numbersOf (lineAt text r)) (rowAt ws) 0 (rows ws)
       (λ r h.
-      let l : r < n = omega arith in
+      let l : r < rows ws = omega arith in
       ap numbersOf (line-at r l) ∙ numbers-back (rowAt ws r) (row-length r l) (row-small r l))
-      ∙ rows-joined ws n ∙ take-all (8 * n) ws (omega arith)
+      ∙ parts-joined 8 ws (rows ws)
 
--- Reading what was written gives the rows back.
-pub read-back : (ws : List ℕ) (n : ℕ) → length ws ≡ 8 * n → ((i : ℕ) → i < length ws → getD ws i 0 < 2 ^ 32)
-    → T (isSheetText (textOf (rowsIn ws))) × (lines (textOf (rowsIn ws)) ≡ n) × (sheetOf (textOf (rowsIn ws)) ≡ ws)
-read-back ws n whole small = (text-written ws n whole small, lines-written ws n whole small, words-back ws n whole small)
+  -- Reading what was written gives the rows back.
+  pub read-back : T (isSheetText (textOf (rowsIn ws))) × (lines (textOf (rowsIn ws)) ≡ rows ws) × (sheetOf (textOf (rowsIn ws)) ≡ take (8 * rows ws) ws)
+  read-back = (text-written, lines-written, words-back)
 
 numbers-length : (t : List ℕ) (n : ℕ) → length (numbersIn t n) ≡ 8 * n
 unfolding numbersIn numbersOf
@@ -225,6 +238,14 @@ and-false false = refl
 
 -- What was read is the sheet, and question 1 asks whether a line was.
 module _ (t : List ℕ) (lent : ℕ) where
+  pub lines-good : 1 ≤ linesRead t lent → T (isSheetText t)
+  unfolding linesRead
+  lines-good = go (isReadable t lent) (readable t lent)
+    where
+      go : (b : Bool) → (T b → T (isSheetText t)) → 1 ≤ (if b then lines t else 0) → T (isSheetText t)
+      go true f h = f tt
+      go false f h = absurd (omega arith)
+
   pub sheet-words : 1 ≤ linesRead t lent → take (8 * linesRead t lent) (wordsRead t lent) ≡ sheetOf t
   unfolding linesRead wordsRead
   sheet-words = go (isReadable t lent) (readable t lent)

@@ -3,3 +3,4 @@ pub mod Laws
 pub mod Lists
 pub mod Reading
 pub mod Writing
+pub mod RoundTrip

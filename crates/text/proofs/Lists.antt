@@ -8,7 +8,7 @@ use native.Mathlib.Omega.{arith}
 use native.Mathlib.Nat.{add-zero, zero-add, add-comm, mul-zero, mul-suc}
 use borrow.Rule.Slice.PartMut.{putMid, postOf}
 use lib.ListN.{length, getD, take, drop, set, length-append}
-use lib.Seq.{drop-cons, take-at, drop-at, take-take, length-take-le, take-suc-set, drop-drop, getD-take, getD-drop}
+use lib.Seq.{drop-cons, take-at, drop-at, take-take, take-add, length-take-le, take-suc-set, drop-drop, getD-take, getD-drop}
 use Rattle.definition.specs.Basics.{all, from, concatMap}
 use Rattle.definition.proofs.Format.Passes.{from-suc, all-suc}
 
@@ -92,6 +92,13 @@ module _ {A : Type 0} where
 
   pub concat-more : (f : ℕ → List A) (n : ℕ) → concatMap f (from 0 (n + 1)) ≡ concatMap f (from 0 n) ++ f n
   concat-more f n = rw add-one (ap (concatMap f) (from-suc n) ∙ concat-append f (from 0 n) (n ∷ []) ∙ ap (λ (l : List A). concatMap f (from 0 n) ++ l) (append-nil (f n)))
+
+  -- parts of w elements each, joined
+  pub parts-joined : (w : ℕ) (xs : List A) (n : ℕ) → concatMap (λ r. take w (drop (w * r) xs)) (from 0 n) ≡ take (w * n) xs
+  parts-joined w xs zero = rw mul-zero
+  parts-joined w xs (suc n) =
+      ap (λ (k : ℕ). concatMap (λ r. take w (drop (w * r) xs)) (from 0 k)) (sym (add-one n)) ∙ concat-more (λ r. take w (drop (w * r) xs)) n
+      ∙ ap (λ (l : List A). l ++ take w (drop (w * n) xs)) (parts-joined w xs n) ∙ rw (mul-suc w n) (sym (take-add (w * n) w xs))
 
 -- pieces of w elements each, joined
 module _ {A B : Type 0} (w : ℕ) (f : A → List B) (d : A) where

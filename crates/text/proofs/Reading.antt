@@ -1,8 +1,8 @@
 -- Steps of reading: spaces, digits, a number. Assumes nothing.
 use mathlib.Core.Path.{_≡_, refl, sym, ap, _∙_, subst}
-use mathlib.Core.Bool.{Bool, true, false, _&&_}
+use mathlib.Core.Bool.{Bool, true, false, _&&_, _||_}
 use mathlib.Core.List.{List, [], _∷_, _++_, map, append-nil}
-use Prim.Native.Nat.{ℕ, _+_, _*_, _-_, _/_, _^_, _<_, _≤_}
+use Prim.Native.Nat.{ℕ, suc, _+_, _*_, _-_, _/_, _^_, _<_, _≤_}
 use native.Mathlib.Numerals.{add-one}
 use native.Mathlib.Omega.{arith}
 use native.Mathlib.Nat.{pow-suc, pow-le-pow-right, sub-zero}
@@ -12,11 +12,11 @@ use lib.Dec.{T, leb, eqb, leb→le}
 use lib.ListN.{length, getD, take, drop, set, replicate, drop-of-length-le, length-drop}
 use lib.Seq.{take-all}
 use Rattle.definition.specs.Basics.{if_then_else_, all, from}
-use Rattle.definition.specs.Text.{isDigit, trimmed, isNumber, value, lines, columnText, isSheetText, sheetOf}
+use Rattle.definition.specs.Text.{isDigit, trimmed, digits, isShortest, isNumber, value, lines, columnText, isSheetText, sheetOf}
 use Rattle.definition.proofs.Lists.Tests.{and-left, and-right, if-true}
 use Rattle.definition.proofs.Format.Passes.{all-fails}
 use Rattle.text.specs.Lines.{lineAt, columnAt, digitsFrom, numberIn, isLine, numbersOf, goodLines, numbersIn, wholeLines}
-use Rattle.text.specs.Reading.{isReadable, linesRead, wordsRead, SheetRead}
+use Rattle.text.specs.Reading.{isReadable, linesRead, wordsRead}
 use Rattle.text.proofs.Lists.{drop-next, take-stored, put-front, part-of-part, element-of-part, all-alike, map-alike, concat-alike, all-more, map-more, concat-more}
 
 -- spaces
@@ -67,38 +67,70 @@ module _ (l : List ℕ) (i : ℕ) where
 pub ten-power : (i : ℕ) → i < 10 → (10 ^ i ≤ 10 ^ 9) × (10 ^ (i + 1) ≡ 10 * 10 ^ i)
 ten-power i h = (pow-le-pow-right {n = 10} (omega arith) {i = i} {j = 9} (omega arith), rw (add-one, pow-suc) (omega arith))
 
+-- the number that the bytes after the spaces write
+abbrev numberOf : List ℕ → ℕ
+numberOf ds = if leb 1 (length ds) && all isDigit ds && isShortest ds && leb (digits 0 ds) 4294967295 then digits 0 ds else 4294967296
+
+-- it is none where a zero stands before another digit, or where it is too large
+zero-padded : (x : ℕ) (xs : List ℕ) → numberOf (48 ∷ x ∷ xs) ≡ 4294967296
+zero-padded x xs = rw (ne-eqb (suc (suc (length xs))) 1 (λ e. omega arith)) (go (leb 1 (suc (suc (length xs)))) (all isDigit (48 ∷ x ∷ xs)))
+  where
+    go : (n d : Bool) → (if n && d && false && leb (digits 0 (48 ∷ x ∷ xs)) 4294967295 then digits 0 (48 ∷ x ∷ xs) else 4294967296) ≡ 4294967296
+    go true true = refl
+    go true false = refl
+    go false d = refl
+
+too-large : (ds : List ℕ) → 4294967295 < digitsFrom 0 ds → numberOf ds ≡ 4294967296
+unfolding digitsFrom
+too-large ds = go (digits 0 ds) (leb 1 (length ds)) (all isDigit ds) (isShortest ds)
+  where
+    go : (v : ℕ) (n d s : Bool) → 4294967295 < (if d then v else 4294967296) → (if n && d && s && leb v 4294967295 then v else 4294967296) ≡ 4294967296
+    go v true true true h = rw (lt-leb v 4294967295 h)
+    go v true true false h = refl
+    go v true false s h = refl
+    go v false d s h = refl
+
+-- it is what the digits write where they begin with no zero
+not-padded : (x : ℕ) (xs : List ℕ) → (x ≡ 48 → ⊥) → digitsFrom 0 (x ∷ xs) ≤ 4294967295 → numberOf (x ∷ xs) ≡ digitsFrom 0 (x ∷ xs)
+unfolding digitsFrom
+not-padded x xs n h =
+    rw (ne-eqb x 48 n, le-leb 1 (suc (length xs)) (omega arith)) (go (digits 0 (x ∷ xs)) (all isDigit (x ∷ xs)) (eqb (suc (length xs)) 1) h)
+  where
+    go : (v : ℕ) (d s : Bool) → (if d then v else 4294967296) ≤ 4294967295
+        → (if true && d && (s || true) && leb v 4294967295 then v else 4294967296) ≡ (if d then v else 4294967296)
+    go v true true h = rw (le-leb v 4294967295 h)
+    go v true false h = rw (le-leb v 4294967295 h)
+    go v false s h = refl
+
 -- a column's number, from where its spaces end
 module _ (l : List ℕ) (i : ℕ) (e : drop i l ≡ trimmed l) where
-  none-of : (n v : ℕ) (d : Bool) → n ≡ 0 → (if leb 1 n && d && leb v 4294967295 then v else 4294967296) ≡ 4294967296
-  none-of n v d h = rw h
-
-  large-of : (n v : ℕ) (d : Bool) → 4294967295 < (if d then v else 4294967296) → (if leb 1 n && d && leb v 4294967295 then v else 4294967296) ≡ 4294967296
-  large-of n v true h = rw (lt-leb v 4294967295 h) (go (leb 1 n))
-    where
-      go : (t : Bool) → (if t && true && false then v else 4294967296) ≡ 4294967296
-      go true = refl
-      go false = refl
-  large-of n v false h = go (leb 1 n)
-    where
-      go : (t : Bool) → (if t && false && leb v 4294967295 then v else 4294967296) ≡ 4294967296
-      go true = refl
-      go false = refl
-
-  some-of : (n v : ℕ) (d : Bool) → 1 ≤ n → (if d then v else 4294967296) ≤ 4294967295 → (if leb 1 n && d && leb v 4294967295 then v else 4294967296) ≡ (if d then v else 4294967296)
-  some-of n v true g h = rw (le-leb 1 n g, le-leb v 4294967295 h)
-  some-of n v false g h = absurd (omega arith)
-
   pub number-missing : i ≡ length l → numberIn l ≡ 4294967296
   unfolding numberIn
-  number-missing h = none-of (length (trimmed l)) (value l) (all isDigit (trimmed l)) (sym (ap length e) ∙ (length-drop i l ∙ omega arith))
+  number-missing h = ap numberOf (sym e ∙ drop-of-length-le l {i = i} (omega arith))
+
+  -- a digit 0 that comes first
+  module _ (z : getD l i 0 ≡ 48) where
+    pub number-zero : i + 1 ≡ length l → numberIn l ≡ 0
+    unfolding numberIn
+    number-zero h =
+        let q : trimmed l ≡ 48 ∷ [] = sym e ∙ drop-next l i 0 (omega arith) ∙ cc (z, drop-of-length-le l {i = i + 1} (omega arith)) in
+        ap numberOf q
+
+    pub number-padded : i + 1 < length l → numberIn l ≡ 4294967296
+    unfolding numberIn
+    number-padded h =
+        let q : trimmed l ≡ 48 ∷ getD l (i + 1) 0 ∷ drop (i + 1 + 1) l = sym e ∙ drop-next l i 0 (omega arith) ∙ cc (z, drop-next l (i + 1) 0 h) in
+        ap numberOf q ∙ zero-padded (getD l (i + 1) 0) (drop (i + 1 + 1) l)
 
   pub number-large : 4294967295 < digitsFrom 0 (drop i l) → numberIn l ≡ 4294967296
-  unfolding numberIn digitsFrom
-  number-large h = large-of (length (trimmed l)) (value l) (all isDigit (trimmed l)) (rw e at h)
+  unfolding numberIn
+  number-large h = too-large (trimmed l) (rw e at h)
 
-  pub number-found : i < length l → digitsFrom 0 (drop i l) ≤ 4294967295 → numberIn l ≡ digitsFrom 0 (drop i l)
-  unfolding numberIn digitsFrom
-  number-found g h = rw e (some-of (length (trimmed l)) (value l) (all isDigit (trimmed l)) (omega (arith, ap length e, length-drop i l)) (rw e at h))
+  pub number-found : i < length l → (getD l i 0 ≡ 48 → ⊥) → digitsFrom 0 (drop i l) ≤ 4294967295 → numberIn l ≡ digitsFrom 0 (drop i l)
+  unfolding numberIn
+  number-found g n h =
+      let q : drop i l ≡ getD l i 0 ∷ drop (i + 1) l = drop-next l i 0 g in
+      ap numberOf (sym e ∙ q) ∙ not-padded (getD l i 0) (drop (i + 1) l) n (rw q at h) ∙ ap (digitsFrom 0) (sym q)
 
 -- a number that was read
 number-good : (xs : List ℕ) → numberIn xs ≤ 4294967295 → (isNumber xs ≡ true) × (numberIn xs ≡ value xs)
@@ -111,7 +143,7 @@ number-good xs h = go (isNumber xs) h
 
 number-bad : (xs : List ℕ) → 4294967295 < numberIn xs → isNumber xs ≡ false
 unfolding numberIn
-number-bad xs h = go (isNumber xs) (λ w. leb→le (value xs) 4294967295 (and-right (leb 1 (length (trimmed xs)) && all isDigit (trimmed xs)) (leb (value xs) 4294967295) w)) h
+number-bad xs h = go (isNumber xs) (λ w. leb→le (value xs) 4294967295 (and-right (leb 1 (length (trimmed xs)) && all isDigit (trimmed xs) && isShortest (trimmed xs)) (leb (value xs) 4294967295) w)) h
   where
     go : (t : Bool) → (T t → value xs ≤ 4294967295) → 4294967295 < (if t then value xs else 4294967296) → t ≡ false
     go true f h = absurd (omega (arith, f tt))
@@ -281,9 +313,10 @@ module _ (t : List ℕ) (lent : ℕ) where
       go true f = ap (λ (l : List ℕ). l ++ replicate (lent - 8 * lines t) 0) (sym (text-numbers t (f tt)))
       go false f = cc (sym (none-read t), sub-zero lent)
 
-  pub sheet-read : (n : ℕ) (before last : List ℕ) → n ≡ goodLines t (wholeLines (length t) lent) → length before ≡ lent → take (8 * n) before ≡ numbersIn t n
-      → last ≡ replicate (length (take (length before - 8 * n) (drop (8 * n) before))) 0 → SheetRead t lent n (putMid (8 * n) (length before - 8 * n) before last)
-  sheet-read n before last e g q z = record { count = found; words = all-words ∙ ap (λ (k : ℕ). numbersIn t k ++ replicate (lent - 8 * k) 0) found ∙ words-read }
+  pub words-left : (n : ℕ) (before last : List ℕ) → n ≡ goodLines t (wholeLines (length t) lent) → length before ≡ lent → take (8 * n) before ≡ numbersIn t n
+      → last ≡ replicate (length (take (length before - 8 * n) (drop (8 * n) before))) 0
+      → (n ≡ linesRead t lent) × (putMid (8 * n) (length before - 8 * n) before last ≡ wordsRead t lent)
+  words-left n before last e g q z = (found, all-words ∙ ap (λ (k : ℕ). numbersIn t k ++ replicate (lent - 8 * k) 0) found ∙ words-read)
     where
       found : n ≡ linesRead t lent
       found = e ∙ lines-read

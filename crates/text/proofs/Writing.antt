@@ -16,7 +16,7 @@ use Rattle.definition.specs.Basics.{if_then_else_, from, concatMap}
 use Rattle.definition.specs.Sheet.{rows}
 use Rattle.definition.specs.Text.{digitByte, inTen, textOf}
 use Rattle.text.specs.Lines.{placeByte, lineOf, linesOf}
-use Rattle.text.specs.Writing.{rowAt, rowsIn, bytesWritten, textWritten, RowsWritten}
+use Rattle.text.specs.Writing.{rowAt, rowsIn, bytesWritten, textWritten}
 use Rattle.text.proofs.Lists.{drop-next, put-front, map-at, concat-append, concat-map, concat-more}
 
 -- the byte at place i of ten
@@ -38,7 +38,7 @@ module _ (n i : ℕ) where
       go false = refl
 
 -- a number, last digit first
-quotient-zero : (n p : ℕ) → 0 < p → eqb (n / p) 0 ≡ ltb n p
+pub quotient-zero : (n p : ℕ) → 0 < p → eqb (n / p) 0 ≡ ltb n p
 quotient-zero n p h = go (decLt n p)
   where
     go : Dec (n < p) → eqb (n / p) 0 ≡ ltb n p
@@ -143,15 +143,15 @@ unfolding linesOf lineOf
 lines-text ws = sym (concat-map (λ r. concatMap inTen r ++ 10 ∷ []) (rowAt ws) (from 0 (rows ws)))
 
 module _ (ws text : List ℕ) where
-  pub rows-refused : length text / 81 < length ws / 8 → RowsWritten ws text 0 text
+  pub none-fit : length text / 81 < length ws / 8 → (0 ≡ bytesWritten ws (length text)) × (text ≡ textWritten ws text)
   unfolding bytesWritten textWritten
-  rows-refused h =
+  none-fit h =
       let e : leb (81 * rows ws) (length text) ≡ false = lt-leb (81 * rows ws) (length text) (omega arith) in
-      record { count = rw e; text = rw e }
+      (rw e, rw e)
 
-  pub rows-written : (r : ℕ) (after : List ℕ) → length ws / 8 ≤ length text / 81 → r ≡ length ws / 8 → take (81 * r) after ≡ linesOf ws r → drop (81 * r) after ≡ drop (81 * r) text
-      → RowsWritten ws text (81 * (length ws / 8)) after
+  pub text-left : (r : ℕ) (after : List ℕ) → length ws / 8 ≤ length text / 81 → r ≡ length ws / 8 → take (81 * r) after ≡ linesOf ws r → drop (81 * r) after ≡ drop (81 * r) text
+      → (81 * (length ws / 8) ≡ bytesWritten ws (length text)) × (after ≡ textWritten ws text)
   unfolding bytesWritten textWritten
-  rows-written r after h q e g =
+  text-left r after h q e g =
       let b : leb (81 * rows ws) (length text) ≡ true = le-leb (81 * rows ws) (length text) (omega arith) in
-      record { count = rw b; text = rw b (sym (take-append-drop (81 * r) after) ∙ cc (e, g, q, lines-text ws)) }
+      (rw b, rw b (sym (take-append-drop (81 * r) after) ∙ cc (e, g, q, lines-text ws)))

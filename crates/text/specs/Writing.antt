@@ -1,12 +1,12 @@
 -- What `write_rows` promises.
 use mathlib.Core.Path.{_≡_}
 use mathlib.Core.List.{List, _++_, map}
-use Prim.Native.Nat.{ℕ, _*_}
+use Prim.Native.Nat.{ℕ, _*_, _≤_}
 use lib.ListN.{length, take, drop}
 use lib.Dec.{leb}
 use Rattle.definition.specs.Basics.{if_then_else_, from}
 use Rattle.definition.specs.Sheet.{rows}
-use Rattle.definition.specs.Text.{textOf}
+use Rattle.definition.specs.Text.{sheetOf, textOf}
 
 -- row r of a list of words
 abbrev pub rowAt : List ℕ → ℕ → List ℕ
@@ -24,7 +24,8 @@ bytesWritten ws lent = if leb (81 * rows ws) lent then 81 * rows ws else 0
 unfoldable pub textWritten : List ℕ → List ℕ → List ℕ
 textWritten ws t = if leb (81 * rows ws) (length t) then textOf (rowsIn ws) ++ drop (81 * rows ws) t else t
 
--- the result and the text after writing
+-- the result and the text after writing; where rows are written, reading their text gives them back
 pub record RowsWritten (ws before : List ℕ) (result : ℕ) (after : List ℕ) : Type 0 where
   pub count : result ≡ bytesWritten ws (length before)
   pub text : after ≡ textWritten ws before
+  pub read : 1 ≤ result → sheetOf (take result after) ≡ take (8 * rows ws) ws

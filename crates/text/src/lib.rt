@@ -50,7 +50,7 @@ fn read_digits(column: &[u8], start: usize) -> u64
     v
 }
 
-// The number in a column.
+// The number in a column. A zero has no digit after it.
 fn read_number(column: &[u8]) -> u64
     requires { ⌜ length (now column) ≤ 10 ⌝ }
     ensures { λ r. ⌜ r ≡ numberIn (now (column .entry)) ⌝ }
@@ -58,6 +58,12 @@ fn read_number(column: &[u8]) -> u64
     let start = skip_spaces(column);
     if start == column.len() {
         return NO_NUMBER;
+    }
+    if column[start] == 48 {
+        if start + 1 < column.len() {
+            return NO_NUMBER;
+        }
+        return 0;
     }
     let v = read_digits(column, start);
     if v > MAX_NUMBER {

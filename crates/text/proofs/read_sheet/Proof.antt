@@ -4,7 +4,8 @@ use Prim.Native.Nat.{_*_, _≤_}
 use native.Mathlib.Omega.{arith}
 use borrow.Author.Needs.{needs}
 use lib.ListN.{length}
-use Rattle.text.proofs.Reading.{whole-lent, count-lent, sheet-read}
+use Rattle.text.proofs.Reading.{whole-lent, count-lent, words-left}
+use Rattle.text.proofs.RoundTrip.{sheet-read}
 use Rattle.text.specs.Lines.{goodLines}
 use Rattle.text.proofs.read_sheet.Statement.{statement}
 use Rattle.text.proofs.read_sheet.Tie as tie
@@ -61,8 +62,9 @@ returns c =
     let start = c .before .before .before .before .before .before .before .before .before .before .before in
     let lines-to-read = c .before .before .before .before .before .before .before .before .lines-to-read in
     let read-lines = c .before .before .before .before .before .before .read-lines in
-    sheet-read _ _ _ _ _ (read-lines .ensures .0 ∙ ap (goodLines (start .args .text .now)) (lines-to-read .ensures))
-    (read-lines .kept .1 .0) (read-lines .ensures .1) (c .before .before .clear .ensures)
+    sheet-read _ _ _ _
+    (words-left _ _ _ _ _ (read-lines .ensures .0 ∙ ap (goodLines (start .args .text .now)) (lines-to-read .ensures))
+    (read-lines .kept .1 .0) (read-lines .ensures .1) (c .before .before .clear .ensures))
 
 pub read-sheet-spec : {M : Type 1} → statement M
 read-sheet-spec =

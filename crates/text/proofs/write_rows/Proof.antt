@@ -4,7 +4,8 @@ use mathlib.Core.Path.{refl, ap, _∙_, _≡_}
 use Prim.Native.Nat.{_+_, _/_, _≤_, _-_, _*_}
 use native.Mathlib.Omega.{arith}
 use lib.ListN.{length-take, length-drop, length, take, drop}
-use Rattle.text.proofs.Writing.{row-number, row-written, rest-kept, no-line, rows-refused, rows-written}
+use Rattle.text.proofs.Writing.{row-number, row-written, rest-kept, no-line, none-fit, text-left}
+use Rattle.text.proofs.RoundTrip.{rows-written}
 use Rattle.text.specs.Lines.{lineOf, linesOf}
 use Rattle.text.proofs.write_rows.Statement.{statement}
 use Rattle.text.proofs.write_rows.Tie as tie
@@ -20,7 +21,9 @@ abbrev μ-loop : tie.MeasureT-loop
 returns : tie.Need-returns Inv-loop μ-loop
 returns c =
     let start = c .before .before .before in
-    rows-refused (start .args .words .now) (start .args .text .now) (omega arith)
+    rows-written (start .args .words .now) (start .args .text .now) _ _
+    (λ i l. omega (arith, c .before .before .shared-slice-known .given i))
+    (none-fit (start .args .words .now) (start .args .text .now) (omega arith))
 
 loop-holds : tie.Need-loop-holds Inv-loop μ-loop
 loop-holds c = (omega arith, refl, no-line _, refl)
@@ -101,7 +104,9 @@ returns-2 c =
     let start = c .before .before .before .before .before in
     let loop = c .before .loop in
     let e : loop .r ≡ length (start .args .words .now) / 8 = omega arith in
-    rows-written _ _ (loop .r) _ (c .before .before .if1 .left) e (loop .inv .2) (loop .inv .3)
+    rows-written (start .args .words .now) (start .args .text .now) _ _
+    (λ i l. omega (arith, c .before .before .before .before .shared-slice-known .given i))
+    (text-left _ _ (loop .r) _ (c .before .before .if1 .left) e (loop .inv .2) (loop .inv .3))
 
 pub write-rows-spec : {M : Type 1} → statement M
 write-rows-spec =
