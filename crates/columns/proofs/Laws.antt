@@ -1,8 +1,8 @@
--- Each way undoes the other. Assumes nothing.
+-- Each way undoes the other, and so what both routines promise. Assumes nothing.
 use mathlib.Core.Bool.{Bool, true, false, not, _&&_}
 use mathlib.Core.Path.{_≡_, refl, sym, ap, _∙_}
 use mathlib.Core.List.{List, _++_, append-nil}
-use Prim.Native.Nat.{ℕ, _+_, _-_, _*_, _/_, _%_, _<_, _≤_}
+use Prim.Native.Nat.{ℕ, _+_, _-_, _*_, _/_, _%_, _^_, _<_, _≤_}
 use native.Mathlib.Nat.{mul-comm}
 use native.Mathlib.Omega.{arith}
 use lib.ListN.{length, getD, take, replicate}
@@ -16,27 +16,27 @@ use Rattle.definition.proofs.Lists.Tests.{T-true, T-and}
 use Rattle.columns.specs.Columns.{isLink, stored, restored, table, toColumns, fromColumns, firstNo, targetAfter, Rearranged}
 use Rattle.columns.proofs.TableLaws.{table-length, table-read, table-of}
 
--- a link less a row's number and more it again, and the other way round, modulo 2^32
-less-more : (r w : ℕ) → r ≤ 4294967296 → w < 4294967296 → ((w + 4294967296 - r) % 4294967296 + r) % 4294967296 ≡ w
+-- a row's number taken off a link and added again modulo 2^32, and the other way round
+less-more : (r w : ℕ) → r ≤ 2 ^ 32 → w < 2 ^ 32 → ((w + 2 ^ 32 - r) % 2 ^ 32 + r) % 2 ^ 32 ≡ w
 less-more r w h l = omega arith
 
-more-less : (r w : ℕ) → r ≤ 4294967296 → w < 4294967296 → ((w + r) % 4294967296 + 4294967296 - r) % 4294967296 ≡ w
+more-less : (r w : ℕ) → r ≤ 2 ^ 32 → w < 2 ^ 32 → ((w + r) % 2 ^ 32 + 2 ^ 32 - r) % 2 ^ 32 ≡ w
 more-less r w h l = omega arith
 
 -- a word stored and read back, and the other way round
-restored-stored : (c r w : ℕ) → r ≤ 4294967296 → w < 4294967296 → restored c r (stored c r w) ≡ w
+restored-stored : (c r w : ℕ) → r ≤ 2 ^ 32 → w < 2 ^ 32 → restored c r (stored c r w) ≡ w
 unfolding restored stored
 restored-stored c r w h l = go (isLink c)
   where
-    go : (t : Bool) → (let x : ℕ = if t then (w + 4294967296 - r) % 4294967296 else w in if t then (x + r) % 4294967296 else x) ≡ w
+    go : (t : Bool) → (let x : ℕ = if t then (w + 2 ^ 32 - r) % 2 ^ 32 else w in if t then (x + r) % 2 ^ 32 else x) ≡ w
     go true = less-more r w h l
     go false = refl
 
-stored-restored : (c r w : ℕ) → r ≤ 4294967296 → w < 4294967296 → stored c r (restored c r w) ≡ w
+stored-restored : (c r w : ℕ) → r ≤ 2 ^ 32 → w < 2 ^ 32 → stored c r (restored c r w) ≡ w
 unfolding restored stored
 stored-restored c r w h l = go (isLink c)
   where
-    go : (t : Bool) → (let x : ℕ = if t then (w + r) % 4294967296 else w in if t then (x + 4294967296 - r) % 4294967296 else x) ≡ w
+    go : (t : Bool) → (let x : ℕ = if t then (w + r) % 2 ^ 32 else w in if t then (x + 2 ^ 32 - r) % 2 ^ 32 else x) ≡ w
     go true = more-less r w h l
     go false = refl
 
@@ -48,9 +48,8 @@ pub from-length : (s : List ℕ) → 8 * rows s ≡ length s → length (fromCol
 unfolding fromColumns
 from-length s e = table-length (rows s) 8 (λ r c. restored c r (getD s (c * rows s + r) 0)) ∙ mul-comm (rows s) 8 ∙ e
 
--- Whole rows of words below 2^32, at most 2^32 of them: the words by column lead back to the sheet, and any words that are taken for a
--- sheet by column are that of the sheet that they lead to.
-module _ (s : List ℕ) (whole : 8 * rows s ≡ length s) (few : rows s ≤ 4294967296) (words : (i : ℕ) → getD s i 0 < 4294967296) where
+-- Of whole rows of words below 2^32, at most 2^32 rows, each way undoes the other.
+module _ (s : List ℕ) (whole : 8 * rows s ≡ length s) (few : rows s ≤ 2 ^ 32) (words : (i : ℕ) → getD s i 0 < 2 ^ 32) where
   pub from-to : fromColumns (toColumns s) ≡ s
   unfolding fromColumns toColumns
   from-to = ap (λ (n : ℕ). table n 8 (λ r c. restored c r (getD t (c * n + r) 0))) same ∙ table-of (rows s) 8 _ s long at
@@ -89,9 +88,9 @@ module _ (s : List ℕ) (whole : 8 * rows s ≡ length s) (few : rows s ≤ 4294
           ∙ stored-restored c r (getD s (c * rows s + r) 0) (omega arith) (words (c * rows s + r))
 
 -- Where no question gets a no, the source is rows of eight words, and the target has room for it.
-asked-well : (s : List ℕ) (lent : ℕ) → firstNo s lent ≡ 0 → (rowsFit s ≡ true) × (length s ≤ lent)
+passed : (s : List ℕ) (lent : ℕ) → firstNo s lent ≡ 0 → (rowsFit s ≡ true) × (length s ≤ lent)
 unfolding firstNo
-asked-well s lent = go (rowsFit s) (ltb lent (length s)) refl refl
+passed s lent = go (rowsFit s) (ltb lent (length s)) refl refl
   where
     go : (x y : Bool) → rowsFit s ≡ x → ltb lent (length s) ≡ y → _≡_ {A = ℕ} (if not x then 1 else if y then 22 else 0) 0
         → (rowsFit s ≡ true) × (length s ≤ lent)
@@ -104,29 +103,29 @@ sized s e =
     let q = T-and (eqb (8 * rows s) (length s) && leb 1 (rows s)) (leb (rows s) 2048) (T-true (rowsFit s) e) in
     (eqb→eq (8 * rows s) (length s) (T-and (eqb (8 * rows s) (length s)) (leb 1 (rows s)) (q .0) .0), leb→le (rows s) 2048 (q .1))
 
-pub fits-well : (s : List ℕ) (lent : ℕ) → firstNo s lent ≡ 0 → (8 * rows s ≡ length s) × (rows s ≤ 2048) × (length s ≤ lent)
-fits-well s lent e =
-    let q = asked-well s lent e in
+pub passed-sizes : (s : List ℕ) (lent : ℕ) → firstNo s lent ≡ 0 → (8 * rows s ≡ length s) × (rows s ≤ 2048) × (length s ≤ lent)
+passed-sizes s lent e =
+    let q = passed s lent e in
     let r = sized s (q .0) in
     (r .0, r .1, q .1)
 
--- nor does one of a list of the same length, with a target of that length
-asked-again : (s t : List ℕ) (lent : ℕ) → length t ≡ length s → firstNo s lent ≡ 0 → firstNo t (length s) ≡ 0
+-- So it is of a list of the same length and a target of that length.
+passes-again : (s t : List ℕ) (lent : ℕ) → length t ≡ length s → firstNo s lent ≡ 0 → firstNo t (length s) ≡ 0
 unfolding firstNo
-asked-again s t lent e h =
-    let one : rowsFit t ≡ true = ap (λ (n : ℕ). eqb (8 * (n / 8)) n && leb 1 (n / 8) && leb (n / 8) 2048) e ∙ asked-well s lent h .0 in
+passes-again s t lent e h =
+    let one : rowsFit t ≡ true = ap (λ (n : ℕ). eqb (8 * (n / 8)) n && leb 1 (n / 8) && leb (n / 8) 2048) e ∙ passed s lent h .0 in
     rw (one, le-ltb (length s) (length t) (omega (arith, e)))
 
 -- the target, where no question gets a no
-after-yes : (f : List ℕ → List ℕ) (s : List ℕ) (lent : ℕ) → firstNo s lent ≡ 0 → targetAfter f s lent ≡ f s ++ replicate (lent - length s) 0
+after-passing : (f : List ℕ → List ℕ) (s : List ℕ) (lent : ℕ) → firstNo s lent ≡ 0 → targetAfter f s lent ≡ f s ++ replicate (lent - length s) 0
 unfolding targetAfter
-after-yes f s lent e = rw (eq-eqb (firstNo s lent) 0 e)
+after-passing f s lent e = rw (eq-eqb (firstNo s lent) 0 e)
 
 -- a target that is zero after a no
-pub refused-well : (f g : List ℕ → List ℕ) (s : List ℕ) (lent n : ℕ) (t : List ℕ)
+pub zeros-after-no : (f g : List ℕ → List ℕ) (s : List ℕ) (lent n : ℕ) (t : List ℕ)
     → n ≡ firstNo s lent → (n ≡ 0 → ⊥) → t ≡ replicate lent 0 → Rearranged f g s lent n t
 unfolding targetAfter
-refused-well f g s lent n t e h z = record {
+zeros-after-no f g s lent n t e h z = record {
   answer = e;
   target = rw (ne-eqb (firstNo s lent) 0 (λ o. h (e ∙ o))) z;
   back = λ o. absurd (h o);
@@ -135,7 +134,7 @@ refused-well f g s lent n t e h z = record {
 -- a target that holds the source rearranged, where g undoes f
 pub rearranged : (f g : List ℕ → List ℕ) (s : List ℕ) (lent : ℕ) (t : List ℕ) → firstNo s lent ≡ 0 → length (f s) ≡ length s → g (f s) ≡ s
     → t ≡ f s ++ replicate (lent - length s) 0 → Rearranged f g s lent 0 t
-rearranged f g s lent t ok long undone e = record { answer = sym ok; target = e ∙ sym (after-yes f s lent ok); back = λ o. (again, given) }
+rearranged f g s lent t ok long undone e = record { answer = sym ok; target = e ∙ sym (after-passing f s lent ok); back = λ o. (again, given) }
   where
     u : List ℕ
     u = take (length s) t
@@ -144,12 +143,12 @@ rearranged f g s lent t ok long undone e = record { answer = sym ok; target = e 
     same = ap (take (length s)) e ∙ take-at (f s) (replicate (lent - length s) 0) (length s) long
 
     again : firstNo u (length s) ≡ 0
-    again = asked-again s u lent (ap length same ∙ long) ok
+    again = passes-again s u lent (ap length same ∙ long) ok
 
     none : length s - length u ≡ 0
     none = omega (arith, ap length same, long)
 
     given : targetAfter g u (length s) ≡ s
     given =
-        after-yes g u (length s) again
+        after-passing g u (length s) again
         ∙ ap (λ (k : ℕ). g u ++ replicate k 0) none ∙ append-nil (g u) ∙ ap g same ∙ undone

@@ -2,7 +2,7 @@
 use mathlib.Core.Bool.{Bool, not, _||_}
 use mathlib.Core.Path.{_≡_}
 use mathlib.Core.List.{List, _++_, map}
-use Prim.Native.Nat.{ℕ, _+_, _-_, _*_, _%_}
+use Prim.Native.Nat.{ℕ, _+_, _-_, _*_, _%_, _^_}
 use lib.ListN.{length, getD, take, replicate}
 use lib.Dec.{eqb, ltb}
 use Rattle.definition.specs.Basics.{if_then_else_, concatMap, from}
@@ -15,11 +15,11 @@ isLink c = eqb c 1 || eqb c 2
 
 -- what is stored of word w in column c of row r: of a link the difference from r, modulo 2^32
 unfoldable pub stored : ℕ → ℕ → ℕ → ℕ
-stored c r w = if isLink c then (w + 4294967296 - r) % 4294967296 else w
+stored c r w = if isLink c then (w + 2 ^ 32 - r) % 2 ^ 32 else w
 
 -- the word of which w is stored
 unfoldable pub restored : ℕ → ℕ → ℕ → ℕ
-restored c r w = if isLink c then (w + r) % 4294967296 else w
+restored c r w = if isLink c then (w + r) % 2 ^ 32 else w
 
 -- the list with f i j at place i × n + j, for each i below m and j below n
 unfoldable pub table : ℕ → ℕ → (ℕ → ℕ → ℕ) → List ℕ

@@ -11,6 +11,9 @@ use ast::limit;
 use ast::question;
 use words::clear;
 
+// Differences of links are taken modulo 2^32.
+const MODULUS: u64 = 4294967296;
+
 // Question 1: is the source 1 to 2,048 rows of eight words?
 fn source_sized(source: &[u32]) -> bool
     ensures { λ x. ⌜ x ≡ rowsFit (now (source .entry)) ⌝ }
@@ -38,6 +41,7 @@ fn first_no(source: &[u32], lent: usize) -> u32
     0
 }
 
+// Is a column c one of links?
 fn is_link(c: u32) -> bool
     ensures { λ x. ⌜ x ≡ isLink c ⌝ }
 {
@@ -47,27 +51,27 @@ fn is_link(c: u32) -> bool
     c == column::CHILD
 }
 
-// What is stored of a word of a column and a row. The difference is taken in 64 bits, and its low half kept.
-fn stored_word(c: u32, row: u32, word: u32) -> u32
-    ensures { λ x. ⌜ x ≡ stored c row word ⌝ }
+// What is stored of word c of row r.
+fn stored_word(c: u32, r: u32, word: u32) -> u32
+    ensures { λ x. ⌜ x ≡ stored c r word ⌝ }
 {
     if !is_link(c) {
         return word;
     }
-    ((word as u64 + 4294967296 - row as u64) % 4294967296) as u32
+    ((word as u64 + MODULUS - r as u64) % MODULUS) as u32
 }
 
-// The word that was stored.
-fn restored_word(c: u32, row: u32, word: u32) -> u32
-    ensures { λ x. ⌜ x ≡ restored c row word ⌝ }
+// Word c of row r, by what is stored of it.
+fn restored_word(c: u32, r: u32, word: u32) -> u32
+    ensures { λ x. ⌜ x ≡ restored c r word ⌝ }
 {
     if !is_link(c) {
         return word;
     }
-    ((word as u64 + row as u64) % 4294967296) as u32
+    ((word as u64 + r as u64) % MODULUS) as u32
 }
 
-// Writes the source by column, place by place.
+// Writes a sheet by column, place by place.
 fn write_columns(source: &[u32], target: &mut [u32])
     requires { ⌜ (8 * rowsOf (now source) ≡ length (now source)) × (rowsOf (now source) ≤ 2048) × (length (now source) ≤ length (now target)) ⌝ }
     ensures { λ _. ⌜ now (target .exit) ≡ toColumns (now (source .entry)) ++ drop (length (now (source .entry))) (now (target .entry)) ⌝ }
@@ -84,7 +88,7 @@ fn write_columns(source: &[u32], target: &mut [u32])
     }
 }
 
-// Writes the source by row, place by place.
+// Writes the sheet that a source by column stands for, place by place.
 fn write_rows(source: &[u32], target: &mut [u32])
     requires { ⌜ (8 * rowsOf (now source) ≡ length (now source)) × (rowsOf (now source) ≤ 2048) × (length (now source) ≤ length (now target)) ⌝ }
     ensures { λ _. ⌜ now (target .exit) ≡ fromColumns (now (source .entry)) ++ drop (length (now (source .entry))) (now (target .entry)) ⌝ }
@@ -105,7 +109,7 @@ fn write_rows(source: &[u32], target: &mut [u32])
     }
 }
 
-// Stores a sheet by column. The answer is 0; or 1 or 22, and then the target is zero.
+// Stores a sheet by column. Returns 0; or the question that got a no, 1 or 22, and then the whole target is zero.
 pub fn to_columns(source: &[u32], target: &mut [u32]) -> u32
     ensures { λ n. ⌜ Rearranged toColumns fromColumns (now (source .entry)) (length (now (target .entry))) n (now (target .exit)) ⌝ }
 {
@@ -119,7 +123,7 @@ pub fn to_columns(source: &[u32], target: &mut [u32]) -> u32
     0
 }
 
-// The way back: the sheet that was stored by column.
+// The way back, with the same answers: the sheet that was stored by column.
 pub fn from_columns(source: &[u32], target: &mut [u32]) -> u32
     ensures { λ n. ⌜ Rearranged fromColumns toColumns (now (source .entry)) (length (now (target .entry))) n (now (target .exit)) ⌝ }
 {

@@ -26,20 +26,27 @@ Inv-loop source target₀ rows c₀ target c =
 abbrev μ-loop : tie.MeasureT-loop
 μ-loop source target₀ rows c₀ target c = 8 - c
 
+-- the place written lies before the end of what is written
+below : (c : tie.In-loop2 Inv-loop2 μ-loop2 Inv-loop μ-loop)
+    → (let n : ℕ = rowsOf (c .before .before .before .before .before .before .args .source .now) in c .before .before .before .loop .c * n + c .before .loop2 .r < 8 * n)
+below c = place-below 8 _ _ _ (c .before .before .loop-test .taken) (c .loop2-test .taken)
+
 loop-holds : tie.Need-loop-holds Inv-loop2 μ-loop2 Inv-loop μ-loop
 unfolding toColumns
 loop-holds c =
     let a = c .before .before .args in
-    let room : 8 * rowsOf (a .source .now) ≤ length (a .target .now) = omega arith in
-    (omega arith, refl, none-written 8 (rowsOf (a .source .now)) _ (a .target .now) room)
+    let n = rowsOf (a .source .now) in
+    let room : 8 * n ≤ length (a .target .now) = omega arith in
+    (omega arith, refl, none-written 8 n _ (a .target .now) room)
 
 loop2-holds : tie.Need-loop2-holds Inv-loop2 μ-loop2 Inv-loop μ-loop
 unfolding toColumns
 loop2-holds c =
     let a = c .before .before .before .before .args in
+    let n = rowsOf (a .source .now) in
     let loop = c .before .loop in
-    let room : 8 * rowsOf (a .source .now) ≤ length (a .target .now) = omega arith in
-    (omega arith, refl, row-begun 8 (rowsOf (a .source .now)) _ (a .target .now) room (loop .c) (loop .target) (c .loop-test .taken) (loop .inv .2))
+    let room : 8 * n ≤ length (a .target .now) = omega arith in
+    (omega arith, refl, row-begun 8 n _ (a .target .now) room (loop .c) (loop .target) (c .loop-test .taken) (loop .inv .2))
 
 cast-stored-word : tie.Need-cast-stored-word Inv-loop2 μ-loop2 Inv-loop μ-loop
 cast-stored-word c = omega arith
@@ -66,28 +73,16 @@ cast-target : tie.Need-cast-target Inv-loop2 μ-loop2 Inv-loop μ-loop
 cast-target c = omega arith
 
 mul-target : tie.Need-mul-target Inv-loop2 μ-loop2 Inv-loop μ-loop
-mul-target c =
-    let a = c .before .before .before .before .before .before .before .before .args in
-    let below = place-below 8 (rowsOf (a .source .now)) (c .before .before .before .before .before .loop .c) (c .before .before .before .loop2 .r) (c .before .before .before .before .loop-test .taken) (c .before .before .loop2-test .taken) in
-    omega (arith, below)
+mul-target c = omega (arith, below (c .before .before))
 
 add-target : tie.Need-add-target Inv-loop2 μ-loop2 Inv-loop μ-loop
-add-target c =
-    let a = c .before .before .before .before .before .before .before .before .args in
-    let below = place-below 8 (rowsOf (a .source .now)) (c .before .before .before .before .before .loop .c) (c .before .before .before .loop2 .r) (c .before .before .before .before .loop-test .taken) (c .before .before .loop2-test .taken) in
-    omega (arith, below)
+add-target c = omega (arith, below (c .before .before))
 
 mul-target-2 : tie.Need-mul-target-2 Inv-loop2 μ-loop2 Inv-loop μ-loop
-mul-target-2 c =
-    let a = c .before .before .before .before .before .before .before .before .args in
-    let below = place-below 8 (rowsOf (a .source .now)) (c .before .before .before .before .before .loop .c) (c .before .before .before .loop2 .r) (c .before .before .before .before .loop-test .taken) (c .before .before .loop2-test .taken) in
-    omega (arith, below)
+mul-target-2 c = omega (arith, below (c .before .before))
 
 slice-write-target : tie.Need-slice-write-target Inv-loop2 μ-loop2 Inv-loop μ-loop
-slice-write-target c =
-    let a = c .before .before .before .before .before .before .before .before .args in
-    let below = place-below 8 (rowsOf (a .source .now)) (c .before .before .before .before .before .loop .c) (c .before .before .before .loop2 .r) (c .before .before .before .before .loop-test .taken) (c .before .before .loop2-test .taken) in
-    omega (arith, below)
+slice-write-target c = omega (arith, below (c .before .before))
 
 add-r : tie.Need-add-r Inv-loop2 μ-loop2 Inv-loop μ-loop
 add-r c = omega arith
@@ -99,12 +94,13 @@ loop2-again : tie.Need-loop2-again Inv-loop2 μ-loop2 Inv-loop μ-loop
 unfolding toColumns
 loop2-again c =
     let a = c .before .before .before .before .before .before .before .before .args in
+    let n = rowsOf (a .source .now) in
     let loop = c .before .before .before .before .before .loop in
     let loop2 = c .before .before .before .loop2 in
-    let room : 8 * rowsOf (a .source .now) ≤ length (loop .target) = omega arith in (
+    let room : 8 * n ≤ length (loop .target) = omega arith in (
       omega arith,
       simp length-set (loop2 .inv .1),
-      place-written 8 (rowsOf (a .source .now)) _ (loop .target) room (loop .c) (loop2 .r) _ (c .stored-word .result) (loop2 .target)
+      place-written 8 n _ (loop .target) room (loop .c) (loop2 .r) _ (c .stored-word .result) (loop2 .target)
           (c .before .before .before .before .loop-test .taken) (c .before .before .loop2-test .taken) refl (loop2 .inv .2) (c .stored-word .ensures),
     )
 
@@ -118,12 +114,13 @@ loop-again : tie.Need-loop-again Inv-loop2 μ-loop2 Inv-loop μ-loop
 unfolding toColumns
 loop-again c =
     let a = c .before .before .before .before .before .before .args in
+    let n = rowsOf (a .source .now) in
     let loop = c .before .before .before .loop in
     let loop2 = c .before .loop2 in
-    let room : 8 * rowsOf (a .source .now) ≤ length (a .target .now) = omega arith in (
+    let room : 8 * n ≤ length (a .target .now) = omega arith in (
       omega arith,
       loop2 .inv .1 ∙ loop .inv .1,
-      row-written 8 (rowsOf (a .source .now)) _ (a .target .now) room (loop .c) (loop2 .r) (loop2 .target) (loop .target)
+      row-written 8 n _ (a .target .now) room (loop .c) (loop2 .r) (loop2 .target) (loop .target)
           (c .before .before .loop-test .taken) (c .loop2-test .left) (loop2 .inv .0) (loop .inv .2) (loop2 .inv .2),
     )
 
@@ -134,10 +131,11 @@ returns : tie.Need-returns Inv-loop2 μ-loop2 Inv-loop μ-loop
 unfolding toColumns
 returns c =
     let a = c .before .before .before .before .args in
+    let n = rowsOf (a .source .now) in
     let loop = c .before .loop in
-    let room : 8 * rowsOf (a .source .now) ≤ length (a .target .now) = omega arith in
-    table-written 8 (rowsOf (a .source .now)) _ (a .target .now) room (loop .c) (loop .target) (c .loop-test .left) (loop .inv .0) (loop .inv .2)
-    ∙ ap (λ (n : ℕ). toColumns (a .source .now) ++ drop n (a .target .now)) (c .before .before .before .before .pre .0)
+    let room : 8 * n ≤ length (a .target .now) = omega arith in
+    table-written 8 n _ (a .target .now) room (loop .c) (loop .target) (c .loop-test .left) (loop .inv .0) (loop .inv .2)
+    ∙ ap (λ (k : ℕ). toColumns (a .source .now) ++ drop k (a .target .now)) (c .before .before .before .before .pre .0)
 
 pub write-columns-spec : {M : Type 1} → statement M
 write-columns-spec =

@@ -26,6 +26,11 @@ Inv-loop source target₀ rows r₀ target r =
 abbrev μ-loop : tie.MeasureT-loop
 μ-loop source target₀ rows r₀ target r = rows - r
 
+-- the place read lies before the source's end
+below : (c : tie.In-loop2 Inv-loop2 μ-loop2 Inv-loop μ-loop)
+    → (let n : ℕ = rowsOf (c .before .before .before .before .before .before .args .source .now) in c .before .loop2 .c * n + c .before .before .before .loop .r < 8 * n)
+below c = place-below 8 _ _ _ (c .loop2-test .taken) (c .before .before .loop-test .taken)
+
 loop-holds : tie.Need-loop-holds Inv-loop2 μ-loop2 Inv-loop μ-loop
 loop-holds c = (omega arith, refl, refl)
 
@@ -33,9 +38,10 @@ loop2-holds : tie.Need-loop2-holds Inv-loop2 μ-loop2 Inv-loop μ-loop
 unfolding fromColumns
 loop2-holds c =
     let a = c .before .before .before .before .args in
+    let n = rowsOf (a .source .now) in
     let loop = c .before .loop in
-    let room : rowsOf (a .source .now) * 8 ≤ length (a .target .now) = omega arith in
-    (omega arith, refl, row-begun (rowsOf (a .source .now)) 8 _ (a .target .now) room (loop .r) (loop .target) (c .loop-test .taken) (loop .inv .2))
+    let room : n * 8 ≤ length (a .target .now) = omega arith in
+    (omega arith, refl, row-begun n 8 _ (a .target .now) room (loop .r) (loop .target) (c .loop-test .taken) (loop .inv .2))
 
 cast-restored-word : tie.Need-cast-restored-word Inv-loop2 μ-loop2 Inv-loop μ-loop
 cast-restored-word c = omega arith
@@ -44,28 +50,16 @@ cast-restored-word-2 : tie.Need-cast-restored-word-2 Inv-loop2 μ-loop2 Inv-loop
 cast-restored-word-2 c = omega arith
 
 mul-restored-word : tie.Need-mul-restored-word Inv-loop2 μ-loop2 Inv-loop μ-loop
-mul-restored-word c =
-    let a = c .before .before .before .before .before .before .args in
-    let below = place-below 8 (rowsOf (a .source .now)) (c .before .loop2 .c) (c .before .before .before .loop .r) (c .loop2-test .taken) (c .before .before .loop-test .taken) in
-    omega (arith, below)
+mul-restored-word c = omega (arith, below c)
 
 add-restored-word : tie.Need-add-restored-word Inv-loop2 μ-loop2 Inv-loop μ-loop
-add-restored-word c =
-    let a = c .before .before .before .before .before .before .args in
-    let below = place-below 8 (rowsOf (a .source .now)) (c .before .loop2 .c) (c .before .before .before .loop .r) (c .loop2-test .taken) (c .before .before .loop-test .taken) in
-    omega (arith, below)
+add-restored-word c = omega (arith, below c)
 
 mul-restored-word-2 : tie.Need-mul-restored-word-2 Inv-loop2 μ-loop2 Inv-loop μ-loop
-mul-restored-word-2 c =
-    let a = c .before .before .before .before .before .before .args in
-    let below = place-below 8 (rowsOf (a .source .now)) (c .before .loop2 .c) (c .before .before .before .loop .r) (c .loop2-test .taken) (c .before .before .loop-test .taken) in
-    omega (arith, below)
+mul-restored-word-2 c = omega (arith, below c)
 
 shared-slice-read-restored-word : tie.Need-shared-slice-read-restored-word Inv-loop2 μ-loop2 Inv-loop μ-loop
-shared-slice-read-restored-word c =
-    let a = c .before .before .before .before .before .before .before .args in
-    let below = place-below 8 (rowsOf (a .source .now)) (c .before .before .loop2 .c) (c .before .before .before .before .loop .r) (c .before .loop2-test .taken) (c .before .before .before .loop-test .taken) in
-    omega (arith, below)
+shared-slice-read-restored-word c = omega (arith, below (c .before))
 
 restored-word-requires : tie.Need-restored-word-requires Inv-loop2 μ-loop2 Inv-loop μ-loop
 restored-word-requires c κs = search needs
@@ -95,13 +89,14 @@ loop2-again : tie.Need-loop2-again Inv-loop2 μ-loop2 Inv-loop μ-loop
 unfolding fromColumns
 loop2-again c =
     let a = c .before .before .before .before .before .before .before .before .args in
+    let n = rowsOf (a .source .now) in
     let loop = c .before .before .before .before .before .loop in
     let loop2 = c .before .before .before .loop2 in
-    let room : rowsOf (a .source .now) * 8 ≤ length (loop .target) = omega arith in
+    let room : n * 8 ≤ length (loop .target) = omega arith in
     let place : 8 * loop .r + loop2 .c ≡ loop .r * 8 + loop2 .c = omega arith in (
       omega arith,
       simp length-set (loop2 .inv .1),
-      place-written (rowsOf (a .source .now)) 8 _ (loop .target) room (loop .r) (loop2 .c) _ (c .restored-word .result) (loop2 .target)
+      place-written n 8 _ (loop .target) room (loop .r) (loop2 .c) _ (c .restored-word .result) (loop2 .target)
           (c .before .before .before .before .loop-test .taken) (c .before .before .loop2-test .taken) place (loop2 .inv .2) (c .restored-word .ensures),
     )
 
@@ -115,12 +110,13 @@ loop-again : tie.Need-loop-again Inv-loop2 μ-loop2 Inv-loop μ-loop
 unfolding fromColumns
 loop-again c =
     let a = c .before .before .before .before .before .before .args in
+    let n = rowsOf (a .source .now) in
     let loop = c .before .before .before .loop in
     let loop2 = c .before .loop2 in
-    let room : rowsOf (a .source .now) * 8 ≤ length (a .target .now) = omega arith in (
+    let room : n * 8 ≤ length (a .target .now) = omega arith in (
       omega arith,
       loop2 .inv .1 ∙ loop .inv .1,
-      row-written (rowsOf (a .source .now)) 8 _ (a .target .now) room (loop .r) (loop2 .c) (loop2 .target) (loop .target)
+      row-written n 8 _ (a .target .now) room (loop .r) (loop2 .c) (loop2 .target) (loop .target)
           (c .before .before .loop-test .taken) (c .loop2-test .left) (loop2 .inv .0) (loop .inv .2) (loop2 .inv .2),
     )
 
@@ -131,11 +127,12 @@ returns : tie.Need-returns Inv-loop2 μ-loop2 Inv-loop μ-loop
 unfolding fromColumns
 returns c =
     let a = c .before .before .before .before .args in
+    let n = rowsOf (a .source .now) in
     let loop = c .before .loop in
-    let room : rowsOf (a .source .now) * 8 ≤ length (a .target .now) = omega arith in
-    let whole : rowsOf (a .source .now) * 8 ≡ length (a .source .now) = omega arith in
-    table-written (rowsOf (a .source .now)) 8 _ (a .target .now) room (loop .r) (loop .target) (c .loop-test .left) (loop .inv .0) (loop .inv .2)
-    ∙ ap (λ (n : ℕ). fromColumns (a .source .now) ++ drop n (a .target .now)) whole
+    let room : n * 8 ≤ length (a .target .now) = omega arith in
+    let whole : n * 8 ≡ length (a .source .now) = omega arith in
+    table-written n 8 _ (a .target .now) room (loop .r) (loop .target) (c .loop-test .left) (loop .inv .0) (loop .inv .2)
+    ∙ ap (λ (k : ℕ). fromColumns (a .source .now) ++ drop k (a .target .now)) whole
 
 pub write-rows-spec : {M : Type 1} → statement M
 write-rows-spec =
