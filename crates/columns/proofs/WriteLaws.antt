@@ -5,7 +5,7 @@ use Prim.Native.Nat.{ℕ, zero, suc, _+_, _-_, _*_, _<_, _≤_}
 use native.Mathlib.Nat.{le-of-suc-le-suc, zero-mul, suc-mul, mul-le-mul-right}
 use native.Mathlib.Numerals.{add-one}
 use native.Mathlib.Omega.{arith}
-use lib.ListN.{length, getD, set, take, drop, replicate, length-append, length-drop, drop-of-length-le}
+use lib.ListN.{length, getD, set, take, drop, replicate, length-drop, drop-of-length-le}
 use lib.Seq.{take-all, take-at}
 use borrow.Rule.Slice.PartMut.{putMid}
 use Rattle.columns.specs.Columns.{table}
@@ -75,18 +75,21 @@ module _ (m n : ℕ) (f : ℕ → ℕ → ℕ) (d : List ℕ) (room : m * n ≤ 
       e ∙ ap (λ (k : ℕ). copied (k * n) (table m n f) d) same
       ∙ ap (λ (w : List ℕ). w ++ drop (m * n) d) (take-all (m * n) (table m n f) (omega (arith, table-length m n f)))
 
--- the words after a table cleared
-pub rest-cleared : (n : ℕ) (f d w z : List ℕ) → length f ≡ n → n ≤ length d → w ≡ f ++ drop n d
-    → z ≡ replicate (length (take (length w - n) (drop n w))) 0 → putMid n (length w - n) w z ≡ f ++ replicate (length d - n) 0
-rest-cleared n f d w z e l h g =
-    ap (λ (v : List ℕ). take n w ++ (z ++ v)) rest ∙ ap (λ (v : List ℕ). take n w ++ v) (append-nil z ∙ g ∙ ap (λ (k : ℕ). replicate k 0) size)
-    ∙ ap (λ (v : List ℕ). v ++ replicate (length d - n) 0) (ap (take n) h ∙ take-at f (drop n d) n e)
+-- words cleared from a place on
+pub cleared-after : (i : ℕ) (w z : List ℕ) → i ≤ length w → z ≡ replicate (length (take (length w - i) (drop i w))) 0
+    → putMid i (length w - i) w z ≡ take i w ++ replicate (length w - i) 0
+cleared-after i w z l e =
+    ap (λ (v : List ℕ). take i w ++ (z ++ v)) rest ∙ ap (λ (v : List ℕ). take i w ++ v) (append-nil z ∙ e ∙ ap (λ (k : ℕ). replicate k 0) size)
   where
-    long : length w ≡ length d
-    long = ap length h ∙ length-append f (drop n d) ∙ omega (arith, e, length-drop n d)
+    rest : drop (length w - i) (drop i w) ≡ []
+    rest = drop-of-length-le (drop i w) {i = length w - i} (omega (arith, length-drop i w))
 
-    rest : drop (length w - n) (drop n w) ≡ []
-    rest = drop-of-length-le (drop n w) {i = length w - n} (omega (arith, length-drop n w))
+    size : length (take (length w - i) (drop i w)) ≡ length w - i
+    size = ap length (take-all (length w - i) (drop i w) (omega (arith, length-drop i w))) ∙ length-drop i w
 
-    size : length (take (length w - n) (drop n w)) ≡ length d - n
-    size = ap length (take-all (length w - n) (drop n w) (omega (arith, length-drop n w))) ∙ length-drop n w ∙ ap (λ (k : ℕ). k - n) long
+-- so are those after the words f, in a list w as long as d
+pub rest-cleared : (n : ℕ) (f d w u : List ℕ) → length f ≡ n → length w ≡ length d → w ≡ f ++ drop n d
+    → u ≡ take n w ++ replicate (length w - n) 0 → u ≡ f ++ replicate (length d - n) 0
+rest-cleared n f d w u e l h g =
+    g ∙ ap (λ (k : ℕ). take n w ++ replicate (k - n) 0) l
+    ∙ ap (λ (v : List ℕ). v ++ replicate (length d - n) 0) (ap (take n) h ∙ take-at f (drop n d) n e)

@@ -1,8 +1,8 @@
 // A sheet stored by column, for disks (document 02, F-12), and the way back. Only the sheet's size is asked, not what its words say.
 ghost use mathlib.Core.Path.{_≡_};
 ghost use mathlib.Core.List.{_++_};
-ghost use Prim.Native.Nat.{_*_, _≤_};
-ghost use lib.ListN.{length, drop};
+ghost use Prim.Native.Nat.{_-_, _*_, _≤_};
+ghost use lib.ListN.{length, take, drop, replicate};
 ghost use Rattle.definition.specs.Sheet.{rows as rowsOf};
 ghost use Rattle.definition.specs.Outcome.{rowsFit};
 ghost use Rattle.columns.specs.Columns.{isLink, stored, restored, toColumns, fromColumns, firstNo, Rearranged};
@@ -109,6 +109,14 @@ fn write_rows(source: &[u32], target: &mut [u32])
     }
 }
 
+// Writes 0 from a place on.
+fn clear_from(place: usize, target: &mut [u32])
+    requires { ⌜ place ≤ length (now target) ⌝ }
+    ensures { λ _. ⌜ now (target .exit) ≡ take place (now (target .entry)) ++ replicate (length (now (target .entry)) - place) 0 ⌝ }
+{
+    clear(&mut target[place..]);
+}
+
 // Stores a sheet by column. Returns 0; or the question that got a no, 1 or 22, and then the whole target is zero.
 pub fn to_columns(source: &[u32], target: &mut [u32]) -> u32
     ensures { λ n. ⌜ Rearranged toColumns fromColumns (now (source .entry)) (length (now (target .entry))) n (now (target .exit)) ⌝ }
@@ -119,7 +127,7 @@ pub fn to_columns(source: &[u32], target: &mut [u32]) -> u32
         return no;
     }
     write_columns(source, target);
-    clear(&mut target[source.len()..]);
+    clear_from(source.len(), target);
     0
 }
 
@@ -133,6 +141,6 @@ pub fn from_columns(source: &[u32], target: &mut [u32]) -> u32
         return no;
     }
     write_rows(source, target);
-    clear(&mut target[source.len()..]);
+    clear_from(source.len(), target);
     0
 }

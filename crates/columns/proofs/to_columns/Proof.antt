@@ -25,8 +25,8 @@ returns c =
     let no = c .before .before .before .before in
     let first-no = no .before .first-no in
     let a = no .before .before .before .before .args in
-    zeros-after-no toColumns fromColumns (a .source .now) (length (a .target .now)) (first-no .result) _
-    (first-no .ensures) (no .if1 .taken) (c .before .before .clear .ensures)
+    zeros-after-no toColumns fromColumns (a .source .now) (length (a .target .now)) (first-no .result) _ (first-no .ensures) (no .if1 .taken)
+    (c .before .before .clear .ensures)
 
 write-columns-requires : tie.Need-write-columns-requires
 write-columns-requires c κs =
@@ -34,29 +34,14 @@ write-columns-requires c κs =
     let a = yes .before .before .before .before .args in
     passed-sizes (a .source .now) (length (a .target .now)) (sym (yes .before .first-no .ensures) ∙ yes .if1 .left)
 
--- the target, when it is written, is still no shorter than the source
-room : (c : tie.After-slice-known3)
-    → length (c .before .before .before .before .before .before .before .before .args .source .now) ≤ length (c .before .before .write-columns .last .1 .0)
-room c =
-    let yes = c .before .before .before .before in
+clear-from-requires : tie.Need-clear-from-requires
+clear-from-requires c κs =
+    let written = c .before .before .before in
+    let yes = written .before .before in
     let a = yes .before .before .before .before .args in
-    let fit = passed-sizes (a .source .now) (length (a .target .now)) (sym (yes .before .first-no .ensures) ∙ yes .if1 .left) in
-    omega (arith, fit .2, c .before .before .write-columns .kept .1 .0)
-
-mul-clear : tie.Need-mul-clear
-mul-clear c = search needs
-
-sub-clear : tie.Need-sub-clear
-sub-clear c = room c
-
-part-clear-start : tie.Need-part-clear-start
-part-clear-start c = room c
-
-part-clear-end : tie.Need-part-clear-end
-part-clear-end c = search needs
-
-clear-requires-2 : tie.Need-clear-requires-2
-clear-requires-2 c κs = search needs
+    let ok = sym (yes .before .first-no .ensures) ∙ yes .if1 .left in
+    let sizes = passed-sizes (a .source .now) (length (a .target .now)) ok in
+    omega (arith, sizes .2, written .write-columns .kept .1 .0)
 
 same-length-2 : tie.Need-same-length-2
 same-length-2 c = search needs
@@ -69,11 +54,12 @@ returns-2 c =
     let s = a .source .now in
     let d = a .target .now in
     let ok = sym (yes .before .first-no .ensures) ∙ yes .if1 .left in
-    let fit = passed-sizes s (length d) ok in
-    let few : rowsOf s ≤ 2 ^ 32 = omega (arith, fit .1) in
+    let sizes = passed-sizes s (length d) ok in
+    let few : rowsOf s ≤ 2 ^ 32 = omega (arith, sizes .1) in
     let words : (i : ℕ) → getD s i 0 < 2 ^ 32 = λ i. yes .before .before .before .shared-slice-known .given i .fits in
-    rearranged toColumns fromColumns s (length d) _ ok (to-length s (fit .0)) (from-to s (fit .0) few words)
-    (rest-cleared (length s) (toColumns s) d _ _ (to-length s (fit .0)) (fit .2) (written .write-columns .ensures) (c .before .before .clear2 .ensures))
+    let long = to-length s (sizes .0) in
+    rearranged toColumns fromColumns s (length d) _ ok long (from-to s (sizes .0) few words)
+    (rest-cleared (length s) (toColumns s) d _ _ long (written .write-columns .kept .1 .0) (written .write-columns .ensures) (c .before .before .clear-from .ensures))
 
 pub to-columns-spec : {M : Type 1} → statement M
 to-columns-spec =
@@ -84,10 +70,6 @@ to-columns-spec =
     same-length
     returns
     write-columns-requires
-    mul-clear
-    sub-clear
-    part-clear-start
-    part-clear-end
-    clear-requires-2
+    clear-from-requires
     same-length-2
     returns-2)
