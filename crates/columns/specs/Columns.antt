@@ -13,7 +13,7 @@ use Rattle.definition.specs.Outcome.{rowsFit}
 unfoldable pub isLink : ℕ → Bool
 isLink c = eqb c 1 || eqb c 2
 
--- what is stored of word w in column c of row r: of a link the difference from r, modulo 2^32
+-- what is stored of a word w in column c of row r: of a link its difference from r, modulo 2^32
 unfoldable pub stored : ℕ → ℕ → ℕ → ℕ
 stored c r w = if isLink c then (w + 2 ^ 32 - r) % 2 ^ 32 else w
 
@@ -21,7 +21,7 @@ stored c r w = if isLink c then (w + 2 ^ 32 - r) % 2 ^ 32 else w
 unfoldable pub restored : ℕ → ℕ → ℕ → ℕ
 restored c r w = if isLink c then (w + r) % 2 ^ 32 else w
 
--- the list with f i j at place i × n + j, for each i below m and j below n
+-- the list of m × n numbers with f i j at place i × n + j
 unfoldable pub table : ℕ → ℕ → (ℕ → ℕ → ℕ) → List ℕ
 table m n f = concatMap (λ i. map (f i) (from 0 n)) (from 0 m)
 
@@ -47,5 +47,5 @@ pub record Rearranged (f g : List ℕ → List ℕ) (s : List ℕ) (lent n : ℕ
   pub answer : n ≡ firstNo s lent
   -- the target t is the source rearranged, and zeros; after a no, zeros alone,
   pub target : t ≡ targetAfter f s lent
-  -- and the way back, handed t at the source's length, gets no no and gives the source again.
+  -- and where n is 0 the way back, handed t at the source's length, is not refused and gives the source again.
   pub back : n ≡ 0 → (firstNo (take (length s) t) (length s) ≡ 0) × (targetAfter g (take (length s) t) (length s) ≡ s)

@@ -1,4 +1,4 @@
--- A small sheet by column and back, and what is refused, computed.
+-- Computed: a small sheet by column and back, what is refused, and targets of several lengths.
 use mathlib.Core.Path.{_≡_, refl}
 use mathlib.Core.List.{List, [], _∷_, _++_, map}
 use Prim.Native.Nat.{ℕ}

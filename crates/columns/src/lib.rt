@@ -41,7 +41,7 @@ fn first_no(source: &[u32], lent: usize) -> u32
     0
 }
 
-// Is a column c one of links?
+// Do the words of column c link rows?
 fn is_link(c: u32) -> bool
     ensures { λ x. ⌜ x ≡ isLink c ⌝ }
 {
