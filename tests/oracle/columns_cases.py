@@ -43,6 +43,13 @@ def rearranged(way, source, lent):
     return 0, way(source) + [0] * (lent - len(source))
 
 
+def replied(way, source, rows_lent):
+    """The words of the reply over the pipe: the first line, and all lent rows, or none after a refusal."""
+    answer, target = rearranged(way, source, ROW * rows_lent)
+    rows = 0 if answer else rows_lent
+    return [answer, 0, 0, 0, 0, rows, 0, 0, *target[:ROW * rows]]
+
+
 def source_of(case):
     _, size, _, _, first, step, place, changed = case
     source = [(first + step * i) % WORDS for i in range(size)]
