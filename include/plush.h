@@ -36,6 +36,17 @@ extern "C" {
 uint32_t plush_resolve(const uint32_t *sheet, size_t sheet_words, const uint8_t *names, size_t name_bytes, uint32_t *answer,
                        size_t answer_words, uint32_t *report, size_t report_words);
 
+/* Stores a sheet by column: word c of row r goes to place c * rows + r, and next and child are stored as their difference from r modulo
+ * 2^32. plush_from_columns is the way back: handed the other's result at the source's length, each gives the source again, whatever its words.
+ *
+ * source, source_words   1 to 2,048 rows of eight words, else question 1 gets a no
+ * target, target_words   lent: the source rearranged, and zeros to its end. If it is shorter than the source, question 22 gets a no
+ *
+ * Returns PLUSH_QUESTION_ROWS_FIT, PLUSH_QUESTION_ROOM or 0. After a refusal every target word is 0.
+ */
+uint32_t plush_to_columns(const uint32_t *source, size_t source_words, uint32_t *target, size_t target_words);
+uint32_t plush_from_columns(const uint32_t *source, size_t source_words, uint32_t *target, size_t target_words);
+
 /* The words of a report. */
 enum {
     PLUSH_REPORT_QUESTION = 0, /* 0: resolved */

@@ -17,9 +17,9 @@ mkdir -p "$out/repository/crates/bench/src"
 
 # the libraries, and one more that exports what is timed
 cp -R "$top"/crates/* "$out/repository/crates/"
-grep -v -E '^(question_tests|plush_resolve|plush_serve):' "$top/crates.txt" > "$out/repository/crates.txt"
+grep -v -E '^(question_tests|columns_tests|plush_resolve|plush_serve):' "$top/crates.txt" > "$out/repository/crates.txt"
 echo 'bench: first_four answer resolver resolve_text text' >> "$out/repository/crates.txt"
-rm -rf "$out/repository/crates/question_tests" "$out/repository/crates/plush_resolve" "$out/repository/crates/plush_serve"
+(cd "$out/repository/crates" && rm -rf question_tests columns_tests plush_resolve plush_serve)
 cat > "$out/repository/crates/bench/src/lib.rt" <<'END_OF_CRATE'
 #[no_mangle]
 pub extern "C" fn bench_first_four(words: &[u32], names: &[u8]) -> u32 {

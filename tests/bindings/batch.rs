@@ -1,5 +1,6 @@
-//! batch: as batch.c, through the Rust binding, in two threads. Each answer row is read as an `AnswerRow` and written back.
-use plush::{resolve, resolve_to_vec, Position, ANSWER_WORDS};
+//! batch: as batch.c, through the Rust binding, in two threads. Each answer row is read as an `AnswerRow` and written back, and each
+//! sheet stored by column and taken back.
+use plush::{from_columns, resolve, resolve_to_vec, to_columns, Position, Question, ANSWER_WORDS};
 use std::io::{Read, Write};
 
 fn numbers(bytes: &[u8]) -> Vec<u32> {
@@ -35,10 +36,29 @@ fn report(sheet: &[u32], names: &[u8], answer: &mut [u32]) -> String {
     }
 }
 
+/// By column and back, both in stale words and with one word more than there is to store.
+fn check_columns(sheet: &[u32]) {
+    let mut columns = vec![u32::MAX; sheet.len() + 1];
+    let mut back = columns.clone();
+    match to_columns(sheet, &mut columns) {
+        Ok(()) => {
+            assert_eq!(from_columns(&columns[..sheet.len()], &mut back), Ok(()));
+            assert_eq!(back.split_last(), Some((&0, sheet)), "the sheet again, and a zero");
+            assert_eq!(columns.last(), Some(&0));
+            assert_eq!(to_columns(sheet, &mut back[1..sheet.len()]), Err(Question::Room));
+        }
+        Err(question) => assert_eq!((question, columns.iter().max()), (Question::RowsFit, Some(&0))),
+    }
+}
+
 /// The reports of some cases, in lent words of their own.
 fn reports(cases: &[(Vec<u32>, &[u8])]) -> String {
     let mut answer = vec![u32::MAX; ANSWER_WORDS];
-    cases.iter().map(|(sheet, names)| report(sheet, names, &mut answer)).collect()
+    let told = |(sheet, names): &(Vec<u32>, &[u8])| {
+        check_columns(sheet);
+        report(sheet, names, &mut answer)
+    };
+    cases.iter().map(told).collect()
 }
 
 fn main() {

@@ -62,7 +62,35 @@ static void check_refused(uint32_t number, const uint32_t *sheet, size_t words, 
     }
 }
 
+/* S1 by column and back, in targets that go on behind the lent words. */
+static void check_columns(void) {
+    uint32_t columns[96], back[96];
+    for (size_t lent = 79; lent <= 81; lent++) {
+        memset(columns, 0xA5, sizeof columns);
+        memset(back, 0xA5, sizeof back);
+        uint32_t question = plush_to_columns(SHEET, 80, columns, lent);
+        check(all(columns + lent, 96 - lent, STALE), "words after the lent target are as before");
+        if (lent < 80) {
+            check(question == PLUSH_QUESTION_ROOM && all(columns, lent, 0), "79 words for 80: question 22, and zeros");
+            continue;
+        }
+        check(question == 0, "S1 is stored by column");
+        for (size_t i = 0; i < 80; i++) {
+            uint32_t row = (uint32_t)i / 8, column = (uint32_t)i % 8;
+            int link = column == PLUSH_COLUMN_NEXT || column == PLUSH_COLUMN_CHILD;
+            check(columns[10 * column + row] == SHEET[i] - (link ? row : 0), "a word of S1 by column");
+        }
+        check(all(columns + 80, lent - 80, 0), "zeros after it");
+        check(plush_from_columns(columns, 80, back, lent) == 0, "it is taken back");
+        check(memcmp(back, SHEET, sizeof SHEET) == 0 && all(back + 80, lent - 80, 0), "and is S1 again, with zeros after it");
+        check(all(back + lent, 96 - lent, STALE), "words after the lent target are as before");
+    }
+    check(plush_to_columns(SHEET, 79, columns, 96) == PLUSH_QUESTION_ROWS_FIT && all(columns, 96, 0), "79 words are no rows of eight");
+    check(plush_from_columns(SHEET, 0, back, 96) == PLUSH_QUESTION_ROWS_FIT && all(back, 96, 0), "an empty source");
+}
+
 int main(void) {
+    check_columns();
     for (size_t room = 0; room <= 16; room++) {
         check_resolved(64, room);
     }
@@ -82,6 +110,6 @@ int main(void) {
     static const uint32_t line[8] = {PLUSH_QUESTION_NULL_DECLARED, 7, 1, 20, PLUSH_NAME_NULL, 0, 0, 0};
     check(resolve(undeclared, 80, 4, 64, 8) == PLUSH_QUESTION_NULL_DECLARED, "null is not declared");
     check(memcmp(report, line, sizeof line) == 0, "position and name of a refusal");
-    puts(failed ? "edges: FAILED" : "edges: S1, refusals 1, 2, 3, 9 and 22, report slices of 0 to 16 words: as they must be");
+    puts(failed ? "edges: FAILED" : "edges: S1, refusals 1, 2, 3, 9 and 22, report slices of 0 to 16 words, S1 by column and back: as they must be");
     return failed;
 }

@@ -1,6 +1,6 @@
 """Faults to plant: what each is, then pairs of a text that occurs once in the file and what stands in its place.
 
-RESOLVER is of second.py, FORMAT and TEXT of format_check.py. `format_faults(source)` adds to FORMAT those that can be "
+RESOLVER is of second.py, FORMAT and TEXT of format_check.py, COLUMNS, COLUMN_REPLIES and COLUMN_SIZES of columns_cases.py. `format_faults(source)` adds to FORMAT those that can be "
      "listed by
 rule: each demand left out, each child list a little too wide or too narrow, kinds taken for statements or expressions.
 """
@@ -844,6 +844,47 @@ KIND_NAMES = {
 SORT_NAMES = {"E": "expression", "S": "statement", "U": "unit", "N": "listed name", "P": "pair", "F": "function", "I":
      "import",
               "X": "function export", "G": "constant export", "C": "class", "D": "field", "A": "parameter"}
+# The rule of columns, told by both lists.
+COLUMNS = [
+    ("places by row", "out[c * rows + r] =", "out[ROW * r + c] ="),
+    ("the row less the link", "(word - r) % WORDS", "(r - word) % WORDS"),
+    ("links as they are", "(word - r) % WORDS", "word"),
+    ("a link of 0 stays", "(word - r) % WORDS", "(word and (word - r) % WORDS)"),
+    ("a row too much off", "(word - r) % WORDS", "(word - r - 1) % WORDS"),
+    ("only next is a link", "LINKS = (1, 2)", "LINKS = (1,)"),
+    ("only child is a link", "LINKS = (1, 2)", "LINKS = (2,)"),
+    ("file is a link", "LINKS = (1, 2)", "LINKS = (1, 2, 3)"),
+    ("the kind is a link", "LINKS = (1, 2)", "LINKS = (0, 1, 2)"),
+    ("b is a link", "LINKS = (1, 2)", "LINKS = (1, 2, 7)"),
+    ("modulo 2^31", "WORDS = 2**32", "WORDS = 2**31"),
+    ("modulo 2^32 - 1", "WORDS = 2**32", "WORDS = 2**32 - 1"),
+    ("the way back takes off", "(word + r) % WORDS", "(word - r) % WORDS"),
+    ("the way back has links as they are", "(word + r) % WORDS", "word"),
+    ("the way back keeps a link of 0", "(word + r) % WORDS", "(word and (word + r) % WORDS)"),
+    ("the way back reads rows", "columns = [words[c * rows:(c + 1) * rows] for c in range(ROW)]", "columns = [words[c::ROW] for c in range(ROW)]"),
+    ("no zeros after the source", "way(source) + [0] * (lent - len(source))", "way(source)"),
+    ("22 before 1", "    if len(source) % ROW != 0", "    if lent < len(source) and len(source) % ROW == 0:\n        return 22, [0] * lent\n    if len(source) % ROW != 0"),
+    ("no rows are a sheet", "not 1 <= len(source)", "not 0 <= len(source)"),
+    ("2,047 rows at most", "MOST_ROWS = 2048", "MOST_ROWS = 2047"),
+    ("2,049 rows at most", "MOST_ROWS = 2048", "MOST_ROWS = 2049"),
+    ("an exact target is too short", "if lent < len(source):", "if lent <= len(source):"),
+    ("a target a row short is enough", "if lent < len(source):", "if lent + ROW < len(source):"),
+]
+
+# The first line and the rows of a reply.
+COLUMN_REPLIES = [
+    ("the source's rows are told", "rows = 0 if answer else rows_lent", "rows = 0 if answer else len(source) // ROW"),
+    ("rows after a refusal", "rows = 0 if answer else rows_lent", "rows = rows_lent"),
+    ("a row too many is told", "[answer, 0, 0, 0, 0, rows, 0, 0,", "[answer, 0, 0, 0, 0, rows + 1, 0, 0,"),
+    ("rows in the place of globals", "[answer, 0, 0, 0, 0, rows, 0, 0,", "[answer, 0, 0, 0, 0, 0, rows, 0,"),
+]
+
+# Sizes that no text has.
+COLUMN_SIZES = [
+    ("words past the last row are dropped", "len(source) % ROW != 0 or ", ""),
+    ("a target a word short is enough", "if lent < len(source):", "if lent + 1 < len(source):"),
+]
+
 NO_KINDS = [1, 5, 12, 13, 18, 19, 31, 32, 38, 39, 60, 61]
 
 

@@ -1,7 +1,8 @@
 """planted.py [WORD]
 
-Plants the faults of faults.py in copies of second.py and format_check.py, one at a time, and counts the recorded cases
-that notice each: those of crates/plush_serve whose reply changes, and those of crates/question_tests whose answer changes.
+Plants the faults of faults.py in copies of second.py, format_check.py and columns_cases.py, one at a time, and counts the
+recorded cases that notice each: those of crates/plush_serve whose reply changes, and those of crates/question_tests and
+crates/columns_tests whose answer changes.
 Prints a line for each fault, first those that no case notices; exit status 1 if there is one, or if a copy without a fault
 answers a case otherwise. With WORD only faults that have it in their line are planted. A fault that stops the copy with an
 error counts as noticed there.
@@ -17,6 +18,7 @@ from tree import text_of
 HERE = Path(__file__).resolve().parent
 CRATES = HERE.parents[1] / "crates"
 RESOLVE = 1
+TO_COLUMNS = 9
 
 
 def altered(file, changes):
@@ -34,19 +36,25 @@ def altered(file, changes):
 # The recorded cases
 
 def serve_cases():
-    """(text of a sheet, names, answer rows lent, reply) of each case of crates/plush_serve."""
+    """(verb, text of a sheet, names, rows lent, reply) of each case of crates/plush_serve."""
     data, out = ((CRATES / "plush_serve" / name).read_bytes() for name in ("stdin", "stdout"))
     cases, at, replied = [], 0, 0
     while at < len(data):
         verb, sheet_bytes, name_bytes, _, lent, *_ = (int(data[at + i:at + i + 10]) for i in range(0, 80, 10))
-        assert verb == RESOLVE
         start = at + 81
         middle, at = start + sheet_bytes, start + sheet_bytes + name_bytes
         end = replied + 81 * (1 + int(out[replied + 50:replied + 60]))
-        cases.append((data[start:middle], data[middle:at], lent, out[replied:end]))
+        cases.append((verb, data[start:middle], data[middle:at], lent, out[replied:end]))
         replied = end
     assert replied == len(out)
     return cases
+
+
+def column_tests():
+    """(numbers of a case, line) of each case of crates/columns_tests."""
+    cases, lines = ((CRATES / "columns_tests" / name).read_text().splitlines() for name in ("stdin", "stdout"))
+    assert len(cases) == len(lines)
+    return [(tuple(int(case[i:i + 10]) for i in range(0, 80, 10)), line) for case, line in zip(cases, lines)]
 
 
 def question_cases():
@@ -61,7 +69,10 @@ def question_cases():
 class Recorded:
     def __init__(self):
         self.format = altered("format_check.py", ())
-        self.serve = serve_cases()
+        cases = serve_cases()
+        self.serve = [rest for verb, *rest in cases if verb == RESOLVE]
+        self.columns = [(verb, self.format.words_of_text(text), lent, out) for verb, text, _, lent, out in cases if verb != RESOLVE]
+        self.column_tests = column_tests()
         self.questions = question_cases()
         self.sheets = []
         for text, _, lent, out in self.serve:
@@ -82,6 +93,17 @@ class Recorded:
     def format_notices(self, module):
         """How many cases of crates/question_tests the module answers otherwise."""
         return sum(outcome(lambda: module.first_no(words, names)) != answer for words, names, answer in self.questions)
+
+    def columns_notice(self, module):
+        """How many cases of crates/plush_serve that are stored by column or taken back the module answers otherwise."""
+        def reply(verb, words, lent):
+            told = module.replied(module.to_columns if verb == TO_COLUMNS else module.from_columns, words, lent)
+            return text_of([told[i:i + 8] for i in range(0, len(told), 8)]).encode()
+        return sum(outcome(lambda: reply(verb, words, lent)) != out for verb, words, lent, out in self.columns)
+
+    def column_tests_notice(self, module):
+        """How many cases of crates/columns_tests the module answers otherwise."""
+        return sum(outcome(lambda: module.expected(case)) != line for case, line in self.column_tests)
 
 
 def refusal(out):
@@ -104,6 +126,8 @@ def planted(recorded, word):
         ("plush_serve", "second.py", faults.RESOLVER, recorded.resolver_notices),
         ("plush_serve", "format_check.py", faults.TEXT, recorded.text_notices),
         ("question_tests", "format_check.py", faults.format_faults(source), recorded.format_notices),
+        ("plush_serve", "columns_cases.py", [*faults.COLUMNS, *faults.COLUMN_REPLIES], recorded.columns_notice),
+        ("columns_tests", "columns_cases.py", [*faults.COLUMNS, *faults.COLUMN_SIZES], recorded.column_tests_notice),
     ]
     for program, file, group, notices in groups:
         for what, *changes in group:
@@ -116,13 +140,15 @@ def main():
     recorded = Recorded()
     wrong = [recorded.resolver_notices(altered("second.py", ())), recorded.text_notices(recorded.format),
              recorded.format_notices(recorded.format)]
+    wrong += [notices(altered("columns_cases.py", ())) for notices in (recorded.columns_notice, recorded.column_tests_notice)]
     if any(wrong):
         sys.exit(f"without a fault, cases answered otherwise: {wrong}")
     found = list(planted(recorded, sys.argv[1] if len(sys.argv) > 1 else ""))
     for count, line in sorted(found, key=lambda each: each[0] > 0):
         print(f"{count:5} {line}")
     missed = sum(count == 0 for count, _ in found)
-    print(f"{len(recorded.serve)} cases of plush_serve, {len(recorded.questions)} of question_tests")
+    print(f"{len(recorded.serve) + len(recorded.columns)} cases of plush_serve, {len(recorded.questions)} of question_tests,"
+          f" {len(recorded.column_tests)} of columns_tests")
     print(f"{len(found)} faults planted, {missed} not noticed")
     sys.exit(1 if missed else 0)
 

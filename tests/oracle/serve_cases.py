@@ -6,14 +6,15 @@ requests, and OUTDIR/stdout, the replies that the program must write, out of the
 The cases are the samples of document 01, the small programs of directed.py, some sheets at the limits, and random sheets of
 at most MOST_ROWS rows; of each question from 5 to 21 at least LEAST. The later ones follow these in order: small programs
 that planted.py asks for, sheets and texts at the limits, bodies that are too long, and sheets with few answer rows lent. Of
-those that questions 1 to 4 refuse, format_check.py says so; the oracle is not asked. Prints the counts by question and by
-kind of row.
+those that questions 1 to 4 refuse, format_check.py says so; the oracle is not asked. Last come sheets to store by column and
+to take back, with the replies of columns_cases.py. Prints the counts by question and by kind of row.
 """
 import random
 import sys
 from collections import Counter
 from pathlib import Path
 
+import columns_cases
 import directed
 from expected import all_printed
 from format_check import first_no, words_of_text
@@ -28,6 +29,7 @@ MOST_ROWS = 60
 LEAST = 5
 BATCH = 200
 RESOLVE = 1
+TO_COLUMNS, FROM_COLUMNS = 9, 10
 LENT_ROWS = 2048
 FEW_LENT = 8
 
@@ -64,6 +66,21 @@ class Case:
 
     def input(self):
         return header(RESOLVE, len(self.text), len(self.names), x=self.lent) + self.text + self.names
+
+
+class Columns:
+    """A text to store by column, or to take back, and the rows lent for the target; `out` is what the program must reply."""
+    kinds = ()
+
+    def __init__(self, verb, text, lent):
+        self.verb, self.text, self.lent = verb, text, lent
+        way = columns_cases.to_columns if verb == TO_COLUMNS else columns_cases.from_columns
+        words = columns_cases.replied(way, words_of_text(text), lent)
+        self.question = words[0]
+        self.out = text_of([words[i:i + 8] for i in range(0, len(words), 8)]).encode()
+
+    def input(self):
+        return header(self.verb, len(self.text), 0, x=self.lent) + self.text
 
 
 def case_of(what, words, names):
@@ -117,6 +134,29 @@ def lent_cases(cases):
         yield min((case for case in cases if case.question == question), key=lambda case: len(case.text)).with_lent(0)
 
 
+def column_cases():
+    """Texts of a few rows with words at both ends, well formed or not, with all numbers of rows lent around theirs; texts that
+    are none; 2,048 rows and one more."""
+    def text(rows):
+        return text_of(rows).encode()
+
+    largest = 2**32 - 1
+    small = [text([[largest] * 8]), text([[0] * 8] * 2),
+             text([[0, 0, 1, 4, 5, 6, 7, 8], [9, 1, 0, largest, 2, 3, 4, 5], [largest, 2, largest, 0, 1, 0, 1, 0]])]
+    for verb in (TO_COLUMNS, FROM_COLUMNS):
+        for sheet in small:
+            rows = len(sheet) // 81
+            for lent in sorted({0, rows - 1, rows, rows + 1}):
+                yield Columns(verb, sheet, lent)
+        yield Columns(verb, small[2], 16)
+        for sheet in (b"", small[1][:-1], small[1] + b" ", small[1].replace(b" 0\n", b"00\n")):
+            yield Columns(verb, sheet, 0)
+            yield Columns(verb, sheet, 2)
+    rows = [[(8 * r + c) * 2_654_435_761 % 2**32 for c in range(8)] for r in range(2049)]
+    yield Columns(TO_COLUMNS, text(rows[:2048]), 2048)
+    yield Columns(FROM_COLUMNS, text(rows), 2048)
+
+
 def random_cases(rng, seeds, sizes, most_rows):
     for seed in seeds:
         sheet = generate(seed, rng.choice(sizes), 0.85)
@@ -146,7 +186,7 @@ def make_cases(oracle, count, seed):
         first += BATCH
     rng.shuffle(cases)
     cases += expect(oracle, list(later_cases()))
-    return cases + expect(oracle, list(lent_cases(cases)))
+    return [*cases, *expect(oracle, list(lent_cases(cases))), *column_cases()]
 
 
 def summary(cases):

@@ -36,6 +36,8 @@ extern "C" {
         report: *mut u32,
         report_words: usize,
     ) -> u32;
+    fn plush_to_columns(source: *const u32, source_words: usize, target: *mut u32, target_words: usize) -> u32;
+    fn plush_from_columns(source: *const u32, source_words: usize, target: *mut u32, target_words: usize) -> u32;
 }
 
 /// Codes of answer rows, as they stand in word 1.
@@ -237,8 +239,7 @@ pub fn resolve<'a>(sheet: &[u32], names: &[u8], answer: &'a mut [u32]) -> Result
     if number == 0 {
         return Ok(Resolved { words: &answer[..ROW_WORDS * rows as usize], globals });
     }
-    let question = Question::from_number(number).expect("the library asks the questions of this crate");
-    Err(Refusal { question, position: Position { file, line, column }, name })
+    Err(Refusal { question: refusing(number), position: Position { file, line, column }, name })
 }
 
 /// The answer rows and the globals of a sheet, with as many words as they need.
@@ -251,4 +252,26 @@ pub fn resolve_to_vec(sheet: &[u32], names: &[u8]) -> Result<(Vec<AnswerRow>, u3
             Err(refusal) => return Err(refusal),
         }
     }
+}
+
+fn refusing(number: u32) -> Question {
+    Question::from_number(number).expect("the library asks the questions of this crate")
+}
+
+fn answered(number: u32) -> Result<(), Question> {
+    match number {
+        0 => Ok(()),
+        _ => Err(refusing(number)),
+    }
+}
+
+/// Stores a sheet by column in the lent target: word c of row r goes to place c * rows + r, `next` and `child` as their difference from r
+/// modulo 2^32. After a refusal every word of the target is 0, else those after the source's length.
+pub fn to_columns(source: &[u32], target: &mut [u32]) -> Result<(), Question> {
+    answered(unsafe { plush_to_columns(source.as_ptr(), source.len(), target.as_mut_ptr(), target.len()) })
+}
+
+/// The way back. Each, handed the other's result at the source's length, gives the source again, whatever its words.
+pub fn from_columns(source: &[u32], target: &mut [u32]) -> Result<(), Question> {
+    answered(unsafe { plush_from_columns(source.as_ptr(), source.len(), target.as_mut_ptr(), target.len()) })
 }

@@ -10,7 +10,7 @@ use Rattle.definition.specs.Claims.{Demand3}
 use Rattle.definition.specs.Outside.{core}
 use Rattle.definition.proofs.Format.Accepted.{good-outcome}
 use Rattle.answer.specs.declared.Answer.{Answer}
-use Rattle.report.specs.Line.{fitted, reportLine, toldBy}
+use Rattle.report.specs.Report.{fitted, reportLine, toldBy}
 use Rattle.report.proofs.Laws.{told-line, line-first}
 use Rattle.resolver.specs.Answered.{Answered, rowsOfWords}
 use Rattle.plush.specs.Resolved.{Resolved}

@@ -7,7 +7,7 @@ use Rattle.definition.specs.Sheet.{Sheet}
 use Rattle.definition.specs.Outcome.{outcome, buffer}
 use Rattle.definition.specs.Claims.{Demand3}
 use Rattle.definition.specs.Outside.{core}
-use Rattle.report.specs.Line.{fitted, reportLine}
+use Rattle.report.specs.Report.{fitted, reportLine}
 use Rattle.resolver.specs.Answered.{rowsOfWords}
 
 -- Of sheet s, the bytes ns of its names, `lent` answer words, which then are w, and `room` report words, which then are r:

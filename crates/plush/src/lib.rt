@@ -1,6 +1,9 @@
 // The library to link: what C, or Rust through `bindings/rust`, calls. `include/plush.h` declares it.
 ghost use lib.ListN.{length};
+ghost use Rattle.columns.specs.Columns.{toColumns, fromColumns, Rearranged};
 ghost use Rattle.plush.specs.Resolved.{Resolved};
+use columns::from_columns;
+use columns::to_columns;
 use report::first_line;
 use report::write_fitted;
 use resolver::resolve;
@@ -21,4 +24,20 @@ pub extern "C" fn plush_resolve(
     let line = first_line(x);
     write_fitted(&line, report);
     x.number
+}
+
+// Stores a sheet by column in the lent target. Returns 0, or the question that got a no: 1 or 22.
+#[no_mangle]
+pub extern "C" fn plush_to_columns(source: &[u32], target: &mut [u32]) -> u32
+    ensures { λ n. ⌜ Rearranged toColumns fromColumns (now (source .entry)) (length (now (target .entry))) n (now (target .exit)) ⌝ }
+{
+    to_columns(source, target)
+}
+
+// The way back: the sheet that was stored by column.
+#[no_mangle]
+pub extern "C" fn plush_from_columns(source: &[u32], target: &mut [u32]) -> u32
+    ensures { λ n. ⌜ Rearranged fromColumns toColumns (now (source .entry)) (length (now (target .entry))) n (now (target .exit)) ⌝ }
+{
+    from_columns(source, target)
 }

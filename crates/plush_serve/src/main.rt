@@ -5,6 +5,7 @@
 mod input;
 mod say;
 
+use columns_text::columns_lent;
 use input::fill;
 use input::read_part;
 use input::skip;
@@ -22,14 +23,25 @@ const MOST_REQUESTS: u64 = 18446744073709551615;
 
 const HEADER_BYTES: usize = 81;
 
-// Writes the reply of a sheet's text and its names, with so many answer rows lent. Returns false where that fails.
-fn reply(sheet: &[u8], names: &[u8], lent: usize, text: &mut [u8]) -> bool {
-    let n = resolve_lent(sheet, names, lent, text);
-    if !io::write_all(STDOUT_FILENO, &text[..n]) {
+// Writes a reply. Returns false where that fails.
+fn write(text: &[u8]) -> bool {
+    if !io::write_all(STDOUT_FILENO, text) {
         os::fail(b"write");
         return false;
     }
     true
+}
+
+// The reply of a sheet's text and its names, with so many answer rows lent.
+fn reply_resolved(sheet: &[u8], names: &[u8], lent: usize, text: &mut [u8]) -> bool {
+    let n = resolve_lent(sheet, names, lent, text);
+    write(&text[..n])
+}
+
+// The reply of a sheet's text stored by column, or taken back, with so many rows lent.
+fn reply_columns(sheet: &[u8], back: bool, lent: usize, text: &mut [u8]) -> bool {
+    let n = columns_lent(sheet, back, lent, text);
+    write(&text[..n])
 }
 
 // Verb 1: resolves a sheet. Of a body that is too long one byte more than the longest accepted is kept, and the rest is read past.
@@ -42,7 +54,16 @@ fn resolve(request: Request, sheet: &mut [u8], names: &mut [u8], text: &mut [u8]
     if !skip(request.names as usize - n) {
         return complain(broken::CUT_OFF);
     }
-    reply(&sheet[..s], &names[..n], request.x as usize, text)
+    reply_resolved(&sheet[..s], &names[..n], request.x as usize, text)
+}
+
+// Verbs 9 and 10: stores a sheet by column, or takes it back.
+fn rearrange(request: Request, back: bool, sheet: &mut [u8], text: &mut [u8]) -> bool {
+    let s = read_part(request.sheet as usize, sheet);
+    if !skip(request.sheet as usize - s) {
+        return complain(broken::CUT_OFF);
+    }
+    reply_columns(&sheet[..s], back, request.x as usize, text)
 }
 
 // The request of a header, by its verb.
@@ -54,6 +75,8 @@ fn answer(header: &[u8], sheet: &mut [u8], names: &mut [u8], text: &mut [u8]) ->
     let verb = request.verb;
     match verb {
         verb::RESOLVE => resolve(request, sheet, names, text),
+        verb::TO_COLUMNS => rearrange(request, false, sheet, text),
+        verb::FROM_COLUMNS => rearrange(request, true, sheet, text),
         _ => complain(broken::VERB),
     }
 }

@@ -7,7 +7,7 @@ use native.Mathlib.Numerals.{add-one}
 use native.Mathlib.Omega.{arith}
 use lib.ListN.{length, getD, set, take, drop, replicate, length-take, length-append, length-replicate, drop-of-length-le}
 use lib.Seq.{getD-take, take-all}
-use Rattle.report.specs.Line.{fitted}
+use Rattle.report.specs.Report.{fitted}
 
 -- one store more
 copied-suc : (n : ℕ) (f d : List ℕ) → length f ≡ length d → n < length d

@@ -1,22 +1,26 @@
 -- What callers cite of the line that an answer tells, and of a report as text. Assumes nothing.
-use mathlib.Core.Path.{_≡_, refl, sym, ap, _∙_}
+use mathlib.Core.Path.{_≡_, refl, sym, ap, subst, _∙_}
+use mathlib.Core.Bool.{Bool, true, false, _&&_}
 use mathlib.Core.List.{List, [], _∷_, _++_}
 use Prim.Native.Nat.{ℕ, zero, suc, _+_, _*_, min, _<_, _≤_}
 use native.Mathlib.Omega.{arith}
-use lib.ListN.{length, getD, take, drop, replicate}
-use lib.Seq.{take-at, take-append-add}
-use Rattle.definition.specs.Basics.{concatMap}
+use lib.ListN.{length, getD, take, drop, replicate, length-append, length-map, length-take, length-drop}
+use lib.Seq.{take-at, take-all, take-append-add}
+use lib.Dec.{leb}
+use borrow.Author.Tests.{le-leb, lt-leb}
+use Rattle.definition.specs.Basics.{if_then_else_, concatMap, from}
+use Rattle.definition.specs.Sheet.{rows}
 use Rattle.definition.specs.Text.{textOf}
 use Rattle.definition.specs.Outcome.{Outcome, report}
 use Rattle.definition.proofs.Format.Accepted.{Eights}
 use Rattle.text.specs.Lines.{lineOf as textLine}
-use Rattle.text.specs.Writing.{rowsIn}
-use Rattle.text.proofs.Lists.{pieces-length}
+use Rattle.text.specs.Writing.{rowAt, rowsIn}
+use Rattle.text.proofs.Lists.{map-at, from-length, concat-map, parts-joined, pieces-length}
 use Rattle.text.proofs.Laws.{line-length, rows-of-joined}
 use Rattle.lexer.specs.SrcPos.{fileOf, lineOf, columnOf}
 use Rattle.answer.specs.declared.Answer.{Answer}
 use Rattle.answer.specs.Tells.{Tells}
-use Rattle.report.specs.Line.{reportLine, toldBy, fitted, Printed}
+use Rattle.report.specs.Report.{reportLine, toldBy, fitted, Begins, reply, Printed}
 
 -- an answer tells the line of its outcome
 pub told-line : (o : Outcome) (x : Answer) → Tells o x → toldBy x ≡ reportLine o
@@ -45,6 +49,26 @@ eight-at : {rs : List (List ℕ)} → Eights rs → (i : ℕ) → i < length rs 
 eight-at Eights.none i l = absurd (omega arith)
 eight-at (Eights.more e p) zero l = e
 eight-at (Eights.more e p) (suc i) l = eight-at p i (omega arith)
+
+eights-of : (rs : List (List ℕ)) → ((i : ℕ) → i < length rs → length (getD rs i []) ≡ 8) → Eights rs
+eights-of [] h = Eights.none
+eights-of (r ∷ rs) h = Eights.more (h 0 (omega arith)) (eights-of rs (λ i l. h (suc i) (omega arith)))
+
+-- the whole rows of a list of words are rows of eight, and joined again they are these words
+pub rows-eights : (ws : List ℕ) → Eights (rowsIn ws)
+rows-eights ws = eights-of (rowsIn ws) (λ i l. ap length (map-at (rowAt ws) [] (rows ws) i (below i l)) ∙ size i (below i l))
+  where
+    below : (i : ℕ) → i < length (rowsIn ws) → i < rows ws
+    below i l = omega (arith, length-map (from 0 (rows ws)) (rowAt ws), from-length 0 (rows ws))
+
+    size : (i : ℕ) → i < rows ws → length (rowAt ws i) ≡ 8
+    size i l = simp (length-take, length-drop) (omega arith)
+
+pub rows-number : (ws : List ℕ) → length (rowsIn ws) ≡ rows ws
+rows-number ws = length-map (from 0 (rows ws)) (rowAt ws) ∙ from-length 0 (rows ws)
+
+pub rows-joined : (ws : List ℕ) → 8 * rows ws ≡ length ws → concatMap (λ r. r) (rowsIn ws) ≡ ws
+rows-joined ws e = concat-map (λ (r : List ℕ). r) (rowAt ws) (from 0 (rows ws)) ∙ parts-joined 8 ws (rows ws) ∙ take-all (8 * rows ws) ws (omega (arith, e))
 
 -- the words of rows
 abbrev flat : List (List ℕ) → List ℕ
@@ -78,8 +102,48 @@ module _ (o : Outcome) (x : Answer) (w : List ℕ) (tells : Tells o x) (good : E
 
   -- what is printed of x is the report of o
   pub report-printed : (before : List ℕ) (n : ℕ) (filled after : List ℕ) → Printed x w before n filled after
-      → (n ≡ length (textOf (report o))) × (after ≡ textOf (report o) ++ drop n before)
-  report-printed before n filled after h = (
-    omega (arith, h .count, report-length, tells .rows),
-    h .text ∙ ap (λ (rs : List (List ℕ)). textOf rs ++ drop n before) rows-told,
-  )
+      → Begins (textOf (report o)) before n after
+  report-printed before n filled after h = record {
+    count = omega (arith, h .count, report-length, tells .rows);
+    text = h .text ∙ ap (λ (rs : List (List ℕ)). textOf rs ++ drop n before) rows-told;
+  }
+
+-- what a text begins with lies in it
+pub begins-within : {told before : List ℕ} {n : ℕ} {after : List ℕ} → Begins told before n after → n ≤ length after
+begins-within {told} {before} {n} h = omega (arith, h .count, ap length (h .text) ∙ length-append told (drop n before))
+
+-- nothing is written
+begins-none : {told before : List ℕ} → told ≡ [] → Begins told before 0 before
+begins-none {before = before} e = record { count = ap length (sym e); text = ap (λ (t : List ℕ). t ++ before) (sym e) }
+
+-- The reply is the report where few rows and a long text are lent, and nothing elsewhere.
+module _ (lent : ℕ) (told before : List ℕ) where
+  abbrev room : ℕ
+  room = length before
+
+  pub reply-there : lent ≤ 2048 → 165969 ≤ room → reply lent room told ≡ told
+  unfolding reply
+  reply-there l m =
+      ap (λ (b : Bool). if b && leb 165969 room then told else []) (le-leb lent 2048 l)
+      ∙ ap (λ (b : Bool). if b then told else []) (le-leb 165969 room m)
+
+  pub reply-many : 2048 < lent → reply lent room told ≡ []
+  unfolding reply
+  reply-many l = ap (λ (b : Bool). if b && leb 165969 room then told else []) (lt-leb lent 2048 l)
+
+  pub reply-short : room < 165969 → reply lent room told ≡ []
+  unfolding reply
+  reply-short l = ap (λ (b : Bool). if leb lent 2048 && b then told else []) (lt-leb 165969 room l) ∙ never (leb lent 2048)
+    where
+      never : (b : Bool) → (if b && false then told else []) ≡ []
+      never true = refl
+      never false = refl
+
+  pub replied : (n : ℕ) (after : List ℕ) → lent ≤ 2048 → 165969 ≤ room → Begins told before n after → Begins (reply lent room told) before n after
+  replied n after l m = subst (λ (t : List ℕ). Begins t before n after) (sym (reply-there l m))
+
+  pub replied-many : 2048 < lent → Begins (reply lent room told) before 0 before
+  replied-many l = begins-none (reply-many l)
+
+  pub replied-short : room < 165969 → Begins (reply lent room told) before 0 before
+  replied-short l = begins-none (reply-short l)

@@ -10,7 +10,7 @@ use Rattle.definition.specs.Text.{textOf}
 use Rattle.text.specs.Writing.{RowsWritten, rowsIn, bytesWritten, textWritten}
 use Rattle.text.proofs.Laws.{rows-fit}
 use Rattle.answer.specs.declared.Answer.{Answer}
-use Rattle.report.specs.Line.{toldBy, fitted, Printed}
+use Rattle.report.specs.Report.{toldBy, fitted, Printed}
 use Rattle.report.proofs.Laws.{fitted-whole}
 
 told-length : (x : Answer) → length (toldBy x) ≡ 8

@@ -2,7 +2,7 @@
 ghost use mathlib.Core.Path.{_≡_};
 ghost use Prim.Native.Nat.{_+_, _*_, _≤_, min};
 ghost use lib.ListN.{length};
-ghost use Rattle.report.specs.Line.{fitted, toldBy, Printed};
+ghost use Rattle.report.specs.Report.{fitted, toldBy, Printed};
 use answer::Answer;
 use text::write_rows;
 use words::word_at;

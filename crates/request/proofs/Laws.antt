@@ -1,7 +1,7 @@
 -- What breaks a request, test by test in the order of the code. Assumes nothing.
 use mathlib.Core.Path.{_≡_, refl, sym, ap, _∙_}
 use mathlib.Core.Bool.{Bool, true, false, _&&_}
-use mathlib.Core.List.{List, [], _∷_, _++_, map}
+use mathlib.Core.List.{List, [], _++_, map}
 use Prim.Native.Nat.{ℕ, zero, suc, _-_, _*_, _<_, _≤_}
 use native.Mathlib.Omega.{arith}
 use lib.ListN.{length, getD, take, replicate}
@@ -15,14 +15,10 @@ use Rattle.text.proofs.Laws.{sheet-words}
 use Rattle.request.specs.declared.Request.{Request}
 use Rattle.request.specs.Header.{largest, brokenBy, told, isRow, requestOf}
 
--- the verb's row of the table
-pub known-verb : (v : ℕ) → v ≡ 1 → 1 ∷ 4294967295 ∷ 4294967295 ∷ 0 ∷ 2048 ∷ 0 ∷ 0 ∷ 0 ∷ [] ≡ largest v
+-- the row of a verb that is none of the table
+pub unknown-verb : (v : ℕ) → (v ≡ 1 → ⊥) → (v ≡ 9 → ⊥) → (v ≡ 10 → ⊥) → replicate 8 0 ≡ largest v
 unfolding largest
-known-verb v e = rw (eq-eqb v 1 e)
-
-pub unknown-verb : (v : ℕ) → (v ≡ 1 → ⊥) → replicate 8 0 ≡ largest v
-unfolding largest
-unknown-verb v e = rw (ne-eqb v 1 e)
+unknown-verb v a b c = rw (ne-eqb v 1 a, ne-eqb v 9 b, ne-eqb v 10 c)
 
 module _ (m w : List ℕ) where
   pub no-verb : getD w 0 0 ≡ 0 → 2 ≡ brokenBy m w

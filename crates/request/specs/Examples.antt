@@ -32,6 +32,19 @@ breaks : map (λ w. requestOf (header w) .broken)
 unfolding requestOf brokenBy largest told
 breaks = refl
 
+-- verbs 9 and 10: rows lent up to 2,048, no names, no second sheet; the verbs beside them are unknown
+column-verbs : map (λ w. requestOf (header w) .broken)
+    ((9 ∷ 162 ∷ 0 ∷ 0 ∷ 2048 ∷ 0 ∷ 0 ∷ 0 ∷ []) ∷
+    (10 ∷ 162 ∷ 0 ∷ 0 ∷ 2048 ∷ 0 ∷ 0 ∷ 0 ∷ []) ∷
+    (9 ∷ 162 ∷ 0 ∷ 0 ∷ 2049 ∷ 0 ∷ 0 ∷ 0 ∷ []) ∷
+    (10 ∷ 162 ∷ 1 ∷ 0 ∷ 2 ∷ 0 ∷ 0 ∷ 0 ∷ []) ∷
+    (9 ∷ 162 ∷ 0 ∷ 0 ∷ 2 ∷ 0 ∷ 162 ∷ 0 ∷ []) ∷
+    (8 ∷ 0 ∷ 0 ∷ 0 ∷ 0 ∷ 0 ∷ 0 ∷ 0 ∷ []) ∷
+    (11 ∷ 0 ∷ 0 ∷ 0 ∷ 0 ∷ 0 ∷ 0 ∷ 0 ∷ []) ∷ [])
+    ≡ 0 ∷ 0 ∷ 4 ∷ 6 ∷ 6 ∷ 2 ∷ 2 ∷ []
+unfolding requestOf brokenBy largest told
+column-verbs = refl
+
 -- no row: a byte short, a byte more, two rows, no bytes, a leading zero
 no-row : map requestOf (take 80 (header whole) ∷ (header whole ++ 10 ∷ []) ∷ (header whole ++ header whole) ∷ [] ∷ set (header whole) 8 48 ∷ [])
     ≡ replicate 5 (told 1 [])

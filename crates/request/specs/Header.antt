@@ -2,17 +2,22 @@
 use mathlib.Core.Bool.{Bool, _&&_, _||_}
 use mathlib.Core.List.{List, [], _∷_}
 use Prim.Native.Nat.{ℕ}
-use lib.ListN.{getD}
+use lib.ListN.{getD, replicate}
 use lib.Dec.{eqb, ltb}
-use Rattle.definition.specs.Basics.{if_then_else_}
+use Rattle.definition.specs.Basics.{if_then_else_, first}
 use Rattle.definition.specs.Text.{isSheetText, lines, sheetOf}
 use Rattle.request.specs.declared.Request.{Request}
 
--- the largest of each number that a verb takes; a body may be of any length if the verb takes it
+-- the verbs, each with the largest of each number that it takes; a body may be of any length if the verb takes it
+abbrev pub verbs : List (List ℕ)
+verbs =
+    (1 ∷ 4294967295 ∷ 4294967295 ∷ 0 ∷ 2048 ∷ 0 ∷ 0 ∷ 0 ∷ []) ∷
+    (9 ∷ 4294967295 ∷ 0 ∷ 0 ∷ 2048 ∷ 0 ∷ 0 ∷ 0 ∷ []) ∷
+    (10 ∷ 4294967295 ∷ 0 ∷ 0 ∷ 2048 ∷ 0 ∷ 0 ∷ 0 ∷ []) ∷ []
+
+-- the row of a verb, or zeros
 unfoldable pub largest : ℕ → List ℕ
-largest v =
-    if eqb v 1 then 1 ∷ 4294967295 ∷ 4294967295 ∷ 0 ∷ 2048 ∷ 0 ∷ 0 ∷ 0 ∷ []
-    else 0 ∷ 0 ∷ 0 ∷ 0 ∷ 0 ∷ 0 ∷ 0 ∷ 0 ∷ []
+largest v = first (λ w. eqb v (getD w 0 0)) (replicate 8 0) verbs
 
 -- is number c of the row w larger than that of m?
 abbrev pub over : List ℕ → List ℕ → ℕ → Bool

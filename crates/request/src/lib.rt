@@ -31,6 +31,8 @@ fn largest_of(verb: u32) -> [u32; 8]
 {
     match verb {
         verb::RESOLVE => [verb::RESOLVE, ANY, ANY, 0, limit::LENT_ROWS, 0, 0, 0],
+        verb::TO_COLUMNS => [verb::TO_COLUMNS, ANY, 0, 0, limit::LENT_ROWS, 0, 0, 0],
+        verb::FROM_COLUMNS => [verb::FROM_COLUMNS, ANY, 0, 0, limit::LENT_ROWS, 0, 0, 0],
         _ => [0; 8],
     }
 }

@@ -7,7 +7,7 @@ use native.Mathlib.Omega.{arith}
 use lib.ListN.{length, take, drop, length-append}
 use lib.Seq.{take-at, drop-at}
 use Rattle.definition.specs.Outcome.{printed}
-use Rattle.resolve_text.specs.Report.{reply, RepliedOfTexts, PrintedOfFiles}
+use Rattle.resolve_text.specs.Report.{PrintedOfFiles}
 
 module _ (sheet names before : List ℕ) (n : ℕ) (after : List ℕ) (h : PrintedOfFiles sheet names before n after) where
   -- the first n bytes are what the program prints, and those after them stay
@@ -24,9 +24,3 @@ module _ (sheet names before : List ℕ) (n : ℕ) (after : List ℕ) (h : Print
       go : Dec (165969 ≤ length before) → n ≤ length after
       go (yes l) = omega (arith, h .of-read .count l, ap length (h .of-read .text l) ∙ length-append (printed sheet names) (drop n before))
       go (no l) = omega (arith, h .of-read .no-count (omega arith))
-
--- the bytes of a reply lie in the text
-pub reply-within : (lent : ℕ) (sheet names before : List ℕ) (n : ℕ) (after : List ℕ) → RepliedOfTexts lent sheet names before n after → n ≤ length after
-reply-within lent sheet names before n after h =
-    let told = reply lent sheet names (length before) in
-    omega (arith, h .of-read .count, ap length (h .of-read .text) ∙ length-append told (drop n before))

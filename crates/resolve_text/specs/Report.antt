@@ -1,31 +1,22 @@
 -- What the routines from text to text promise, and their parts.
 use mathlib.Core.Path.{_≡_}
-use mathlib.Core.Bool.{_&&_}
-use mathlib.Core.List.{List, [], _++_}
+use mathlib.Core.List.{List, _++_}
 use Prim.Native.Nat.{ℕ, _*_, _<_, _≤_}
 use lib.ListN.{length, take, drop}
-use lib.Dec.{leb}
-use Rattle.definition.specs.Basics.{if_then_else_}
 use Rattle.definition.specs.Text.{sheetOf, textOf}
 use Rattle.definition.specs.Outcome.{outcome, report, printed}
+use Rattle.report.specs.Report.{Begins, reply}
 
 -- the report of a sheet's text and its names as text, with `lent` answer rows lent; with 2,048 it is what the program prints
 abbrev pub printedWith : ℕ → List ℕ → List ℕ → List ℕ
 printedWith lent sheet names = textOf (report (outcome (sheetOf sheet) names (8 * lent)))
 
--- the reply into so many bytes: the report, or nothing where over 2,048 answer rows are lent or the longest report does not fit
-unfoldable pub reply : ℕ → List ℕ → List ℕ → ℕ → List ℕ
-reply lent sheet names room = if leb lent 2048 && leb 165969 room then printedWith lent sheet names else []
-
--- Of a lent text, which then is `after`: it begins with the reply, n bytes, and the rest is unchanged.
-pub record Replied (lent : ℕ) (sheet names before : List ℕ) (n : ℕ) (after : List ℕ) : Type 0 where
-  pub count : n ≡ length (reply lent sheet names (length before))
-  pub text : after ≡ reply lent sheet names (length before) ++ drop n before
-
--- The same of two texts of which `sheet` and `names` were read: all of them, or one byte more than the longest that is accepted.
+-- A lent text, which then is `after`, begins with the reply to two texts of which `sheet` and `names` were read: all of them, or one byte more
+-- than the longest that is accepted.
 pub record RepliedOfTexts (lent : ℕ) (sheet names before : List ℕ) (n : ℕ) (after : List ℕ) : Type 0 where
-  pub of-read : Replied lent sheet names before n after
-  pub of-texts : (s ns : List ℕ) → sheet ≡ take 165889 s → names ≡ take 32769 ns → Replied lent s ns before n after
+  pub of-read : Begins (reply lent (length before) (printedWith lent sheet names)) before n after
+  pub of-texts : (s ns : List ℕ) → sheet ≡ take 165889 s → names ≡ take 32769 ns
+      → Begins (reply lent (length before) (printedWith lent s ns)) before n after
 
 -- Of the texts of sheet.txt and names.txt and a lent text, which then is `after`:
 pub record Printed (sheet names before : List ℕ) (n : ℕ) (after : List ℕ) : Type 0 where

@@ -1,8 +1,8 @@
 // The resolver from text to text: a sheet's text and the bytes of its names, and the report as text.
 ghost use mathlib.Core.Path.{_≡_};
-ghost use mathlib.Core.List.{_++_};
 ghost use Prim.Native.Nat.{_≤_};
-ghost use lib.ListN.{length, drop};
+ghost use lib.ListN.{length};
+ghost use Rattle.report.specs.Report.{Begins};
 ghost use Rattle.resolve_text.specs.Report.{printedWith, RepliedOfTexts, PrintedOfFiles};
 use ast::limit;
 use report::print_answer;
@@ -23,8 +23,7 @@ fn print_report(
     text: &mut [u8],
 ) -> usize
     requires { ⌜ (lent ≤ 2048) × (length (now words) ≡ 16384) × (length (now report) ≡ 16392) × (165969 ≤ length (now text)) ⌝ }
-    ensures { λ n. ⌜ (n ≡ length (printedWith lent (now (sheet .entry)) (now (names .entry))))
-        × (now (text .exit) ≡ printedWith lent (now (sheet .entry)) (now (names .entry)) ++ drop n (now (text .entry))) ⌝ }
+    ensures { λ n. ⌜ Begins (printedWith lent (now (sheet .entry)) (now (names .entry))) (now (text .entry)) n (now (text .exit)) ⌝ }
 {
     let n = read_sheet(sheet, words);
     let x = resolve(&words[..8 * n], names, &mut report[8..8 + 8 * lent]);

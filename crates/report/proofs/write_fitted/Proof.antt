@@ -5,7 +5,7 @@ use Prim.Native.Nat.{_≤_, _-_}
 use native.Mathlib.Omega.{arith}
 use borrow.Author.Needs.{needs}
 use lib.ListN.{length, take, drop, length-set}
-use Rattle.report.specs.Line.{fitted}
+use Rattle.report.specs.Report.{fitted}
 use Rattle.report.proofs.FitLaws.{fit-more, fit-all}
 use Rattle.report.proofs.write_fitted.Statement.{statement}
 use Rattle.report.proofs.write_fitted.Tie as tie

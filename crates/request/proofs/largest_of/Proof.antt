@@ -1,13 +1,24 @@
 -- `largest_of` meets its contract: the verb's row of the table. Assumes nothing.
-use Rattle.request.proofs.Laws.{known-verb, unknown-verb}
+use mathlib.Core.Path.{sym, ap}
+use Rattle.request.specs.Header.{largest}
+use Rattle.request.proofs.Laws.{unknown-verb}
 use Rattle.request.proofs.largest_of.Statement.{statement}
 use Rattle.request.proofs.largest_of.Tie as tie
 
 returns : tie.Need-returns
-returns c = known-verb (c .before .args .verb) (c .match .keys1)
+unfolding largest
+returns c = ap largest (sym (c .match .keys1))
 
 returns-2 : tie.Need-returns-2
-returns-2 c = unknown-verb (c .before .args .verb) (c .match .rest .1)
+unfolding largest
+returns-2 c = ap largest (sym (c .match .keys2))
+
+returns-3 : tie.Need-returns-3
+unfolding largest
+returns-3 c = ap largest (sym (c .match .keys3))
+
+returns-4 : tie.Need-returns-4
+returns-4 c = unknown-verb (c .before .args .verb) (c .match .rest .0 .0 .1) (c .match .rest .0 .1) (c .match .rest .1)
 
 pub largest-of-spec : {M : Type 1} → statement M
-largest-of-spec = tie.close (tie.spec returns returns-2)
+largest-of-spec = tie.close (tie.spec returns returns-2 returns-3 returns-4)

@@ -6,7 +6,8 @@ use borrow.Author.Needs.{needs}
 use borrow.Rule.Slice.PartMut.{same-len-mid}
 use lib.Seq.{length-take-le}
 use Rattle.text.specs.Reading.{SheetRead}
-use Rattle.resolve_text.proofs.ReportLaws.{read-few, few, printed-report}
+use Rattle.text.proofs.Longer.{read-few}
+use Rattle.resolve_text.proofs.ReportLaws.{few, printed-report}
 use Rattle.resolve_text.proofs.print_report.Statement.{statement}
 use Rattle.resolve_text.proofs.print_report.Tie as tie
 

@@ -1,6 +1,6 @@
 -- `resolve_lent` meets its contract. Assumes nothing.
 use borrow.Author.Needs.{needs}
-use Rattle.resolve_text.proofs.ReportLaws.{replied, replied-many, replied-short}
+use Rattle.report.proofs.Laws.{replied, replied-many, replied-short}
 use Rattle.resolve_text.proofs.Longer.{replied-texts}
 use Rattle.resolve_text.proofs.resolve_lent.Statement.{statement}
 use Rattle.resolve_text.proofs.resolve_lent.Tie as tie
@@ -11,14 +11,12 @@ cast-if1 c = search needs
 returns : tie.Need-returns
 returns c =
     let start = c .before .before .before .before in
-    replied-texts (replied-many (start .args .lent) (start .args .sheet .now) (start .args .names .now)
-    (start .args .text .now) (c .if1 .taken))
+    replied-texts (replied-many (start .args .lent) _ (start .args .text .now) (c .if1 .taken))
 
 returns-2 : tie.Need-returns-2
 returns-2 c =
     let start = c .before .before .before .before .before in
-    replied-texts (replied-short (start .args .lent) (start .args .sheet .now) (start .args .names .now)
-    (start .args .text .now) (c .if2 .taken))
+    replied-texts (replied-short (start .args .lent) _ (start .args .text .now) (c .if2 .taken))
 
 slice-aggregate-print-report : tie.Need-slice-aggregate-print-report
 slice-aggregate-print-report c = search needs
@@ -39,8 +37,7 @@ returns-3 c =
     let if1 = at-if1 .if1 in
     let if2 = c .before .before .before .before .before .before .before .before .if2 in
     let print-report = c .before .before .before .before .print-report in
-    replied-texts (replied (start .args .lent) (start .args .sheet .now) (start .args .names .now)
-    (start .args .text .now) _ _ (if1 .left) (if2 .left) (print-report .ensures))
+    replied-texts (replied (start .args .lent) _ (start .args .text .now) _ _ (if1 .left) (if2 .left) (print-report .ensures))
 
 pub resolve-lent-spec : {M : Type 1} → statement M
 resolve-lent-spec =

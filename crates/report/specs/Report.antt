@@ -1,8 +1,11 @@
 -- The first line of a report, words in lent ones, and a report as text.
 use mathlib.Core.Path.{_≡_}
+use mathlib.Core.Bool.{_&&_}
 use mathlib.Core.List.{List, [], _∷_, _++_}
 use Prim.Native.Nat.{ℕ, _+_, _*_, min}
 use lib.ListN.{length, take, drop, replicate}
+use lib.Dec.{leb}
+use Rattle.definition.specs.Basics.{if_then_else_}
 use Rattle.definition.specs.Text.{textOf}
 use Rattle.definition.specs.Outcome.{Outcome}
 use Rattle.lexer.specs.SrcPos.{fileOf, lineOf, columnOf}
@@ -23,6 +26,15 @@ toldBy x =
 -- the words ws in n lent ones: as many as fit, then zeros
 unfoldable pub fitted : ℕ → List ℕ → List ℕ
 fitted n ws = take n (ws ++ replicate n 0)
+
+-- A lent text begins with `told`, n bytes, and the rest is unchanged.
+pub record Begins (told before : List ℕ) (n : ℕ) (after : List ℕ) : Type 0 where
+  pub count : n ≡ length told
+  pub text : after ≡ told ++ drop n before
+
+-- the reply into `room` bytes: the report `told`, or nothing where over 2,048 rows are lent or the longest report does not fit
+unfoldable pub reply : ℕ → ℕ → List ℕ → List ℕ
+reply lent room told = if leb lent 2048 && leb 165969 room then told else []
 
 -- Of an answer x whose rows stand in the words w from the ninth on, and a lent text:
 pub record Printed (x : Answer) (w before : List ℕ) (n : ℕ) (filled after : List ℕ) : Type 0 where
