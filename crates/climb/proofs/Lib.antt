@@ -1,3 +1,5 @@
-pub mod CountLaws
+-- Classes yet to mark; steps; lines of parents that end, and the climb without marks; circles.
+mod CountLaws
 pub mod StepLaws
 pub mod LineLaws
+pub mod CircleLaws

@@ -12,7 +12,7 @@ use Rattle.definition.specs.Basics.{if_then_else_, first, from, _∈?_}
 use Rattle.machine.specs.Machine.{oneMore}
 use Rattle.climb.specs.declared.Ending.{Ending}
 use Rattle.climb.specs.declared.Ending.the-variants.{Top, Circle, NoRecord}
-use Rattle.climb.specs.Process.{NO-RECORD, sizeOf, Climbed, leaving, isPending, inLineage, lacksRecord, process, climbed, isTop}
+use Rattle.climb.specs.Process.{NO-RECORD, runSize, Climbed, leaving, isPending, inLineage, lacksRecord, process, climbed, isTop}
 use Rattle.climb.specs.Process.{processAll, climbedAll, climbFrom, firstEnding}
 use Rattle.climb.proofs.CountLaws.{unmarked, unmarked-most, unmarked-less}
 use Rattle.climb.proofs.StepLaws.{chosen, chosen-1, chosen-2, chosen-3, chosen-4, Met, outside, again, earlier, new, meet}
@@ -190,9 +190,10 @@ module _ (parents : List ℕ) (size : ℕ) where
                   (λ e. let y : _≡_ {A = ℕ} 0 1 = cc in omega arith)
               decided false r =
                   let g = more p z r in
-                  let x = process-up parents size k m c p z d r n in
-                  (ap (λ (u : Climbed). u .ending) x ∙ g .0 ∙ sym (from-up parents size lineage c i p unmet r),
-                   λ q. subst (λ (u : Climbed). Ended parents size (u .marks)) (sym x) (g .1 (sym (ap (λ (u : Climbed). u .ending) x) ∙ q)))
+                  let x = process-up parents size k m c p z d r n in (
+                    ap (λ (u : Climbed). u .ending) x ∙ g .0 ∙ sym (from-up parents size lineage c i p unmet r),
+                    λ q. subst (λ (u : Climbed). Ended parents size (u .marks)) (sym x) (g .1 (sym (ap (λ (u : Climbed). u .ending) x) ∙ q)),
+                  )
 
     -- so it does where the marks k tell the lineage, and other marks classes whose lines end
     answers : (k ≡ 0 → ⊥) → (n i : ℕ) (m lineage : List ℕ) (c : ℕ) → size ≤ length m → unmarked m size < n → unmarked m size < i
@@ -225,11 +226,11 @@ marks-kept n k m c h = record { as-many = length-set m c k ∙ h .as-many; most 
 
 module _ (parents m : List ℕ) (h : (j : ℕ) → getD m j 0 ≡ 0) where
   -- no marks, no lines to know of
-  none-ended : Ended parents (sizeOf parents m) m
+  none-ended : Ended parents (runSize parents m) m
   none-ended = record { ended = λ j f. absurd (f (h j)) }
 
   -- without marks at its start a climb answers as that without marks
-  pub climb-plain : (c : ℕ) → climbed parents m c .ending ≡ climbFrom parents (sizeOf parents m) (suc (sizeOf parents m)) [] c
+  pub climb-plain : (c : ℕ) → climbed parents m c .ending ≡ climbFrom parents (runSize parents m) (suc (runSize parents m)) [] c
   climb-plain c =
       ap (λ (x : Climbed). x .ending) (sym (climb-start parents m c refl refl))
       ∙ answers parents size (oneMore c) (mark-some c) (suc size) (suc size) m [] c (omega arith) (omega (arith, unmarked-most m size)) (omega (arith, unmarked-most m size))
@@ -237,7 +238,7 @@ module _ (parents m : List ℕ) (h : (j : ℕ) → getD m j 0 ≡ 0) where
       (climbing-start parents size (oneMore c) m c (λ j. below (oneMore c) (mark-some c) j) none-ended) .0
     where
       size : ℕ
-      size = sizeOf parents m
+      size = runSize parents m
 
       below : (k : ℕ) → (k ≡ 0 → ⊥) → (j : ℕ) → getD m j 0 < k
       below zero z j = absurd (z refl)
@@ -249,7 +250,7 @@ top-of (Circle c) e = absurd (subst T (sym e) tt)
 top-of (NoRecord c) e = absurd (subst T (sym e) tt)
 
 -- the climb from class c, where the marks are those of climbs from classes below it
-module _ (parents : List ℕ) (size c : ℕ) (m : List ℕ) (e : size ≡ sizeOf parents m) (l : c < size) (g : (j : ℕ) → getD m j 0 ≤ c) where
+module _ (parents : List ℕ) (size c : ℕ) (m : List ℕ) (e : size ≡ runSize parents m) (l : c < size) (g : (j : ℕ) → getD m j 0 ≤ c) where
   as-process : climbed parents m c ≡ process parents size (suc c) (suc size) m c
   as-process = sym (climb-start parents m c e (sym (ap (λ (t : Bool). if t then suc c else c) (lt-ltb c NO-RECORD (omega arith)))))
 
@@ -267,7 +268,7 @@ module _ (parents : List ℕ) (size c : ℕ) (m : List ℕ) (e : size ≡ sizeOf
       (climbing-start parents size (suc c) m c (λ j. omega (arith, g j)) h))
 
 -- the climbs from class c on
-later-answers : (parents : List ℕ) (size n c : ℕ) (m : List ℕ) → size ≡ sizeOf parents m → c + n ≡ size → ((j : ℕ) → getD m j 0 ≤ c) → Ended parents size m
+later-answers : (parents : List ℕ) (size n c : ℕ) (m : List ℕ) → size ≡ runSize parents m → c + n ≡ size → ((j : ℕ) → getD m j 0 ≤ c) → Ended parents size m
     → processAll parents n m c .ending ≡ first (λ x. not (isTop x)) Top (map (climbFrom parents size (suc size) []) (from c n))
 later-answers parents size zero c m e s g h = refl
 later-answers parents size (suc n) c m e s g h =
@@ -297,7 +298,7 @@ later-answers parents size (suc n) c m e s g h =
     go false d i = ap (λ (x : Climbed). x .ending) (sym (all-over parents m (suc n) n c (suc c) refl refl refl d)) ∙ found .0 ∙ sym (tested false d)
 
 -- without marks at the start, all climbs answer as the climbs without marks
-pub climb-all-plain : (parents m : List ℕ) → ((j : ℕ) → getD m j 0 ≡ 0) → climbedAll parents m .ending ≡ firstEnding parents (sizeOf parents m)
+pub climb-all-plain : (parents m : List ℕ) → ((j : ℕ) → getD m j 0 ≡ 0) → climbedAll parents m .ending ≡ firstEnding parents (runSize parents m)
 unfolding climbedAll firstEnding
 climb-all-plain parents m h =
-    later-answers parents (sizeOf parents m) (sizeOf parents m) 0 m refl (omega arith) (λ j. omega (arith, h j)) (none-ended parents m h)
+    later-answers parents (runSize parents m) (runSize parents m) 0 m refl (omega arith) (λ j. omega (arith, h j)) (none-ended parents m h)

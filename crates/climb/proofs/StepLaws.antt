@@ -2,7 +2,7 @@
 use mathlib.Core.Path.{_≡_, refl, sym, ap, subst, _∙_}
 use mathlib.Core.Bool.{Bool, true, false, not, _&&_, _||_}
 use mathlib.Core.List.{List}
-use Prim.Native.Nat.{ℕ, zero, suc, _+_, _<_, _≤_}
+use Prim.Native.Nat.{ℕ, zero, suc, _<_, _≤_}
 use native.Mathlib.Omega.{arith}
 use lib.Dec.{T, eqb, ltb}
 use lib.ListN.{length, getD, set, length-set}
@@ -13,7 +13,7 @@ use Rattle.climb.specs.declared.Ending.{Ending}
 use Rattle.climb.specs.declared.Ending.the-variants.{Top, Circle, NoRecord}
 use Rattle.climb.specs.declared.Step.{Step}
 use Rattle.climb.specs.declared.Step.the-variants.{Up, Over}
-use Rattle.climb.specs.Process.{NO-RECORD, sizeOf, Climbed, leaving, isPending, inLineage, lacksRecord, process, climbed, stepAt, marksAfter}
+use Rattle.climb.specs.Process.{NO-RECORD, runSize, Climbed, leaving, isPending, inLineage, lacksRecord, process, climbed, stepAt, marksAfter}
 use Rattle.climb.specs.Process.{isTop, processAll, climbedAll}
 use Rattle.climb.proofs.CountLaws.{unmarked, unmarked-most, unmarked-less}
 
@@ -50,6 +50,28 @@ module _ (size mark : ℕ) (marks : List ℕ) (c : ℕ) where
 
     pub pending-marked : (e ≡ 0 → ⊥) → eqb e mark ≡ isPending size mark marks c
     pending-marked z = sym (inside ∙ ap (λ (t : Bool). t || eqb e mark) (ne-eqb e 0 z))
+
+-- A step by the three tests of `climb_step`: t is it pending, u is it in the lineage, k its parent number.
+module _ (parents : List ℕ) (size mark : ℕ) (m : List ℕ) (c : ℕ) {t : Bool} (e : t ≡ isPending size mark m c) where
+  pub step-top : t ≡ false → Over Top ≡ stepAt parents size mark m c
+  step-top p = sym (chosen-1 _ _ _ _ (isPending size mark m c) (inLineage mark m c) (lacksRecord parents c) (sym e ∙ p))
+
+  module _ (p : t ≡ true) {u : Bool} (f : u ≡ inLineage mark m c) where
+    pub step-circle : u ≡ true → Over (Circle c) ≡ stepAt parents size mark m c
+    step-circle q =
+        sym (chosen-2 _ _ _ _ (isPending size mark m c) (inLineage mark m c) (lacksRecord parents c) (sym e ∙ p) (sym f ∙ q))
+
+    module _ (q : u ≡ false) {k : ℕ} (g : k ≡ getD parents c 0) where
+      pub step-lacking : k ≡ NO-RECORD → Over (NoRecord c) ≡ stepAt parents size mark m c
+      step-lacking r =
+          sym (chosen-3 _ _ _ _ (isPending size mark m c) (inLineage mark m c) (lacksRecord parents c) (sym e ∙ p) (sym f ∙ q)
+          (eq-eqb (getD parents c 0) NO-RECORD (sym g ∙ r)))
+
+      pub step-parent : (k ≡ NO-RECORD → ⊥) → Up k ≡ stepAt parents size mark m c
+      step-parent r =
+          ap Up g
+          ∙ sym (chosen-4 _ _ _ _ (isPending size mark m c) (inLineage mark m c) (lacksRecord parents c) (sym e ∙ p) (sym f ∙ q)
+          (ne-eqb (getD parents c 0) NO-RECORD (λ z. r (g ∙ z))))
 
 -- what a class is to a climb: none of the run, met in this climb, met in an earlier one, or new
 pub data Met (size mark : ℕ) (m : List ℕ) (c : ℕ) : Type 0 where
@@ -186,12 +208,12 @@ mark-some c = go (ltb c NO-RECORD) refl
     go true d e = omega arith
     go false d e = omega (arith, ltb-false c NO-RECORD d)
 
-pub climb-start : (parents m : List ℕ) (c : ℕ) {size mark : ℕ} → size ≡ sizeOf parents m → mark ≡ oneMore c
+pub climb-start : (parents m : List ℕ) (c : ℕ) {size mark : ℕ} → size ≡ runSize parents m → mark ≡ oneMore c
     → process parents size mark (suc size) m c ≡ climbed parents m c
 unfolding climbed
 climb-start parents m c {size} {mark} e f =
     ap (λ (n : ℕ). process parents n mark (suc n) m c) e
-    ∙ ap (λ (k : ℕ). process parents (sizeOf parents m) k (suc (sizeOf parents m)) m c) f
+    ∙ ap (λ (k : ℕ). process parents (runSize parents m) k (suc (runSize parents m)) m c) f
 
 pub climb-up : (parents : List ℕ) (size mark : ℕ) (m : List ℕ) (c : ℕ) → (mark ≡ 0 → ⊥) → size ≤ length m
     → {x : Step} {m₂ : List ℕ} {p : ℕ} → x ≡ stepAt parents size mark m c → m₂ ≡ marksAfter mark m c x → x ≡ Up p
@@ -220,6 +242,6 @@ module _ (parents m : List ℕ) (k n c d : ℕ) (s : k ≡ suc n) (t : d ≡ suc
 pub all-end : (parents m : List ℕ) (n c : ℕ) → n ≡ 0 → leaving Top m ≡ processAll parents n m c
 all-end parents m n c e = sym (ap (λ (i : ℕ). processAll parents i m c) e)
 
-pub all-start : (parents m : List ℕ) (size n : ℕ) → size ≡ sizeOf parents m → n ≡ size → processAll parents n m 0 ≡ climbedAll parents m
+pub all-start : (parents m : List ℕ) (size n : ℕ) → size ≡ runSize parents m → n ≡ size → processAll parents n m 0 ≡ climbedAll parents m
 unfolding climbedAll
 all-start parents m size n e f = ap (λ (i : ℕ). processAll parents i m 0) (f ∙ e)

@@ -1,12 +1,12 @@
 -- The climb on examples. 9 is past each run, and ends a climb.
 use mathlib.Core.Path.{_≡_, refl}
 use mathlib.Core.List.{List, [], _∷_, map}
-use Prim.Native.Nat.{ℕ, suc}
+use Prim.Native.Nat.{ℕ}
 use lib.ListN.{length, replicate}
 use Rattle.definition.specs.Basics.{from}
 use Rattle.climb.specs.declared.Ending.{Ending}
 use Rattle.climb.specs.declared.Ending.the-variants.{Top, Circle, NoRecord}
-use Rattle.climb.specs.Process.{NO-RECORD, leaving, climbed, climbedAll, climbFrom, firstEnding}
+use Rattle.climb.specs.Process.{NO-RECORD, leaving, climbed, climbedAll, firstEnding}
 
 -- marks of no climb
 abbrev unmarked : List ℕ → List ℕ
@@ -35,15 +35,15 @@ two-circles : climbedAll (9 ∷ 2 ∷ 1 ∷ 4 ∷ 3 ∷ []) (0 ∷ 0 ∷ 0 ∷ 0
 unfolding climbed climbedAll
 two-circles = refl
 
--- a line of twelve classes, climbed from its lower end at once; from its upper end on each class is met once
-line : List ℕ
-line = 1 ∷ 2 ∷ 3 ∷ 4 ∷ 5 ∷ 6 ∷ 7 ∷ 8 ∷ 9 ∷ 10 ∷ 11 ∷ 12 ∷ []
+-- a line of a hundred classes, each below the next: the first climb marks them all; the other way round each climb marks its first class
+abbrev line : List ℕ
+line = from 1 100
 
-long-line : climbedAll line (unmarked line) ≡ leaving Top (replicate 12 1)
-unfolding climbed climbedAll line
-long-line = refl
+upward : climbedAll line (unmarked line) ≡ leaving Top (replicate 100 1)
+unfolding climbed climbedAll
+upward = refl
 
-downward : climbedAll (9 ∷ 0 ∷ 1 ∷ 2 ∷ []) (0 ∷ 0 ∷ 0 ∷ 0 ∷ []) ≡ leaving Top (1 ∷ 2 ∷ 3 ∷ 4 ∷ [])
+downward : climbedAll (200 ∷ from 0 99) (unmarked line) ≡ leaving Top (from 1 100)
 unfolding climbed climbedAll
 downward = refl
 
@@ -69,5 +69,5 @@ few-marks = refl
 without-marks : map (λ parents. firstEnding parents (length parents))
     ((0 ∷ []) ∷ (1 ∷ 2 ∷ 3 ∷ 1 ∷ []) ∷ (9 ∷ 2 ∷ 1 ∷ 4 ∷ 3 ∷ []) ∷ line ∷ (1 ∷ NO-RECORD ∷ 3 ∷ 2 ∷ []) ∷ (1 ∷ 0 ∷ 3 ∷ NO-RECORD ∷ []) ∷ [])
     ≡ Circle 0 ∷ Circle 1 ∷ Circle 1 ∷ Top ∷ NoRecord 1 ∷ Circle 0 ∷ []
-unfolding firstEnding line
+unfolding firstEnding
 without-marks = refl

@@ -1,4 +1,6 @@
--- The climb from a class to its parents, after `process` and `resolve_inheritance` of the Rust.
+-- The climb from a class to its parents, after `process` and `resolve_inheritance` of the Rust. Classes are the places of a run of parent
+-- numbers. Marks stand for the Rust's two sets: a class without a mark is pending, one with the mark of this climb is pending and in its
+-- lineage, one with another mark is not pending.
 use mathlib.Core.Bool.{Bool, true, false, not, _&&_, _||_}
 use mathlib.Core.List.{List, [], _∷_, map}
 use Prim.Native.Nat.{ℕ, zero, suc, min}
@@ -15,9 +17,9 @@ use Rattle.climb.specs.declared.Step.the-variants.{Up, Over}
 abbrev pub NO-RECORD : ℕ
 NO-RECORD = 4294967295
 
--- how many classes there are: those with a parent number and a mark, and numbers below NO-RECORD
-abbrev pub sizeOf : List ℕ → List ℕ → ℕ
-sizeOf parents marks = min NO-RECORD (min (length parents) (length marks))
+-- how many classes a run has: those with a parent number and a mark, and a number below NO-RECORD
+abbrev pub runSize : List ℕ → List ℕ → ℕ
+runSize parents marks = min NO-RECORD (min (length parents) (length marks))
 
 -- how a climb ended, and the marks after it
 pub record Climbed : Type 0 where
@@ -27,19 +29,20 @@ pub record Climbed : Type 0 where
 abbrev pub leaving : Ending → List ℕ → Climbed
 leaving x marks = record { ending = x; marks = marks }
 
--- Is class c still to be processed, in a climb that marks with `mark`? It has that mark, or none.
+-- is class c still to be processed, in a climb that marks with `mark`?
 abbrev pub isPending : ℕ → ℕ → List ℕ → ℕ → Bool
 isPending size mark marks c = ltb c size && (eqb (getD marks c 0) 0 || eqb (getD marks c 0) mark)
 
--- Was class c met in this climb?
+-- was class c met in this climb?
 abbrev pub inLineage : ℕ → List ℕ → ℕ → Bool
 inLineage mark marks c = eqb (getD marks c 0) mark
 
--- Has the parent of class c no record?
+-- has the parent of class c no record?
 abbrev pub lacksRecord : List ℕ → ℕ → Bool
 lacksRecord parents c = eqb (getD parents c 0) NO-RECORD
 
--- the Rust's `process` on class c; n bounds the climb
+-- the Rust's `process` on class c, over `size` classes; n bounds the climb. A class without a parent has a number past the run here, which is
+-- not pending.
 abbrev pub process : List ℕ → ℕ → ℕ → ℕ → List ℕ → ℕ → Climbed
 process parents size mark zero marks c = leaving Top marks
 process parents size mark (suc n) marks c =
@@ -49,9 +52,9 @@ process parents size mark (suc n) marks c =
     else if lacksRecord parents c then leaving (NoRecord c) marks
     else up
 
--- the climb from class c: it marks with c + 1, and goes up at most once from each class
+-- the climb from class c, which marks with c + 1. It goes up at most once from each class, so a larger bound would change nothing.
 unfoldable pub climbed : List ℕ → List ℕ → ℕ → Climbed
-climbed parents marks c = process parents (sizeOf parents marks) (oneMore c) (suc (sizeOf parents marks)) marks c
+climbed parents marks c = process parents (runSize parents marks) (oneMore c) (suc (runSize parents marks)) marks c
 
 abbrev pub isTop : Ending → Bool
 isTop Top = true
@@ -67,7 +70,7 @@ processAll parents (suc n) marks c =
 
 -- the climbs from all classes
 unfoldable pub climbedAll : List ℕ → List ℕ → Climbed
-climbedAll parents marks = processAll parents (sizeOf parents marks) marks 0
+climbedAll parents marks = processAll parents (runSize parents marks) marks 0
 
 -- one step of `process`: the parent to go on with, or how the climb ended
 abbrev pub stepAt : List ℕ → ℕ → ℕ → List ℕ → ℕ → Step
@@ -82,7 +85,7 @@ abbrev pub marksAfter : ℕ → List ℕ → ℕ → Step → List ℕ
 marksAfter mark marks c (Up p) = set marks c mark
 marksAfter mark marks c (Over x) = marks
 
--- the climb without marks: `lineage` are the classes met, and all classes are pending
+-- the climb without marks: all classes are pending, `lineage` are those met
 abbrev pub climbFrom : List ℕ → ℕ → ℕ → List ℕ → ℕ → Ending
 climbFrom parents size zero lineage c = Top
 climbFrom parents size (suc n) lineage c =

@@ -1,14 +1,13 @@
 // The climb from a class to its parents, which finds circles: the Rust's `process` as a loop over a run of parent numbers.
 ghost use mathlib.Core.Path.{_≡_};
 ghost use Prim.Native.Nat.{min};
-ghost use lib.ListN.{length, getD};
-ghost use Rattle.climb.specs.Process.{isPending, inLineage, stepAt, marksAfter, sizeOf, isTop, leaving, climbed, climbedAll};
+ghost use Rattle.climb.specs.Process.{isPending, inLineage, stepAt, marksAfter, runSize, isTop, leaving, climbed, climbedAll};
 use words::entry_at;
 use words::one_more;
 use words::put_entry;
 
-// Place `c` of a run holds the number of the parent of class `c`, which is a place of the same run, or one of these two. A number past the run
-// ends the climb, as ENDS does: the class has no parent, or one that is not of the run and has a record.
+// Place `c` of a run of parent numbers tells the parent of class `c`: a class of the run by its place, a parent without a record by NO_RECORD. Any
+// other number, as ENDS, ends the climb: there is no parent, or one that is not of the run and has a record.
 pub const NO_RECORD: u32 = 4294967295;
 
 pub const ENDS: u32 = 4294967294;
@@ -21,7 +20,7 @@ pub enum Ending {
 }
 
 // What comes after a class: its parent, or the end of the climb.
-pub enum Step {
+enum Step {
     Up(u32),
     Over(Ending),
 }
@@ -32,15 +31,19 @@ fn smaller(x: usize, y: usize) -> usize
     if x < y { x } else { y }
 }
 
-// How many classes a run has: those with a parent number and a mark, and numbers below NO_RECORD.
-fn size_of(parents: &[u32], marks: &[u32]) -> u32
-    ensures { λ n. ⌜ n ≡ sizeOf (now (parents .entry)) (now (marks .entry)) ⌝ }
+// How many classes a run has: those with a parent number and a mark, and a number below NO_RECORD.
+fn run_size(parents: &[u32], marks: &[u32]) -> u32
+    ensures { λ n. ⌜ n ≡ runSize (now (parents .entry)) (now (marks .entry)) ⌝ }
 {
     let n = smaller(parents.len(), marks.len());
-    if n < 4294967295 { n as u32 } else { NO_RECORD }
+    if n < NO_RECORD as usize {
+        n as u32
+    } else {
+        NO_RECORD
+    }
 }
 
-// Is a class still to be processed? It is without a mark, or has that of this climb.
+// Is a class still to be processed? It has no mark, or that of this climb.
 fn is_pending(marks: &[u32], size: u32, mark: u32, c: u32) -> bool
     ensures { λ x. ⌜ x ≡ isPending size mark (now (marks .entry)) c ⌝ }
 {
@@ -58,7 +61,7 @@ fn in_lineage(marks: &[u32], mark: u32, c: u32) -> bool
     entry_at(marks, c) == mark
 }
 
-// One class of the climb that marks with `mark`.
+// One step of the climb: what `process` does at a class before it goes on to the parent.
 fn climb_step(parents: &[u32], marks: &mut [u32], size: u32, mark: u32, c: u32) -> Step
     ensures { λ x. ⌜ (x ≡ stepAt (now (parents .entry)) size mark (now (marks .entry)) c)
         × (now (marks .exit) ≡ marksAfter mark (now (marks .entry)) c x) ⌝ }
@@ -77,18 +80,18 @@ fn climb_step(parents: &[u32], marks: &mut [u32], size: u32, mark: u32, c: u32) 
     Step::Up(parent)
 }
 
-// Climbs from class `start`. The classes met get the mark `start + 1`. One with another mark was met by an earlier climb, which ended at the top,
-// and is not climbed again. A circle of three that is entered from outside, with the run [1, 2, 3, 1] and the marks [0, 0, 0, 0]:
+// Climbs from class `start`. The classes met get the mark `start + 1`, so that marks need no clearing between climbs. A class with another mark was
+// met by an earlier climb, and is not climbed again. A circle of three entered from outside, over the run [1, 2, 3, 1] from class 0:
 //
-//     class 0   marks [1, 0, 0, 0]   up to 1
-//     class 1   marks [1, 1, 0, 0]   up to 2
-//     class 2   marks [1, 1, 1, 0]   up to 3
-//     class 3   marks [1, 1, 1, 1]   up to 1
-//     class 1   has mark 1           over: Circle(1)
+//     c = 0   marks [0, 0, 0, 0]   Up(1)
+//     c = 1   marks [1, 0, 0, 0]   Up(2)
+//     c = 2   marks [1, 1, 0, 0]   Up(3)
+//     c = 3   marks [1, 1, 1, 0]   Up(1)
+//     c = 1   marks [1, 1, 1, 1]   Over(Circle(1))
 pub fn climb(parents: &[u32], marks: &mut [u32], start: u32) -> Ending
     ensures { λ x. ⌜ leaving x (now (marks .exit)) ≡ climbed (now (parents .entry)) (now (marks .entry)) start ⌝ }
 {
-    let size = size_of(parents, marks);
+    let size = run_size(parents, marks);
     let mark = one_more(start);
     let mut c = start;
     loop {
@@ -118,7 +121,7 @@ fn is_top(x: Ending) -> bool
 pub fn climb_all(parents: &[u32], marks: &mut [u32]) -> Ending
     ensures { λ x. ⌜ leaving x (now (marks .exit)) ≡ climbedAll (now (parents .entry)) (now (marks .entry)) ⌝ }
 {
-    let size = size_of(parents, marks);
+    let size = run_size(parents, marks);
     let mut c: u32 = 0;
     while c < size {
         let ending = climb(parents, marks, c);

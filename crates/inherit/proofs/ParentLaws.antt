@@ -9,10 +9,10 @@ use lib.ListN.{length, getD, set, take, replicate, length-map, length-replicate}
 use lib.Seq.{getD-set-same, getD-set-other, ext-getD, length-take-le}
 use borrow.Author.Tests.{eq-eqb, ne-eqb, eqb-true, eqb-false, lt-ltb, le-ltb, le-leb}
 use Rattle.definition.specs.Basics.{if_then_else_, filter, first, from, _∈?_}
-use Rattle.definition.specs.Sheet.{Sheet, kind, a, rows, is}
+use Rattle.definition.specs.Sheet.{Sheet, a, rows, is}
 use Rattle.definition.specs.Outside.{Outside, isRecorded}
 use Rattle.definition.specs.Question.{Refusal, none, ask, firstNo}
-use Rattle.definition.specs.Classes.{ofSheet, hasRecord}
+use Rattle.definition.specs.Classes.{ofSheet}
 use Rattle.machine.specs.Machine.{Store}
 use Rattle.definition.proofs.Classes.{of-sheet}
 use Rattle.definition.proofs.Format.Tables.{map-below}
@@ -21,7 +21,7 @@ use Rattle.sheet.proofs.FindLaws.{row-number}
 use Rattle.after.specs.Inherited.{parentIn, climbIn, classesRefusal}
 use Rattle.climb.specs.declared.Ending.{Ending}
 use Rattle.climb.specs.declared.Ending.the-variants.{Top, Circle, NoRecord}
-use Rattle.climb.specs.Process.{NO-RECORD, sizeOf, Climbed, leaving, isTop, climbedAll, climbFrom, firstEnding}
+use Rattle.climb.specs.Process.{NO-RECORD, runSize, Climbed, leaving, isTop, climbedAll, climbFrom, firstEnding}
 use Rattle.climb.proofs.StepLaws.{chosen, chosen-1, chosen-4}
 use Rattle.climb.proofs.LineLaws.{climb-all-plain}
 use Rattle.inherit.specs.Answered.{lacksRecord, Marked, refusalAt, parentNumber, parentNumbers}
@@ -229,11 +229,11 @@ module _ (O : Outside) (s : Sheet) (o : Store) (w : 8 * rows s ≡ length s) (f 
   classes-answer {parents} {m} {m₂} {x} d e h l =
       ap (λ (y : Climbed). refusalAt s (y .ending)) e
       ∙ ap (refusalAt s) (climb-all-plain parents m (λ j. omega (arith, h .marks j)))
-      ∙ ap (λ (i : List ℕ). refusalAt s (firstEnding i (sizeOf i m))) d
+      ∙ ap (λ (i : List ℕ). refusalAt s (firstEnding i (runSize i m))) d
       ∙ ap (λ (i : ℕ). refusalAt s (firstEnding (parentNumbers O s o) i)) size
       ∙ rows-answer (rows s) 0 (omega arith)
     where
-      size : sizeOf (parentNumbers O s o) m ≡ rows s
+      size : runSize (parentNumbers O s o) m ≡ rows s
       size = omega (arith, numbers-length O s o)
 
 -- as many of the lent words as there are rows

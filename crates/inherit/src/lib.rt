@@ -118,7 +118,13 @@ fn list_parents(sheet: &[u32], outside: &[u32], results: &[u32], parents: &mut [
 }
 
 // The first no of the questions 18 and 19, with words lent for the run of parents.
-fn check_parents(sheet: &[u32], outside: &[u32], results: &[u32], parents: &mut [u32], climbed: &mut [u32]) -> Refusal
+fn check_parents(
+    sheet: &[u32],
+    outside: &[u32],
+    results: &[u32],
+    parents: &mut [u32],
+    climbed: &mut [u32],
+) -> Refusal
     requires { ⌜ (length (now sheet) ≤ 16384) × (length (now sheet) ≤ 8 * length (now climbed)) × (Marked 0 (now climbed))
         × (8 * rows (now sheet) ≡ length (now sheet)) × (length (now parents) ≡ rows (now sheet)) ⌝ }
     ensures { λ x. ⌜ ((o : Store) (nodes : List ℕ) → refusalOf x

@@ -16,8 +16,8 @@ Inv-loop parents marks₀ start size mark c₀ marks c =
 abbrev μ-loop : tie.MeasureT-loop
 μ-loop parents marks₀ start size mark c₀ marks c = unmarked marks size
 
-size-of-requires : tie.Need-size-of-requires Inv-loop μ-loop
-size-of-requires c κs = search needs
+run-size-requires : tie.Need-run-size-requires Inv-loop μ-loop
+run-size-requires c κs = search needs
 
 one-more-requires : tie.Need-one-more-requires Inv-loop μ-loop
 one-more-requires c κs = search needs
@@ -25,7 +25,7 @@ one-more-requires c κs = search needs
 loop-holds : tie.Need-loop-holds Inv-loop μ-loop
 loop-holds c =
     let a = c .before .before .before .before .before .args in (
-      climb-start (a .parents .now) (a .marks .now) (a .start) (c .before .size-of .ensures) (c .one-more .ensures),
+      climb-start (a .parents .now) (a .marks .now) (a .start) (c .before .run-size .ensures) (c .one-more .ensures),
       refl,
     )
 
@@ -39,7 +39,7 @@ loop-less : tie.Need-loop-less Inv-loop μ-loop
 loop-less c =
     let a = c .before .before .before .before .before .before .before .before .before .before .before .before .before .args in
     let loop = c .before .before .before .before .before .before .before .loop in
-    let size = c .before .before .before .before .before .before .before .before .before .size-of in
+    let size = c .before .before .before .before .before .before .before .before .before .run-size in
     let mark = c .before .before .before .before .before .before .before .before .one-more in
     let step = c .before .before .before .before .before .climb-step in
     omega (
@@ -52,7 +52,7 @@ loop-again : tie.Need-loop-again Inv-loop μ-loop
 loop-again c =
     let a = c .before .before .before .before .before .before .before .before .before .before .before .before .before .args in
     let loop = c .before .before .before .before .before .before .before .loop in
-    let size = c .before .before .before .before .before .before .before .before .before .size-of in
+    let size = c .before .before .before .before .before .before .before .before .before .run-size in
     let mark = c .before .before .before .before .before .before .before .before .one-more in
     let step = c .before .before .before .before .before .climb-step in
     let x = c .before .step .given .1 in (
@@ -73,7 +73,7 @@ returns : tie.Need-returns Inv-loop μ-loop
 returns c =
     let a = c .before .before .before .before .before .before .before .before .before .before .before .before .before .args in
     let loop = c .before .before .before .before .before .before .before .loop in
-    let size = c .before .before .before .before .before .before .before .before .before .size-of in
+    let size = c .before .before .before .before .before .before .before .before .before .run-size in
     let mark = c .before .before .before .before .before .before .before .before .one-more in
     let step = c .before .before .before .before .before .climb-step in
     step-over (a .parents .now) (size .result) (mark .result) (loop .marks) (loop .c) (step .ensures .0) (step .ensures .1)
@@ -86,7 +86,7 @@ climb-spec =
     (tie.spec
     Inv-loop
     μ-loop
-    size-of-requires
+    run-size-requires
     one-more-requires
     loop-holds
     climb-step-requires

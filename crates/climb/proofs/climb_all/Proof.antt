@@ -16,13 +16,13 @@ Inv-loop parents marks₀ size c₀ marks c =
 abbrev μ-loop : tie.MeasureT-loop
 μ-loop parents marks₀ size c₀ marks c = size - c
 
-size-of-requires : tie.Need-size-of-requires Inv-loop μ-loop
-size-of-requires c κs = search needs
+run-size-requires : tie.Need-run-size-requires Inv-loop μ-loop
+run-size-requires c κs = search needs
 
 loop-holds : tie.Need-loop-holds Inv-loop μ-loop
 loop-holds c =
     let a = c .before .before .before .before .args in (
-      all-start (a .parents .now) (a .marks .now) (c .size-of .result) (c .size-of .result - 0) (c .size-of .ensures) (omega arith),
+      all-start (a .parents .now) (a .marks .now) (c .run-size .result) (c .run-size .result - 0) (c .run-size .ensures) (omega arith),
       refl,
       omega arith,
     )
@@ -40,7 +40,7 @@ returns : tie.Need-returns Inv-loop μ-loop
 returns c =
     let a = c .before .before .before .before .before .before .before .before .before .before .before .before .args in
     let loop = c .before .before .before .before .before .before .before .loop in
-    let size = c .before .before .before .before .before .before .before .before .size-of .result in
+    let size = c .before .before .before .before .before .before .before .before .run-size .result in
     all-over (a .parents .now) (loop .marks) (size - loop .c) (size - (loop .c + 1)) (loop .c) (loop .c + 1)
     (omega (arith, c .before .before .before .before .before .before .loop-test .taken)) (omega arith) (c .before .before .before .before .climb .ensures)
     (sym (c .before .is-top .ensures) ∙ not-true _ (c .if1 .taken))
@@ -56,11 +56,14 @@ loop-again : tie.Need-loop-again Inv-loop μ-loop
 loop-again c =
     let a = c .before .before .before .before .before .before .before .before .before .before .before .before .args in
     let loop = c .before .before .before .before .before .before .before .loop in
-    let size = c .before .before .before .before .before .before .before .before .size-of .result in
-    (all-next (a .parents .now) (loop .marks) (size - loop .c) (size - (loop .c + 1)) (loop .c) (loop .c + 1)
-    (omega (arith, c .before .before .before .before .before .before .loop-test .taken)) (omega arith) (c .before .before .before .before .climb .ensures)
-    (sym (c .before .is-top .ensures) ∙ not-false _ (c .if1 .left))
-    ∙ loop .inv .0, omega (arith, c .before .before .before .before .climb .kept, loop .inv .1), omega (arith, c .before .before .before .before .before .before .loop-test .taken))
+    let size = c .before .before .before .before .before .before .before .before .run-size .result in (
+      all-next (a .parents .now) (loop .marks) (size - loop .c) (size - (loop .c + 1)) (loop .c) (loop .c + 1)
+          (omega (arith, c .before .before .before .before .before .before .loop-test .taken)) (omega arith) (c .before .before .before .before .climb .ensures)
+          (sym (c .before .is-top .ensures) ∙ not-false _ (c .if1 .left))
+          ∙ loop .inv .0,
+      omega (arith, c .before .before .before .before .climb .kept, loop .inv .1),
+      omega (arith, c .before .before .before .before .before .before .loop-test .taken),
+    )
 
 same-length-2 : tie.Need-same-length-2 Inv-loop μ-loop
 same-length-2 c = c .before .loop .inv .1
@@ -69,7 +72,7 @@ returns-2 : tie.Need-returns-2 Inv-loop μ-loop
 returns-2 c =
     let a = c .before .before .before .before .before .before .args in
     let loop = c .before .loop in
-    all-end (a .parents .now) (loop .marks) (c .before .before .size-of .result - loop .c) (loop .c) (omega (arith, c .loop-test .left))
+    all-end (a .parents .now) (loop .marks) (c .before .before .run-size .result - loop .c) (loop .c) (omega (arith, c .loop-test .left))
     ∙ loop .inv .0
 
 pub climb-all-spec : {M : Type 1} → statement M
@@ -78,7 +81,7 @@ climb-all-spec =
     (tie.spec
     Inv-loop
     μ-loop
-    size-of-requires
+    run-size-requires
     loop-holds
     climb-requires
     is-top-requires

@@ -1,9 +1,7 @@
-use mathlib.Core.Path.{_≡_, refl, sym, ap, _∙_}
+use mathlib.Core.Path.{refl}
 use borrow.Author.Needs.{needs}
-use borrow.Author.Tests.{eq-eqb, ne-eqb, not-true, not-false}
-use Rattle.climb.specs.declared.Step.the-variants.{Up}
-use Rattle.climb.specs.Process.{isPending, inLineage, lacksRecord}
-use Rattle.climb.proofs.StepLaws.{chosen-1, chosen-2, chosen-3, chosen-4}
+use borrow.Author.Tests.{not-true, not-false}
+use Rattle.climb.proofs.StepLaws.{step-top, step-circle, step-lacking, step-parent}
 use Rattle.climb.proofs.climb_step.Statement.{statement}
 use Rattle.climb.proofs.climb_step.Tie as tie
 
@@ -16,8 +14,8 @@ same-length c = search needs
 returns : tie.Need-returns
 returns c =
     let a = c .before .before .before .before .before .args in (
-      sym (chosen-1 _ _ _ _ (isPending (a .size) (a .mark) (a .marks .now) (a .c)) (inLineage (a .mark) (a .marks .now) (a .c))
-          (lacksRecord (a .parents .now) (a .c)) (sym (c .before .is-pending .ensures) ∙ not-true _ (c .if1 .taken))),
+      step-top (a .parents .now) (a .size) (a .mark) (a .marks .now) (a .c) (c .before .is-pending .ensures)
+          (not-true _ (c .if1 .taken)),
       refl,
     )
 
@@ -29,11 +27,10 @@ same-length-2 c = search needs
 
 returns-2 : tie.Need-returns-2
 returns-2 c =
-    let a = c .before .before .before .before .before .before .before .before .args in (
-      sym (chosen-2 _ _ _ _ (isPending (a .size) (a .mark) (a .marks .now) (a .c)) (inLineage (a .mark) (a .marks .now) (a .c))
-          (lacksRecord (a .parents .now) (a .c))
-          (sym (c .before .before .before .before .is-pending .ensures) ∙ not-false _ (c .before .before .before .if1 .left))
-          (sym (c .before .in-lineage .ensures) ∙ c .if2 .taken)),
+    let a = c .before .before .before .before .before .before .before .before .args in
+    let if1 = c .before .before .before in (
+      step-circle (a .parents .now) (a .size) (a .mark) (a .marks .now) (a .c) (if1 .before .is-pending .ensures)
+          (not-false _ (if1 .if1 .left)) (c .before .in-lineage .ensures) (c .if2 .taken),
       refl,
     )
 
@@ -45,12 +42,12 @@ same-length-3 c = search needs
 
 returns-3 : tie.Need-returns-3
 returns-3 c =
-    let a = c .before .before .before .before .before .before .before .before .before .before .args in (
-      sym (chosen-3 _ _ _ _ (isPending (a .size) (a .mark) (a .marks .now) (a .c)) (inLineage (a .mark) (a .marks .now) (a .c))
-          (lacksRecord (a .parents .now) (a .c))
-          (sym (c .before .before .before .before .before .before .is-pending .ensures) ∙ not-false _ (c .before .before .before .before .before .if1 .left))
-          (sym (c .before .before .before .in-lineage .ensures) ∙ c .before .before .if2 .left)
-          (eq-eqb _ _ (sym (c .before .entry-at .ensures) ∙ c .if3 .taken))),
+    let a = c .before .before .before .before .before .before .before .before .before .before .args in
+    let if1 = c .before .before .before .before .before in
+    let if2 = c .before .before in (
+      step-lacking (a .parents .now) (a .size) (a .mark) (a .marks .now) (a .c) (if1 .before .is-pending .ensures)
+          (not-false _ (if1 .if1 .left)) (if2 .before .in-lineage .ensures) (if2 .if2 .left) (c .before .entry-at .ensures)
+          (c .if3 .taken),
       refl,
     )
 
@@ -62,13 +59,13 @@ same-length-4 c = search needs
 
 returns-4 : tie.Need-returns-4
 returns-4 c =
-    let a = c .before .before .before .before .before .before .before .before .before .before .before .before .before .before .args in (
-      ap Up (c .before .before .before .before .before .entry-at .ensures)
-          ∙ sym (chosen-4 _ _ _ _ (isPending (a .size) (a .mark) (a .marks .now) (a .c))
-          (inLineage (a .mark) (a .marks .now) (a .c)) (lacksRecord (a .parents .now) (a .c))
-          (sym (c .before .before .before .before .before .before .before .before .before .before .is-pending .ensures) ∙ not-false _ (c .before .before .before .before .before .before .before .before .before .if1 .left))
-          (sym (c .before .before .before .before .before .before .before .in-lineage .ensures) ∙ c .before .before .before .before .before .before .if2 .left)
-          (ne-eqb _ _ (λ e. c .before .before .before .before .if3 .left (c .before .before .before .before .before .entry-at .ensures ∙ e)))),
+    let a = c .before .before .before .before .before .before .before .before .before .before .before .before .before .before .args in
+    let if1 = c .before .before .before .before .before .before .before .before .before in
+    let if2 = c .before .before .before .before .before .before in
+    let if3 = c .before .before .before .before in (
+      step-parent (a .parents .now) (a .size) (a .mark) (a .marks .now) (a .c) (if1 .before .is-pending .ensures)
+          (not-false _ (if1 .if1 .left)) (if2 .before .in-lineage .ensures) (if2 .if2 .left) (if3 .before .entry-at .ensures)
+          (if3 .if3 .left),
       c .before .before .put-entry .ensures,
     )
 

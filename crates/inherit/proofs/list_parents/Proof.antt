@@ -38,7 +38,9 @@ put-entry-requires : tie.Need-put-entry-requires Inv-loop μ-loop
 put-entry-requires c κs = search needs
 
 add-r : tie.Need-add-r Inv-loop μ-loop
-add-r c = omega (arith, c .before .before .before .before .before .before .before .before .before .before .before .before .pre .0, c .before .before .before .before .before .before .before .loop .inv .2)
+add-r c =
+    let loop = c .before .before .before .before .before .before .before in
+    omega (arith, loop .before .before .before .before .before .pre .0, loop .loop .inv .2)
 
 loop-less : tie.Need-loop-less Inv-loop μ-loop
 loop-less c = omega (arith, c .before .before .before .before .before .before .loop-test .taken)
