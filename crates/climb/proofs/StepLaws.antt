@@ -215,6 +215,15 @@ climb-start parents m c {size} {mark} e f =
     ap (λ (n : ℕ). process parents n mark (suc n) m c) e
     ∙ ap (λ (k : ℕ). process parents (runSize parents m) k (suc (runSize parents m)) m c) f
 
+-- any bound over the number of classes gives the same
+pub bound-enough : (parents m : List ℕ) (c n : ℕ) → runSize parents m < n
+    → process parents (runSize parents m) (oneMore c) n m c ≡ climbed parents m c
+bound-enough parents m c n l =
+    process-more parents (runSize parents m) (oneMore c) (mark-some c) n (suc (runSize parents m)) m c (omega arith)
+    (omega (arith, unmarked-most m (runSize parents m)))
+    (omega (arith, unmarked-most m (runSize parents m)))
+    ∙ climb-start parents m c refl refl
+
 pub climb-up : (parents : List ℕ) (size mark : ℕ) (m : List ℕ) (c : ℕ) → (mark ≡ 0 → ⊥) → size ≤ length m
     → {x : Step} {m₂ : List ℕ} {p : ℕ} → x ≡ stepAt parents size mark m c → m₂ ≡ marksAfter mark m c x → x ≡ Up p
     → process parents size mark (suc size) m₂ p ≡ process parents size mark (suc size) m c

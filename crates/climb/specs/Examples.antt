@@ -56,7 +56,7 @@ circle-first : climbedAll (1 ∷ 0 ∷ 3 ∷ NO-RECORD ∷ []) (0 ∷ 0 ∷ 0 �
 unfolding climbed climbedAll
 circle-first = refl
 
--- a class with a mark of another climb is not climbed again, even into a circle; one past the marks ends the climb
+-- a class with a mark of another climb is not climbed again, even into a circle; one past the marks or the run ends the climb
 marked : climbed (1 ∷ 1 ∷ []) (0 ∷ 7 ∷ []) 0 ≡ leaving Top (1 ∷ 7 ∷ [])
 unfolding climbed
 marked = refl
@@ -64,6 +64,10 @@ marked = refl
 few-marks : climbed (1 ∷ 0 ∷ []) (0 ∷ []) 0 ≡ leaving Top (1 ∷ [])
 unfolding climbed
 few-marks = refl
+
+past-the-run : climbed (0 ∷ []) (0 ∷ []) 1 ≡ leaving Top (0 ∷ [])
+unfolding climbed
+past-the-run = refl
 
 -- the same without marks
 without-marks : map (λ parents. firstEnding parents (length parents))

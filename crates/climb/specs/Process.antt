@@ -13,13 +13,17 @@ use Rattle.climb.specs.declared.Ending.the-variants.{Top, Circle, NoReco
 use Rattle.climb.specs.declared.Step.{Step}
 use Rattle.climb.specs.declared.Step.the-variants.{Up, Over}
 
--- the parent number that stands for a parent without a record; no class has it
+-- the parent number that stands for a parent without a record
 abbrev pub NO-RECORD : ℕ
 NO-RECORD = 4294967295
 
--- how many classes a run has: those with a parent number and a mark, and a number below NO-RECORD
+-- a parent number that ends the climb, as any other past the run
+abbrev pub ENDS : ℕ
+ENDS = 4294967294
+
+-- how many classes a run has: those with a parent number and a mark, and a number below ENDS
 abbrev pub runSize : List ℕ → List ℕ → ℕ
-runSize parents marks = min NO-RECORD (min (length parents) (length marks))
+runSize parents marks = min ENDS (min (length parents) (length marks))
 
 -- how a climb ended, and the marks after it
 pub record Climbed : Type 0 where
@@ -52,7 +56,7 @@ process parents size mark (suc n) marks c =
     else if lacksRecord parents c then leaving (NoRecord c) marks
     else up
 
--- the climb from class c, which marks with c + 1. It goes up at most once from each class, so a larger bound would change nothing.
+-- the climb from class c, which marks with c + 1. It goes up at most once from each class: a larger bound changes nothing (`bound-enough`).
 unfoldable pub climbed : List ℕ → List ℕ → ℕ → Climbed
 climbed parents marks c = process parents (runSize parents marks) (oneMore c) (suc (runSize parents marks)) marks c
 

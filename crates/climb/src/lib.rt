@@ -7,7 +7,7 @@ use words::one_more;
 use words::put_entry;
 
 // Place `c` of a run of parent numbers tells the parent of class `c`: a class of the run by its place, a parent without a record by NO_RECORD. Any
-// other number, as ENDS, ends the climb: there is no parent, or one that is not of the run and has a record.
+// other number past the run, as ENDS, ends the climb: there is no parent, or one that is not of the run and has a record.
 pub const NO_RECORD: u32 = 4294967295;
 
 pub const ENDS: u32 = 4294967294;
@@ -31,16 +31,12 @@ fn smaller(x: usize, y: usize) -> usize
     if x < y { x } else { y }
 }
 
-// How many classes a run has: those with a parent number and a mark, and a number below NO_RECORD.
+// How many classes a run has: those with a parent number and a mark, and a number below ENDS.
 fn run_size(parents: &[u32], marks: &[u32]) -> u32
     ensures { λ n. ⌜ n ≡ runSize (now (parents .entry)) (now (marks .entry)) ⌝ }
 {
     let n = smaller(parents.len(), marks.len());
-    if n < NO_RECORD as usize {
-        n as u32
-    } else {
-        NO_RECORD
-    }
+    if n < ENDS as usize { n as u32 } else { ENDS }
 }
 
 // Is a class still to be processed? It has no mark, or that of this climb.

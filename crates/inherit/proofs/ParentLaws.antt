@@ -21,7 +21,7 @@ use Rattle.sheet.proofs.FindLaws.{row-number}
 use Rattle.after.specs.Inherited.{parentIn, climbIn, classesRefusal}
 use Rattle.climb.specs.declared.Ending.{Ending}
 use Rattle.climb.specs.declared.Ending.the-variants.{Top, Circle, NoRecord}
-use Rattle.climb.specs.Process.{NO-RECORD, runSize, Climbed, leaving, isTop, climbedAll, climbFrom, firstEnding}
+use Rattle.climb.specs.Process.{NO-RECORD, ENDS, runSize, Climbed, leaving, isTop, climbedAll, climbFrom, firstEnding}
 use Rattle.climb.proofs.StepLaws.{chosen, chosen-1, chosen-4}
 use Rattle.climb.proofs.LineLaws.{climb-all-plain}
 use Rattle.inherit.specs.Answered.{lacksRecord, Marked, refusalAt, parentNumber, parentNumbers}
@@ -30,17 +30,17 @@ use Rattle.inherit.proofs.ClassLaws.{row-kind, parent-none}
 -- how a parent is told
 module _ (O : Outside) (s : Sheet) (c : ℕ) where
   pub number-row : ofSheet s c ≡ true → c - 256 ≡ parentNumber O s c
-  number-row h = sym (ap (λ (t : Bool). if t then c - 256 else if lacksRecord O s c then NO-RECORD else 4294967294) h)
+  number-row h = sym (ap (λ (t : Bool). if t then c - 256 else if lacksRecord O s c then NO-RECORD else ENDS) h)
 
   pub number-lacking : ofSheet s c ≡ false → lacksRecord O s c ≡ true → NO-RECORD ≡ parentNumber O s c
   number-lacking h g =
-      sym (ap (λ (t : Bool). if t then c - 256 else if lacksRecord O s c then NO-RECORD else 4294967294) h
-      ∙ ap (λ (t : Bool). if t then NO-RECORD else 4294967294) g)
+      sym (ap (λ (t : Bool). if t then c - 256 else if lacksRecord O s c then NO-RECORD else ENDS) h
+      ∙ ap (λ (t : Bool). if t then NO-RECORD else ENDS) g)
 
-  pub number-ends : ofSheet s c ≡ false → lacksRecord O s c ≡ false → 4294967294 ≡ parentNumber O s c
+  pub number-ends : ofSheet s c ≡ false → lacksRecord O s c ≡ false → ENDS ≡ parentNumber O s c
   number-ends h g =
-      sym (ap (λ (t : Bool). if t then c - 256 else if lacksRecord O s c then NO-RECORD else 4294967294) h
-      ∙ ap (λ (t : Bool). if t then NO-RECORD else 4294967294) g)
+      sym (ap (λ (t : Bool). if t then c - 256 else if lacksRecord O s c then NO-RECORD else ENDS) h
+      ∙ ap (λ (t : Bool). if t then NO-RECORD else ENDS) g)
 
   row-recorded : ofSheet s c ≡ true → lacksRecord O s c ≡ false
   row-recorded h = ap (λ (t : Bool). not (eqb c 0) && not (t || isRecorded O c)) h ∙ never (eqb c 0)
@@ -185,7 +185,7 @@ module _ (O : Outside) (s : Sheet) (o : Store) (w : 8 * rows s ≡ length s) (f 
       (lt-ltb r (rows s) l) refl (ap (λ (i : ℕ). eqb i NO-RECORD) ends)
       ∙ climb-past (parentNumbers O s o) (rows s) (rows s) (r ∷ []) (getD (parentNumbers O s o) r 0) (omega (arith, ends))
     where
-      ends : getD (parentNumbers O s o) r 0 ≡ 4294967294
+      ends : getD (parentNumbers O s o) r 0 ≡ ENDS
       ends = parent-at O s o r l ∙ ap (parentNumber O s) (sym (parent-none s o (256 + r) (no-class s r h)))
 
   -- the first climb that does not end at the top, as the first no

@@ -13,7 +13,7 @@ use Rattle.machine.specs.Machine.{Store}
 use Rattle.after.specs.Inherited.{parentIn}
 use Rattle.climb.specs.declared.Ending.{Ending}
 use Rattle.climb.specs.declared.Ending.the-variants.{Top, Circle, NoRecord}
-use Rattle.climb.specs.Process.{NO-RECORD}
+use Rattle.climb.specs.Process.{NO-RECORD, ENDS}
 use Rattle.inherit.specs.declared.Refusal.{Refusal}
 
 -- a refusal's three values
@@ -32,7 +32,7 @@ refusalAt s (NoRecord r) = ask 19 r (a s r) false
 
 -- how a run of parents tells parent c: by its row, or as one without a record, or as one that ends the climb
 abbrev pub parentNumber : Outside → Sheet → ℕ → ℕ
-parentNumber O s c = if ofSheet s c then c - 256 else if lacksRecord O s c then NO-RECORD else 4294967294
+parentNumber O s c = if ofSheet s c then c - 256 else if lacksRecord O s c then NO-RECORD else ENDS
 
 -- the run of parents of the classes of all rows, as stored
 abbrev pub parentNumbers : Outside → Sheet → Store → List ℕ
