@@ -1,6 +1,5 @@
--- Classes, their parents and names; the climb through parents; methods after inheritance; constructor calls.
+-- Classes, their parents and names; the run of parents; methods after inheritance; constructor calls.
 mod ClassLaws
-mod ClimbLaws
-mod LineLaws
+mod ParentLaws
 pub mod MethodLaws
 mod CallLaws

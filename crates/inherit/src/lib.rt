@@ -2,21 +2,24 @@
 ghost use mathlib.Core.Path.{_≡_};
 ghost use mathlib.Core.Bool.{false};
 ghost use mathlib.Core.List.{List, [], _∷_};
-ghost use Prim.Native.Nat.{ℕ, suc, _+_, _*_, _≤_};
+ghost use Prim.Native.Nat.{ℕ, _*_, _≤_};
 ghost use lib.ListN.{length};
 ghost use Rattle.definition.specs.Sheet.{a, rows};
 ghost use Rattle.definition.specs.Question.{ask, firstNo};
 ghost use Rattle.outside.specs.Words.{over};
 ghost use Rattle.outside.specs.Found.{Tells};
 ghost use Rattle.store.specs.Stored.{storeOf};
-ghost use Rattle.after.specs.Inherited.{parentIn, climbIn, classesRefusal, methodsIn, checkCallIn, callsRefusal};
-ghost use Rattle.inherit.specs.Answered.{refusalOf, lacksRecord, Marked, Climbed};
+ghost use Rattle.after.specs.Inherited.{parentIn, classesRefusal, methodsIn, checkCallIn, callsRefusal};
+ghost use Rattle.inherit.specs.Answered.{refusalOf, lacksRecord, Marked, refusalAt, parentNumber, parentNumbers};
 use ast::ClassId;
 use ast::FIRST_CLASS;
 use ast::column;
-use ast::kind;
 use ast::name;
 use ast::question;
+use climb::ENDS;
+use climb::Ending;
+use climb::NO_RECORD;
+use climb::climb_all;
 use outside::records::Method;
 use outside::records::NO_METHOD;
 use outside::records::class_name;
@@ -29,6 +32,7 @@ use store::nodes::Store;
 use store::nodes::node_before;
 use store::nodes::node_word;
 use store::result;
+use words::put_entry;
 use words::word;
 
 // A question answered no: its number, the row of its position, the name asked about. Number 0: none.
@@ -75,36 +79,59 @@ fn refuse_class(sheet: &[u32], number: u32, row: u32) -> Refusal
     }
 }
 
-// The questions 18 and 19 on the class of row `r` and then on its ancestors. A class climbed through is marked with `r + 1`. One with a
-// mark of an earlier climb was climbed through to the top without a no, so the climb stops there.
-fn climb(sheet: &[u32], outside: &[u32], results: &[u32], climbed: &mut [u32], r: u32) -> Refusal
-    requires { ⌜ (length (now sheet) ≤ 8 * length (now climbed)) × (r ≤ 2048) × (Marked r (now climbed))
-        × (8 * rows (now sheet) ≡ length (now sheet))
-        × ((o : Store) (nodes : List ℕ) → Climbed (over (now outside)) (now sheet) (storeOf o (now results) nodes) (now climbed)) ⌝ }
-    ensures { λ x. ⌜ ((o : Store) (nodes : List ℕ) → refusalOf x
-        ≡ climbIn (over (now (outside .entry))) (now (sheet .entry)) (storeOf o (now (results .entry)) nodes)
-        (suc (rows (now (sheet .entry)))) [] (256 + r)) × (Marked (r + 1) (now (climbed .exit)))
-        × (x .number ≡ 0 → (o : Store) (nodes : List ℕ)
-        → Climbed (over (now (outside .entry))) (now (sheet .entry)) (storeOf o (now (results .entry)) nodes) (now (climbed .exit))) ⌝ }
+// How the climb over the run of parents ended, as a no of question 18 or 19 or as none.
+fn refuse_ending(sheet: &[u32], ending: Ending) -> Refusal
+    ensures { λ x. ⌜ refusalOf x ≡ refusalAt (now (sheet .entry)) ending ⌝ }
 {
-    let mut c = FIRST_CLASS + r;
-    while is_class_row(sheet, ClassId(c)) {
-        let row = c - FIRST_CLASS;
-        let mark = climbed[row as usize];
-        if mark == r + 1 {
-            return refuse_class(sheet, question::NO_CYCLE, row);
-        }
-        if mark != 0 {
-            return NO_REFUSAL;
-        }
-        let up = parent_of(sheet, results, ClassId(c));
-        if lacks_record(sheet, outside, up) {
-            return refuse_class(sheet, question::PARENT_RECORD, row);
-        }
-        climbed[row as usize] = r + 1;
-        c = up.0;
+    match ending {
+        Ending::Top => NO_REFUSAL,
+        Ending::Circle(row) => refuse_class(sheet, question::NO_CYCLE, row),
+        Ending::NoRecord(row) => refuse_class(sheet, question::PARENT_RECORD, row),
     }
-    NO_REFUSAL
+}
+
+// How a run of parents tells the parent `up` of a class: one of the sheet by its row, another by whether it has a record.
+fn parent_number(sheet: &[u32], outside: &[u32], up: ClassId) -> u32
+    ensures { λ x. ⌜ x ≡ parentNumber (over (now (outside .entry))) (now (sheet .entry)) (up .0) ⌝ }
+{
+    if is_class_row(sheet, up) {
+        return up.0 - FIRST_CLASS;
+    }
+    if lacks_record(sheet, outside, up) {
+        return NO_RECORD;
+    }
+    ENDS
+}
+
+// Writes the run of parents: place `r` tells the parent of the class of row `r`. A row of another kind has none.
+fn list_parents(sheet: &[u32], outside: &[u32], results: &[u32], parents: &mut [u32])
+    requires { ⌜ (length (now sheet) ≤ 16384) × (8 * rows (now sheet) ≡ length (now sheet)) × (length (now parents) ≡ rows (now sheet)) ⌝ }
+    ensures { λ _. ⌜ ((o : Store) (nodes : List ℕ) → now (parents .exit)
+        ≡ parentNumbers (over (now (outside .entry))) (now (sheet .entry)) (storeOf o (now (results .entry)) nodes)) ⌝ }
+{
+    let mut r: u32 = 0;
+    while (r as usize) < sheet.len() / 8 {
+        let up = parent_of(sheet, results, ClassId(FIRST_CLASS + r));
+        put_entry(parents, r, parent_number(sheet, outside, up));
+        r += 1;
+    }
+}
+
+// The first no of the questions 18 and 19, with words lent for the run of parents.
+fn check_parents(
+    sheet: &[u32],
+    outside: &[u32],
+    results: &[u32],
+    parents: &mut [u32],
+    climbed: &mut [u32],
+) -> Refusal
+    requires { ⌜ (length (now sheet) ≤ 16384) × (length (now sheet) ≤ 8 * length (now climbed)) × (Marked 0 (now climbed))
+        × (8 * rows (now sheet) ≡ length (now sheet)) × (length (now parents) ≡ rows (now sheet)) ⌝ }
+    ensures { λ x. ⌜ ((o : Store) (nodes : List ℕ) → refusalOf x
+        ≡ classesRefusal (over (now (outside .entry))) (now (sheet .entry)) (storeOf o (now (results .entry)) nodes)) ⌝ }
+{
+    list_parents(sheet, outside, results, parents);
+    refuse_ending(sheet, climb_all(parents, climbed))
 }
 
 // The first no of the questions 18 and 19, classes in row order.
@@ -114,17 +141,9 @@ fn check_classes(sheet: &[u32], outside: &[u32], results: &[u32], climbed: &mut 
     ensures { λ x. ⌜ ((o : Store) (nodes : List ℕ) → refusalOf x
         ≡ classesRefusal (over (now (outside .entry))) (now (sheet .entry)) (storeOf o (now (results .entry)) nodes)) ⌝ }
 {
-    let mut r: u32 = 0;
-    while (r as usize) < sheet.len() / 8 {
-        if word(sheet, r, column::KIND) == kind::CLASS {
-            let x = climb(sheet, outside, results, climbed, r);
-            if x.number != 0 {
-                return x;
-            }
-        }
-        r += 1;
-    }
-    NO_REFUSAL
+    let mut parents = [0u32; 2048];
+    let n = sheet.len() / 8;
+    check_parents(sheet, outside, results, &mut parents[..n], climbed)
 }
 
 // The method of name `n` that a class has, its own or inherited.
