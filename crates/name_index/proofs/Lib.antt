@@ -1,0 +1,8 @@
+-- Words from a place on; the walk over words; what a table of names holds; question 2 through it.
+pub mod ValueLaws
+pub mod TurnLaws
+pub mod WalkLaws
+pub mod IndexLaws
+pub mod UnlikeLaws
+pub mod FixedLaws
+pub mod QuestionLaws

@@ -1,0 +1,106 @@
+-- `name_index::index_names` meets its contract: each refusal is one of the parts of question 2, and entering the names decides
+-- the rest. Assumes nothing.
+use mathlib.Core.Path.{sym, _∙_}
+use Prim.Native.Nat.{_+_, _<_}
+use native.Mathlib.Omega.{arith}
+use borrow.Author.Tests.{not-true, not-false}
+use borrow.Author.Needs.{needs}
+use lib.Seq.{length-take-le}
+use Rattle.name_index.proofs.QuestionLaws.{refused, accepted}
+use Rattle.names.proofs.Question.{few-of, unfit-long, unfit-open, unfit-sizes, fit-rest}
+use Rattle.name_index.proofs.index_names.Statement.{statement}
+use Rattle.name_index.proofs.index_names.Tie as tie
+
+returns : tie.Need-returns
+returns c = refused (unfit-long (c .before .before .before .before .args .names .now) (omega arith))
+
+is-ended-requires : tie.Need-is-ended-requires
+is-ended-requires c κs = search needs
+
+returns-2 : tie.Need-returns-2
+returns-2 c = refused (unfit-open (c .before .before .before .before .before .before .args .names .now) (sym (c .before .is-ended .ensures) ∙ not-true _ (c .if2 .taken)))
+
+sizes-fit-requires : tie.Need-sizes-fit-requires
+sizes-fit-requires c κs = search needs
+
+returns-3 : tie.Need-returns-3
+returns-3 c = refused (unfit-sizes (c .before .before .before .before .before .before .before .before .args .names .now) (sym (c .before .sizes-fit .ensures) ∙ not-true _ (c .if3 .taken)))
+
+find-starts-requires : tie.Need-find-starts-requires
+find-starts-requires c κs =
+    let few = few-of (c .before .before .before .before .before .before .before .before .before .args .names .now) (sym (c .before .before .sizes-fit .ensures) ∙ not-false _ (c .before .if3 .left)) in
+    (omega arith, omega (arith, few, c .before .before .before .before .before .before .before .before .before .pre .0))
+
+enter-fixed-requires : tie.Need-enter-fixed-requires
+enter-fixed-requires c κs = search needs
+
+add-enter-listed : tie.Need-add-enter-listed
+add-enter-listed c = search needs
+
+slice-reshare-prefix-enter-listed : tie.Need-slice-reshare-prefix-enter-listed
+slice-reshare-prefix-enter-listed c = search needs
+
+slice-aggregate-enter-listed : tie.Need-slice-aggregate-enter-listed
+slice-aggregate-enter-listed c =
+    sym (length-take-le (c .before .before .before .before .before .before .before .before .find-starts .result + 1) (c .before .before .before .before .before .before .before .before .find-starts .last .1 .0) (omega (arith, c .before .before .before .before .before .before .before .before .find-starts .ensures .1, c .before .before .before .before .before .before .before .before .find-starts .kept .1 .0)))
+
+enter-listed-requires : tie.Need-enter-listed-requires
+enter-listed-requires c κs =
+    let table = c .before .before .before .before .before .before .before .before .find-starts .last .1 .0 in
+    let few : c .before .before .before .before .before .before .before .before .find-starts .result < 1025 = omega (arith, c .before .before .before .before .before .before .before .before .find-starts .ensures .1, c .before .before .before .before .before .before .before .before .before .before .before .before .before .before .before .before .before .before .pre .0) in
+    let size = length-take-le (c .before .before .before .before .before .before .before .before .find-starts .result + 1) table (omega (arith, c .before .before .before .before .before .before .before .before .find-starts .kept .1 .0, few, c .before .before .before .before .before .before .before .before .before .before .before .before .before .before .before .before .before .before .pre .0)) in
+    (c .before .before .before .before .enter-fixed .ensures, c .before .before .before .before .before .before .before .before .find-starts .ensures .2, omega (arith, size, few))
+
+same-length : tie.Need-same-length
+same-length c = search needs
+
+same-length-2 : tie.Need-same-length-2
+same-length-2 c = search needs
+
+returns-4 : tie.Need-returns-4
+returns-4 c =
+    let names = c .before .before .before .before .before .before .before .before .before .before .before .before .before .before .before .before .before .before .before .before .before .before .args .names .now in
+    let rest =
+    fit-rest names (omega arith) (sym (c .before .before .before .before .before .before .before .before .before .before .before .before .before .before .before .before .before .is-ended .ensures) ∙ not-false _ (c .before .before .before .before .before .before .before .before .before .before .before .before .before .before .before .before .if2 .left)) (sym (c .before .before .before .before .before .before .before .before .before .before .before .before .before .before .before .sizes-fit .ensures) ∙ not-false _ (c .before .before .before .before .before .before .before .before .before .before .before .before .before .before .if3 .left)) in
+    refused (rest ∙ sym (c .before .before .before .enter-listed .ensures .0) ∙ not-true _ (c .if4 .taken))
+
+add-result : tie.Need-add-result
+add-result c = search needs
+
+same-length-3 : tie.Need-same-length-3
+same-length-3 c = search needs
+
+same-length-4 : tie.Need-same-length-4
+same-length-4 c = search needs
+
+returns-5 : tie.Need-returns-5
+returns-5 c =
+    let names = c .before .before .before .before .before .before .before .before .before .before .before .before .before .before .before .before .before .before .before .before .before .before .args .names .now in
+    let rest =
+    fit-rest names (omega arith) (sym (c .before .before .before .before .before .before .before .before .before .before .before .before .before .before .before .before .before .is-ended .ensures) ∙ not-false _ (c .before .before .before .before .before .before .before .before .before .before .before .before .before .before .before .before .if2 .left)) (sym (c .before .before .before .before .before .before .before .before .before .before .before .before .before .before .before .sizes-fit .ensures) ∙ not-false _ (c .before .before .before .before .before .before .before .before .before .before .before .before .before .before .if3 .left)) in
+    let fit = sym (c .before .before .before .enter-listed .ensures .0) ∙ not-false _ (c .if4 .left) in
+    accepted (rest ∙ fit) (c .before .before .before .before .before .before .before .before .before .before .before .before .find-starts .ensures .0) (omega (arith, c .before .before .before .before .before .before .before .before .before .before .before .before .find-starts .ensures .1, c .before .before .before .before .before .before .before .before .before .before .before .before .before .before .before .before .before .before .before .before .before .before .pre .0)) (c .before .before .before .before .before .before .before .before .before .before .before .before .find-starts .ensures .2)
+    (c .before .before .before .enter-listed .ensures .1 (not-false _ (c .if4 .left)))
+
+pub index-names-spec : {M : Type 1} → statement M
+index-names-spec =
+    tie.close
+    (tie.spec
+    returns
+    is-ended-requires
+    returns-2
+    sizes-fit-requires
+    returns-3
+    find-starts-requires
+    enter-fixed-requires
+    add-enter-listed
+    slice-reshare-prefix-enter-listed
+    slice-aggregate-enter-listed
+    enter-listed-requires
+    same-length
+    same-length-2
+    returns-4
+    add-result
+    same-length-3
+    same-length-4
+    returns-5)

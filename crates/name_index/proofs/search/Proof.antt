@@ -1,0 +1,105 @@
+-- `name_index::search` meets its contract. Invariant: the walk has passed the places read. Assumes nothing.
+use mathlib.Core.Path.{sym, ap, _∙_}
+use Prim.Native.Nat.{ℕ, _-_, _≤_}
+use native.Mathlib.Omega.{arith}
+use Rattle.definition.specs.Names.{sameName}
+use Rattle.name_index.proofs.WalkLaws.{Passed, passed-none, passed-all, passed-free, passed-here, passed-on}
+use Rattle.name_index.proofs.TurnLaws.{turned-length, turned-at}
+use Rattle.name_index.specs.Index.{turned}
+use Rattle.names.specs.Listed.{numbered, named}
+use Rattle.name_index.proofs.search.Statement.{statement}
+use Rattle.name_index.proofs.search.Tie as tie
+
+abbrev Inv-loop : tie.InvT-loop
+Inv-loop index first name names table read₀ read =
+    (read ≤ 2048) × Passed (numbered names) name (turned first index) read
+
+abbrev μ-loop : tie.MeasureT-loop
+μ-loop index first name names table read₀ read = 2048 - read
+
+loop-holds : tie.Need-loop-holds Inv-loop μ-loop
+loop-holds c = (omega arith, passed-none _ _ _)
+
+add-number : tie.Need-add-number Inv-loop μ-loop
+add-number c = omega arith
+
+mul-number : tie.Need-mul-number Inv-loop μ-loop
+mul-number c = omega arith
+
+shared-slice-read-number : tie.Need-shared-slice-read-number Inv-loop μ-loop
+shared-slice-read-number c = omega arith
+
+add-read : tie.Need-add-read Inv-loop μ-loop
+add-read c = omega arith
+
+cast-t14 : tie.Need-cast-t14 Inv-loop μ-loop
+cast-t14 c = omega arith
+
+returns : tie.Need-returns Inv-loop μ-loop
+returns c =
+    let t = c .before .before .before .before .before .before .before .before .args .index .now in
+    let first = c .before .before .before .before .before .before .before .before .args .first in
+    let read = c .before .before .before .loop .read in
+    let here = turned-at t first (c .before .before .before .before .before .before .before .before .pre .0) (c .before .before .before .before .before .before .before .before .pre .1) read (omega arith) in
+    passed-free (c .before .before .before .loop .inv .1) (omega (arith, turned-length t first (c .before .before .before .before .before .before .before .before .pre .0) (c .before .before .before .before .before .before .before .before .pre .1))) (here ∙ c .if1 .taken)
+
+is-name-of-requires : tie.Need-is-name-of-requires Inv-loop μ-loop
+is-name-of-requires c κs = (c .before .before .before .before .before .before .before .before .pre .2, omega arith)
+
+cast-t16 : tie.Need-cast-t16 Inv-loop μ-loop
+cast-t16 c = omega arith
+
+returns-2 : tie.Need-returns-2 Inv-loop μ-loop
+returns-2 c =
+    let t = c .before .before .before .before .before .before .before .before .before .before .args .index .now in
+    let first = c .before .before .before .before .before .before .before .before .before .before .args .first in
+    let read = c .before .before .before .before .before .loop .read in
+    let here = turned-at t first (c .before .before .before .before .before .before .before .before .before .before .pre .0) (c .before .before .before .before .before .before .before .before .before .before .pre .1) read (omega arith) in
+    let same = sym (c .if2 .taken) ∙ c .before .is-name-of .ensures in
+    let end =
+    passed-here (c .before .before .before .before .before .loop .inv .1) (omega (arith, turned-length t first (c .before .before .before .before .before .before .before .before .before .before .pre .0) (c .before .before .before .before .before .before .before .before .before .before .pre .1))) (λ e. c .before .before .if1 .left (sym here ∙ e))
+    (ap (λ (n : ℕ). sameName (c .before .before .before .before .before .before .before .before .before .before .args .name .now) (named (numbered (c .before .before .before .before .before .before .before .before .before .before .args .names .now)) n)) here ∙ sym same) in
+    (sym here ∙ end .0, end .1)
+
+loop-less : tie.Need-loop-less Inv-loop μ-loop
+loop-less c = omega arith
+
+loop-again : tie.Need-loop-again Inv-loop μ-loop
+loop-again c =
+    let t = c .before .before .before .before .before .before .before .before .before .before .args .index .now in
+    let first = c .before .before .before .before .before .before .before .before .before .before .args .first in
+    let read = c .before .before .before .before .before .loop .read in
+    let here = turned-at t first (c .before .before .before .before .before .before .before .before .before .before .pre .0) (c .before .before .before .before .before .before .before .before .before .before .pre .1) read (omega arith) in
+    let same = sym (c .if2 .left) ∙ c .before .is-name-of .ensures in (
+      omega arith,
+      passed-on (c .before .before .before .before .before .loop .inv .1) (omega (arith, turned-length t first (c .before .before .before .before .before .before .before .before .before .before .pre .0) (c .before .before .before .before .before .before .before .before .before .before .pre .1))) (λ e. c .before .before .if1 .left (sym here ∙ e))
+          (ap (λ (n : ℕ). sameName (c .before .before .before .before .before .before .before .before .before .before .args .name .now) (named (numbered (c .before .before .before .before .before .before .before .before .before .before .args .names .now)) n)) here ∙ sym same),
+    )
+
+cast-t17 : tie.Need-cast-t17 Inv-loop μ-loop
+cast-t17 c = omega arith
+
+returns-3 : tie.Need-returns-3 Inv-loop μ-loop
+returns-3 c =
+    passed-all (c .before .loop .inv .1) (omega (arith, turned-length (c .before .before .before .before .before .before .args .index .now) (c .before .before .before .before .before .before .args .first) (c .before .before .before .before .before .before .pre .0) (c .before .before .before .before .before .before .pre .1)))
+
+pub search-spec : {M : Type 1} → statement M
+search-spec =
+    tie.close
+    (tie.spec
+    Inv-loop
+    μ-loop
+    loop-holds
+    add-number
+    mul-number
+    shared-slice-read-number
+    add-read
+    cast-t14
+    returns
+    is-name-of-requires
+    cast-t16
+    returns-2
+    loop-less
+    loop-again
+    cast-t17
+    returns-3)

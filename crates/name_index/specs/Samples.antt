@@ -1,0 +1,44 @@
+-- Values and searches, computed.
+use mathlib.Core.Path.{_≡_, refl}
+use mathlib.Core.List.{[], _∷_, map}
+use Rattle.definition.specs.Bytes.{bytes}
+use Rattle.definition.specs.Names.{fixed}
+use Rattle.name_index.specs.Index.{fnv, placeOf, indexOf, find}
+
+value-none : fnv [] ≡ 0x811c9dc5
+value-none = refl
+
+value-a : fnv (bytes "a") ≡ 0xe40c292c
+value-a = refl
+
+value-foobar : fnv (bytes "foobar") ≡ 0xbf9cf968
+value-foobar = refl
+
+value-zero : fnv (0 ∷ []) ≡ 0x050c5d1f
+value-zero = refl
+
+value-high : fnv (0xff ∷ 0x80 ∷ []) ≡ 0xee1eea4a
+value-high = refl
+
+-- two names of one value
+value-costarring : fnv (bytes "costarring") ≡ 0x5e4daa9d
+value-costarring = refl
+
+value-liquid : fnv (bytes "liquid") ≡ 0x5e4daa9d
+value-liquid = refl
+
+fixed-places :
+    map placeOf fixed
+    ≡ 1668 ∷ 1255 ∷ 88 ∷ 1222 ∷ 796 ∷ 1113 ∷ 1897 ∷ 1768 ∷ 1993 ∷ 579 ∷ 827 ∷ 108 ∷ 1137 ∷ 135 ∷ 1780 ∷ 1361 ∷ 958 ∷ 1598 ∷ 199 ∷ 1708 ∷ 73
+    ∷ 932 ∷ 883 ∷ 1591 ∷ []
+fixed-places = refl
+
+-- the second of two names of one value stands a place further
+
+find-first : find (bytes "costarring\nliquid\n") (bytes "costarring") ≡ (25, 1)
+unfolding indexOf
+find-first = refl
+
+find-second : find (bytes "costarring\nliquid\n") (bytes "liquid") ≡ (26, 2)
+unfolding indexOf
+find-second = refl
