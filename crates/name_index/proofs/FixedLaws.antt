@@ -1,7 +1,7 @@
 -- The fixed names, entered by their places.
-use mathlib.Core.Path.{_≡_, refl, sym, ap, _∙_}
+use mathlib.Core.Path.{_≡_, refl, _∙_}
 use mathlib.Core.List.{List, [], _∷_, map}
-use Prim.Native.Nat.{ℕ, suc, _+_, _<_}
+use Prim.Native.Nat.{ℕ, _+_, _<_}
 use native.Mathlib.Omega.{arith}
 use lib.ListN.{getD, take, List·getD-map}
 use Rattle.definition.specs.Names.{fixed}
@@ -22,9 +22,5 @@ module _ (k : ℕ) (inside : k < 24) where
   pub fixed-inside : getD fixedPlaces k 0 < 2048
   fixed-inside = omega (arith, fixed-place)
 
-  pub fixed-next : enter (indexOf (take k fixed)) (getD fixedPlaces k 0) (k + 1) ≡ indexOf (take (k + 1) fixed)
-  fixed-next =
-      let n : k + 1 ≡ suc (0 + k) = omega arith in
-      ap (λ (p : ℕ). enter (indexOf (take k fixed)) p (k + 1)) fixed-place
-      ∙ ap (enter (indexOf (take k fixed)) (placeOf (getD fixed k []))) n
-      ∙ sym (entered-one [] fixed k inside refl)
+  pub fixed-next : {t : List ℕ} → t ≡ indexOf (take k fixed) → enter t (getD fixedPlaces k 0) (k + 1) ≡ indexOf (take (k + 1) fixed)
+  fixed-next table = entered-one [] fixed k inside refl table fixed-place (omega arith)

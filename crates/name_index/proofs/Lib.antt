@@ -2,7 +2,9 @@
 pub mod ValueLaws
 pub mod TurnLaws
 pub mod WalkLaws
+pub mod StepLaws
 pub mod IndexLaws
 pub mod UnlikeLaws
 pub mod FixedLaws
 pub mod QuestionLaws
+pub mod FindLaws

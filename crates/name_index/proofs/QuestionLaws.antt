@@ -11,7 +11,7 @@ use Rattle.definition.specs.Basics.{if_then_else_}
 use Rattle.definition.specs.Names.{Name, listed, namesFit}
 use Rattle.definition.proofs.Lists.Tests.{T-true}
 use Rattle.names.specs.Listed.{starts, numbered}
-use Rattle.name_index.specs.Index.{indexOf, searched, find}
+use Rattle.name_index.specs.Index.{placeOf, turned, indexOf, walk, searched, find}
 use Rattle.name_index.specs.Indexed.{Indexed}
 
 module _ {ns : List ℕ} {t i : List ℕ} where
@@ -45,12 +45,20 @@ module _ {ns : List ℕ} {k : ℕ} {t i : List ℕ} (x : Indexed ns k t i) where
   pub some-fit : (k ≡ 0 → ⊥) → namesFit ns ≡ true
   some-fit f = sym passed ∙ ap not (ne-eqb k 0 f)
 
-  -- what is found is nothing in a list that is refused,
-  pub find-none : (b : Name) → k ≡ 0 → find ns b ≡ (0, 0)
-  find-none b z = ap (λ (u : Bool). if u then searched (numbered ns) (indexOf (numbered ns)) b else (0, 0)) (sym passed ∙ ap not (eq-eqb k 0 z))
+  find-by : (b : Name) {u : Bool} → namesFit ns ≡ u → find ns b ≡ (if u then searched (numbered ns) (indexOf (numbered ns)) b else (0, 0))
+  find-by b e = ap (λ (u : Bool). if u then searched (numbered ns) (indexOf (numbered ns)) b else (0, 0)) e
 
-  -- and what a search in the index finds in another
-  pub find-some : (b : Name) → (k ≡ 0 → ⊥) → find ns b ≡ searched (numbered ns) i b
-  find-some b f =
-      ap (λ (u : Bool). if u then searched (numbered ns) (indexOf (numbered ns)) b else (0, 0)) (some-fit f)
-      ∙ ap (λ (v : List ℕ). searched (numbered ns) v b) (sym (x .held (some-fit f)))
+  -- nothing is found in a list that is refused,
+  pub find-none : (b : Name) → k ≡ 0 → (0 ≡ find ns b .0) × (0 ≡ find ns b .1)
+  find-none b z =
+      let e = find-by b (sym passed ∙ ap not (eq-eqb k 0 z)) in
+      (sym (ap (λ (a : ℕ × ℕ). a .0) e), sym (ap (λ (a : ℕ × ℕ). a .1) e))
+
+  -- in another what a walk from the first place of these bytes finds in the index
+  pub find-some : (b : Name) → (k ≡ 0 → ⊥) → {p n m : ℕ} → p ≡ placeOf b
+      → (n ≡ walk (numbered ns) b (turned p i) .0) × (m ≡ walk (numbered ns) b (turned p i) .1) → (n ≡ find ns b .0) × (m ≡ find ns b .1)
+  find-some b f {p} first walked =
+      let e : walk (numbered ns) b (turned p i) ≡ find ns b =
+      ap (λ (q : ℕ). walk (numbered ns) b (turned q i)) first ∙ ap (λ (v : List ℕ). searched (numbered ns) v b) (x .held (some-fit f))
+      ∙ sym (find-by b (some-fit f)) in
+      (walked .0 ∙ ap (λ (a : ℕ × ℕ). a .0) e, walked .1 ∙ ap (λ (a : ℕ × ℕ). a .1) e)

@@ -35,7 +35,7 @@ any-last : {A : Type 0} (p : A → Bool) (xs : List A) (y : A) → p y ≡ false
 any-last p [] y e = ap (λ (t : Bool). t || false) e
 any-last p (x ∷ xs) y e = ap (λ (t : Bool). p x || t) (any-last p xs y e)
 
-unlike-not : (xs : List Name) (y : Name) (ys : List Name) (i : ℕ) → i < length xs → sameName (getD xs i []) y ≡ true
+pub unlike-not : (xs : List Name) (y : Name) (ys : List Name) (i : ℕ) → i < length xs → sameName (getD xs i []) y ≡ true
     → unlike sameName (xs ++ y ∷ ys) ≡ false
 unlike-not [] y ys i h e = absurd (omega arith)
 unlike-not (x ∷ xs) y ys zero h e = ap (λ (t : Bool). not t && unlike sameName (xs ++ y ∷ ys)) (any-there (sameName x) xs y ys e)
@@ -84,8 +84,13 @@ module _ (F L : List Name) (k : ℕ) (inside : k < length L) {y : Name} (here : 
   size = length-append F (take k L) ∙ ap (λ (n : ℕ). length F + n) (length-take-le k L (omega arith))
 
   -- it is entered under its number,
-  pub entered-one : indexOf (F ++ take (k + 1) L) ≡ enter (indexOf (F ++ take k L)) (placeOf y) (suc (length F + k))
-  entered-one = ap indexOf so-far ∙ index-next (F ++ take k L) y ∙ ap (λ (n : ℕ). enter (indexOf (F ++ take k L)) (placeOf y) (suc n)) size
+  pub entered-one : {t : List ℕ} {p n : ℕ} → t ≡ indexOf (F ++ take k L) → p ≡ placeOf y → n ≡ length F + k + 1
+      → enter t p n ≡ indexOf (F ++ take (k + 1) L)
+  entered-one {t} {p} {n} table first number =
+      let m : n ≡ suc (length (F ++ take k L)) = omega (arith, number, size) in
+      ap (enter t p) m ∙ ap (λ (q : ℕ). enter t q (suc (length (F ++ take k L)))) first
+      ∙ ap (λ (v : List ℕ). enter v (placeOf y) (suc (length (F ++ take k L)))) table
+      ∙ sym (index-next (F ++ take k L) y) ∙ sym (ap indexOf so-far)
 
   -- after n was found where it was looked for
   module _ (room : length F + length L ≤ 2048) {t : List ℕ} {p n : ℕ} (table : t ≡ indexOf (F ++ take k L)) (first : p ≡ placeOf y)

@@ -34,7 +34,6 @@ fixed-places :
 fixed-places = refl
 
 -- the second of two names of one value stands a place further
-
 find-first : find (bytes "costarring\nliquid\n") (bytes "costarring") ≡ (25, 1)
 unfolding indexOf
 find-first = refl
@@ -42,3 +41,35 @@ find-first = refl
 find-second : find (bytes "costarring\nliquid\n") (bytes "liquid") ≡ (26, 2)
 unfolding indexOf
 find-second = refl
+
+-- a run around the end: kkv stands at place 2,047, lqk, of the same place, at 0, and lol, of place 0, at 1
+find-around : find (bytes "kkv\nlqk\nlol\n") (bytes "lqk") ≡ (26, 2)
+unfolding indexOf
+find-around = refl
+
+find-pushed : find (bytes "kkv\nlqk\nlol\n") (bytes "lol") ≡ (27, 2)
+unfolding indexOf
+find-pushed = refl
+
+-- mvo, of place 2,047 too, is absent: the free place 2 is the fourth that is read
+find-absent : find (bytes "kkv\nlqk\nlol\n") (bytes "mvo") ≡ (0, 4)
+unfolding indexOf
+find-absent = refl
+
+-- no bytes, and an end byte, are absent from every list
+find-empty : find (bytes "kkv\n") [] ≡ (0, 1)
+unfolding indexOf
+find-empty = refl
+
+find-end : find (bytes "kkv\n") (10 ∷ []) ≡ (0, 1)
+unfolding indexOf
+find-end = refl
+
+-- a fixed name in a list of none
+find-fixed : find [] (bytes "MAIN_UNIT") ≡ (24, 1)
+unfolding indexOf
+find-fixed = refl
+
+-- x is a fixed name, so this list is refused
+find-refused : find (bytes "kkv\nx\n") (bytes "kkv") ≡ (0, 0)
+find-refused = refl

@@ -73,3 +73,7 @@ module _ (w : List ℕ) where
       let all-sized = left-true (namesFew w && namesShort w && namesSized w) (namesEnded w) ended in
       let short = left-true (namesFew w && namesShort w) (namesSized w) all-sized in
       (leb-true (length (listed w)) 1024 (left-true (namesFew w) (namesShort w) short), leb-true (length w) 32768 (right-true (namesFew w) (namesShort w) short))
+
+  -- and its names are unlike
+  pub fit-unlike : namesFit w ≡ true → namesUnlike w ≡ true
+  fit-unlike = right-true (namesFew w && namesShort w && namesSized w && namesEnded w) (namesUnlike w)

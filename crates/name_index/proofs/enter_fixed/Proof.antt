@@ -1,14 +1,13 @@
 -- `name_index::enter_fixed` meets its contract. Invariant: the index is that of the first `k` fixed names. Assumes nothing.
-use mathlib.Core.List.{List}
 use mathlib.Core.Path.{_≡_, sym, ap, _∙_}
-use Prim.Native.Nat.{ℕ, _+_, _-_, _≤_}
+use Prim.Native.Nat.{ℕ, _-_, _≤_}
 use native.Mathlib.Omega.{arith}
 use lib.Seq.{take-all}
-use lib.ListN.{length, getD, take, length-replicate}
+use lib.ListN.{length, take, length-replicate}
 use Rattle.definition.specs.Names.{fixed}
 use Rattle.name_index.proofs.IndexLaws.{index-none}
-use Rattle.name_index.proofs.FixedLaws.{fixedPlaces, fixed-inside, fixed-next}
-use Rattle.name_index.specs.Index.{enter, indexOf}
+use Rattle.name_index.proofs.FixedLaws.{fixed-inside, fixed-next}
+use Rattle.name_index.specs.Index.{indexOf}
 use Rattle.name_index.proofs.enter_fixed.Statement.{statement}
 use Rattle.name_index.proofs.enter_fixed.Tie as tie
 
@@ -19,7 +18,9 @@ abbrev μ-loop : tie.MeasureT-loop
 μ-loop index₀ k₀ index k = 24 - k
 
 loop-holds : tie.Need-loop-holds Inv-loop μ-loop
-loop-holds c = (omega arith, ap length (c .before .pre) ∙ length-replicate {A = ℕ} 2048 0, c .before .pre ∙ sym index-none)
+loop-holds c =
+    let start = c .before in
+    (omega arith, ap length (start .pre) ∙ length-replicate {A = ℕ} 2048 0, start .pre ∙ sym index-none)
 
 mul-enter-number : tie.Need-mul-enter-number Inv-loop μ-loop
 mul-enter-number c = omega arith
@@ -47,12 +48,10 @@ loop-less c = omega arith
 
 loop-again : tie.Need-loop-again Inv-loop μ-loop
 loop-again c =
-    let i = c .before .before .before .before .before .loop .k in (
+    let loop = c .before .before .before .before .before .loop in (
       omega arith,
-      omega (arith, c .before .before .enter-number .kept .0, c .before .before .before .before .before .loop .inv .1),
-      c .before .before .enter-number .ensures
-          ∙ ap (λ (t : List ℕ). enter t (getD fixedPlaces i 0) (i + 1)) (c .before .before .before .before .before .loop .inv .2)
-          ∙ fixed-next i (omega arith),
+      omega (arith, c .before .before .enter-number .kept .0, loop .inv .1),
+      c .before .before .enter-number .ensures ∙ fixed-next (loop .k) (omega arith) (loop .inv .2),
     )
 
 same-length : tie.Need-same-length Inv-loop μ-loop

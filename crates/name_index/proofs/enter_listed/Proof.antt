@@ -5,16 +5,15 @@ use mathlib.Core.List.{List}
 use mathlib.Core.List.{_++_}
 use mathlib.Core.Bool.{true}
 use mathlib.Core.Path.{_≡_, refl, sym, ap, _∙_}
-use Prim.Native.Nat.{ℕ, suc, _+_, _-_, _≤_}
+use Prim.Native.Nat.{_+_, _-_, _≤_}
 use native.Mathlib.Omega.{arith}
 use lib.Seq.{take-all}
 use lib.ListN.{length, take}
 use Rattle.definition.proofs.Lists.Tests.{T-true}
-use Rattle.definition.specs.Names.{fixed, listed, sameName}
+use Rattle.definition.specs.Names.{Name, fixed, listed, sameName}
 use Rattle.definition.specs.Basics.{unlike}
 use Rattle.name_index.proofs.UnlikeLaws.{named-twice, named-once, entered-one}
 use Rattle.name_index.proofs.IndexLaws.{index-size}
-use Rattle.name_index.specs.Index.{placeOf, enter}
 use Rattle.names.proofs.Laws.{table-size}
 use Rattle.name_index.specs.Index.{indexOf}
 use Rattle.name_index.proofs.enter_listed.Statement.{statement}
@@ -22,14 +21,20 @@ use Rattle.name_index.proofs.enter_listed.Tie as tie
 
 abbrev Inv-loop : tie.InvT-loop
 Inv-loop index₀ names table k₀ index k =
-    (k + 1 ≤ length table) × (length index ≡ 2048) × (index ≡ indexOf (fixed ++ take k (listed names))) × (unlike sameName (fixed ++ take k (listed names)) ≡ true)
+    (k + 1 ≤ length table) × (length index ≡ 2048) × (index ≡ indexOf (fixed ++ take k (listed names)))
+    × (unlike sameName (fixed ++ take k (listed names)) ≡ true)
 
 abbrev μ-loop : tie.MeasureT-loop
 μ-loop index₀ names table k₀ index k = length table - k
 
 loop-holds : tie.Need-loop-holds Inv-loop μ-loop
 loop-holds c =
-    (omega (arith, table-size (c .before .before .before .args .names .now) (c .before .before .before .pre .1)), ap length (c .before .before .before .pre .0) ∙ index-size fixed (omega arith), c .before .before .before .pre .0, refl)
+    let start = c .before .before .before in (
+      omega (arith, table-size (start .args .names .now) (start .pre .1)),
+      ap length (start .pre .0) ∙ index-size fixed (omega arith),
+      start .pre .0,
+      refl,
+    )
 
 add-loop : tie.Need-add-loop Inv-loop μ-loop
 add-loop c = omega arith
@@ -41,19 +46,24 @@ first-place-requires : tie.Need-first-place-requires Inv-loop μ-loop
 first-place-requires c κs = tt
 
 search-requires : tie.Need-search-requires Inv-loop μ-loop
-search-requires c κs = (c .before .before .before .before .loop .inv .1, omega (arith, c .before .first-place .ensures), c .before .before .before .before .before .before .before .before .pre .1)
+search-requires c κs =
+    let start = c .before .before .before .before .before .before .before .before in
+    (c .before .before .before .before .loop .inv .1, omega (arith, c .before .first-place .ensures), start .pre .1)
 
 same-length : tie.Need-same-length Inv-loop μ-loop
-same-length c = c .before .before .before .before .before .before .before .loop .inv .1 ∙ sym (ap length (c .before .before .before .before .before .before .before .before .before .before .before .pre .0) ∙ index-size fixed (omega arith))
+same-length c =
+    let start = c .before .before .before .before .before .before .before .before .before .before .before in
+    c .before .before .before .before .before .before .before .loop .inv .1 ∙ sym (ap length (start .pre .0) ∙ index-size fixed (omega arith))
 
 returns : tie.Need-returns Inv-loop μ-loop
 returns c =
-    let names = c .before .before .before .before .before .before .before .before .before .before .before .args .names .now in
-    let size = table-size names (c .before .before .before .before .before .before .before .before .before .before .before .pre .1) in
-    let two =
-    named-twice fixed (listed names) (c .before .before .before .before .before .before .before .loop .k) (omega (arith, size)) (c .before .before .before .before .before .name-at .ensures) (omega (arith, size)) (c .before .before .before .before .before .before .before .loop .inv .2)
-    (c .before .before .before .before .first-place .ensures) (c .before .before .search .ensures .0) (c .if1 .taken) in
-    (sym two, λ e. absurd (T-true false e))
+    let start = c .before .before .before .before .before .before .before .before .before .before .before in
+    let loop = c .before .before .before .before .before .before .before .loop in
+    let size = table-size (start .args .names .now) (start .pre .1) in
+    let twice =
+    named-twice fixed (listed (start .args .names .now)) (loop .k) (omega (arith, size)) (c .before .before .before .before .before .name-at .ensures)
+    (omega (arith, size)) (loop .inv .2) (c .before .before .before .before .first-place .ensures) (c .before .before .search .ensures .0) (c .if1 .taken) in
+    (sym twice, λ e. absurd (T-true false e))
 
 cast-enter-number : tie.Need-cast-enter-number Inv-loop μ-loop
 cast-enter-number c = omega arith
@@ -62,7 +72,9 @@ add-enter-number : tie.Need-add-enter-number Inv-loop μ-loop
 add-enter-number c = omega arith
 
 enter-number-requires : tie.Need-enter-number-requires Inv-loop μ-loop
-enter-number-requires c κs = (c .before .before .before .before .before .before .before .before .loop .inv .1, omega (arith, c .before .before .before .before .before .first-place .ensures))
+enter-number-requires c κs =
+    let loop = c .before .before .before .before .before .before .before .before .loop in
+    (loop .inv .1, omega (arith, c .before .before .before .before .before .first-place .ensures))
 
 add-k : tie.Need-add-k Inv-loop μ-loop
 add-k c = omega arith
@@ -72,33 +84,36 @@ loop-less c = omega arith
 
 loop-again : tie.Need-loop-again Inv-loop μ-loop
 loop-again c =
-    let names = c .before .before .before .before .before .before .before .before .before .before .before .before .before .before .before .args .names .now in
-    let k = c .before .before .before .before .before .before .before .before .before .before .before .loop .k in
-    let size = table-size names (c .before .before .before .before .before .before .before .before .before .before .before .before .before .before .before .pre .1) in
+    let start = c .before .before .before .before .before .before .before .before .before .before .before .before .before .before .before in
+    let loop = c .before .before .before .before .before .before .before .before .before .before .before .loop in
+    let first-place = c .before .before .before .before .before .before .before .before .first-place in
     let here = c .before .before .before .before .before .before .before .before .before .name-at .ensures in
-    let one =
-    named-once fixed (listed names) k (omega (arith, size)) here (omega (arith, size)) (c .before .before .before .before .before .before .before .before .before .before .before .loop .inv .2) (c .before .before .before .before .before .before .before .before .first-place .ensures)
-    (c .before .before .before .before .before .before .search .ensures .0) (c .before .before .before .before .if1 .left) in
-    let number : k + 25 ≡ suc (24 + k) = omega arith in (
+    let size = table-size (start .args .names .now) (start .pre .1) in
+    let once =
+    named-once fixed (listed (start .args .names .now)) (loop .k) (omega (arith, size)) here
+    (omega (arith, size)) (loop .inv .2) (first-place .ensures) (c .before .before .before .before .before .before .search .ensures .0) (c .before .before .before .before .if1 .left) in (
       omega arith,
-      omega (arith, c .before .before .enter-number .kept .0, c .before .before .before .before .before .before .before .before .before .before .before .loop .inv .1),
+      omega (arith, c .before .before .enter-number .kept .0, loop .inv .1),
       c .before .before .enter-number .ensures
-          ∙ ap (λ (n : ℕ). enter (c .before .before .before .before .before .before .before .before .before .before .before .loop .index) (c .before .before .before .before .before .before .before .before .first-place .result) n) number
-          ∙ ap (λ (p : ℕ). enter (c .before .before .before .before .before .before .before .before .before .before .before .loop .index) p (suc (24 + k))) (c .before .before .before .before .before .before .before .before .first-place .ensures)
-          ∙ ap (λ (t : List ℕ). enter t (placeOf (c .before .before .before .before .before .before .before .before .before .name-at .result .now)) (suc (24 + k))) (c .before .before .before .before .before .before .before .before .before .before .before .loop .inv .2)
-          ∙ sym (entered-one fixed (listed names) k (omega (arith, size)) here),
-      one ∙ c .before .before .before .before .before .before .before .before .before .before .before .loop .inv .3,
+          ∙ entered-one fixed (listed (start .args .names .now)) (loop .k) (omega (arith, size)) here (loop .inv .2) (first-place .ensures)
+          (omega arith),
+      once ∙ loop .inv .3,
     )
 
 same-length-2 : tie.Need-same-length-2 Inv-loop μ-loop
-same-length-2 c = c .before .loop .inv .1 ∙ sym (ap length (c .before .before .before .before .before .pre .0) ∙ index-size fixed (omega arith))
+same-length-2 c =
+    let start = c .before .before .before .before .before in
+    c .before .loop .inv .1 ∙ sym (ap length (start .pre .0) ∙ index-size fixed (omega arith))
 
 returns-2 : tie.Need-returns-2 Inv-loop μ-loop
 returns-2 c =
-    let names = c .before .before .before .before .before .args .names .now in
-    let all =
-    take-all (c .before .loop .k) (listed names) (omega (arith, table-size names (c .before .before .before .before .before .pre .1))) in
-    (sym (c .before .loop .inv .3) ∙ ap (λ (l : List (List ℕ)). unlike sameName (fixed ++ l)) all, λ e. c .before .loop .inv .2 ∙ ap (λ (l : List (List ℕ)). indexOf (fixed ++ l)) all)
+    let start = c .before .before .before .before .before in
+    let loop = c .before .loop in
+    let names = listed (start .args .names .now) in
+    let all = take-all (loop .k) names (omega (arith, table-size (start .args .names .now) (start .pre .1))) in (
+      sym (loop .inv .3) ∙ ap (λ (l : List Name). unlike sameName (fixed ++ l)) all,
+      λ e. loop .inv .2 ∙ ap (λ (l : List Name). indexOf (fixed ++ l)) all,
+    )
 
 pub enter-listed-spec : {M : Type 1} → statement M
 enter-listed-spec =

@@ -1,11 +1,9 @@
 -- `name_index::find_name` meets its contract. Assumes nothing.
-use mathlib.Core.Path.{_≡_, sym, ap, _∙_}
+use mathlib.Core.Path.{sym, ap, _∙_}
 use Prim.Native.Nat.{ℕ}
 use native.Mathlib.Omega.{arith}
 use borrow.Author.Needs.{needs}
 use lib.Seq.{length-take-le}
-use Rattle.name_index.specs.Index.{turned, walk, find}
-use Rattle.names.specs.Listed.{numbered}
 use Rattle.name_index.proofs.QuestionLaws.{some-fit, find-none, find-some}
 use Rattle.name_index.proofs.find_name.Statement.{statement}
 use Rattle.name_index.proofs.find_name.Tie as tie
@@ -21,8 +19,8 @@ index-names-requires c κs = search needs
 
 returns : tie.Need-returns
 returns c =
-    let none = find-none (c .before .before .before .index-names .ensures) (c .before .before .before .before .before .before .before .before .args .name .now) (c .if1 .taken) in
-    (sym (ap (λ (a : ℕ × ℕ). a .0) none), sym (ap (λ (a : ℕ × ℕ). a .1) none))
+    let start = c .before .before .before .before .before .before .before .before in
+    find-none (c .before .before .before .index-names .ensures) (start .args .name .now) (c .if1 .taken)
 
 slice-aggregate-search : tie.Need-slice-aggregate-search
 slice-aggregate-search c = search needs
@@ -35,21 +33,19 @@ array-share-prefix-table c = omega (arith, c .before .before .before .before .be
 
 slice-aggregate-search-2 : tie.Need-slice-aggregate-search-2
 slice-aggregate-search-2 c =
-    sym (length-take-le (c .before .before .before .before .before .before .index-names .result) (c .before .before .before .before .before .before .index-names .last .1 .0) (omega (arith, c .before .before .before .before .before .before .index-names .ensures .few, c .before .before .before .before .before .before .index-names .kept .1 .0)))
+    let indexed = c .before .before .before .before .before .before .index-names in
+    sym (length-take-le (indexed .result) (indexed .last .1 .0) (omega (arith, indexed .ensures .few, indexed .kept .1 .0)))
 
 search-requires : tie.Need-search-requires
 search-requires c κs =
-    (c .before .before .before .before .before .before .index-names .kept .1 .1 .0, omega (arith, c .before .first-place .ensures), c .before .before .before .before .before .before .index-names .ensures .started (some-fit (c .before .before .before .before .before .before .index-names .ensures) (c .before .before .before .if1 .left)))
+    let indexed = c .before .before .before .before .before .before .index-names in
+    let fit = some-fit (indexed .ensures) (c .before .before .before .if1 .left) in
+    (indexed .kept .1 .1 .0, omega (arith, c .before .first-place .ensures), indexed .ensures .started fit)
 
 returns-2 : tie.Need-returns-2
 returns-2 c =
-    let names = c .before .before .before .before .before .before .before .before .before .before .before .before .args .names .now in
-    let name = c .before .before .before .before .before .before .before .before .before .before .before .before .args .name .now in
-    let t = c .before .before .before .before .before .before .before .index-names .last .1 .1 .0 in
-    let some = find-some (c .before .before .before .before .before .before .before .index-names .ensures) name (c .before .before .before .before .if1 .left) in
-    let first : walk (numbered names) name (turned (c .before .before .first-place .result) t) ≡ find names name =
-    ap (λ (p : ℕ). walk (numbered names) name (turned p t)) (c .before .before .first-place .ensures) ∙ sym some in
-    (c .search .ensures .0 ∙ ap (λ (a : ℕ × ℕ). a .0) first, c .search .ensures .1 ∙ ap (λ (a : ℕ × ℕ). a .1) first)
+    let start = c .before .before .before .before .before .before .before .before .before .before .before .before in
+    find-some (c .before .before .before .before .before .before .before .index-names .ensures) (start .args .name .now) (c .before .before .before .before .if1 .left) (c .before .before .first-place .ensures) (c .search .ensures)
 
 pub find-name-spec : {M : Type 1} → statement M
 find-name-spec =

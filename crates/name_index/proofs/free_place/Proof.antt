@@ -1,17 +1,13 @@
 -- `name_index::free_place` meets its contract. Invariant: the places read are full. Assumes nothing.
-use mathlib.Core.Path.{_≡_, sym, ap, _∙_}
+use Rattle.name_index.proofs.StepLaws.{Full, full-all, full-end, full-on}
+use mathlib.Core.Path.{ap}
 use Prim.Native.Nat.{ℕ, _+_, _-_, _%_, _≤_}
 use native.Mathlib.Omega.{arith}
-use lib.ListN.{drop}
-use Rattle.name_index.proofs.WalkLaws.{run-out, run-free, run-full}
-use Rattle.name_index.proofs.TurnLaws.{turned-length, turned-at}
-use Rattle.name_index.specs.Index.{turned, run}
 use Rattle.name_index.proofs.free_place.Statement.{statement}
 use Rattle.name_index.proofs.free_place.Tie as tie
 
 abbrev Inv-loop : tie.InvT-loop
-Inv-loop index first read₀ read =
-    (read ≤ 2048) × (run (turned first index) ≡ read + run (drop read (turned first index)))
+Inv-loop index first read₀ read = (read ≤ 2048) × Full index first read
 
 abbrev μ-loop : tie.MeasureT-loop
 μ-loop index first read₀ read = 2048 - read
@@ -30,12 +26,10 @@ shared-slice-read-if1 c = omega arith
 
 returns : tie.Need-returns Inv-loop μ-loop
 returns c =
-    let a = c .before .before .before .before .args in
-    let t = a .index .now in
-    let words = turned (a .first) t in
-    let here = turned-at t (a .first) (c .before .before .before .before .pre .0) (c .before .before .before .before .pre .1) (c .before .before .before .loop .read) (omega arith) in
-    let none = run-free words (c .before .before .before .loop .read) (omega (arith, turned-length t (a .first) (c .before .before .before .before .pre .0) (c .before .before .before .before .pre .1))) (here ∙ c .if1 .taken) in
-    ap (λ (k : ℕ). (a .first + k) % 2048) (omega (arith, none))
+    let start = c .before .before .before .before in
+    let loop = c .before .before .before .loop in
+    let end = full-end (start .args .index .now) (start .args .first) (loop .read) (start .pre .0) (start .pre .1) (omega arith) in
+    ap (λ (k : ℕ). (start .args .first + k) % 2048) (end (loop .inv .1) (c .if1 .taken))
 
 add-read : tie.Need-add-read Inv-loop μ-loop
 add-read c = omega arith
@@ -45,20 +39,17 @@ loop-less c = omega arith
 
 loop-again : tie.Need-loop-again Inv-loop μ-loop
 loop-again c =
-    let a = c .before .before .before .before .args in
-    let t = a .index .now in
-    let words = turned (a .first) t in
-    let here = turned-at t (a .first) (c .before .before .before .before .pre .0) (c .before .before .before .before .pre .1) (c .before .before .before .loop .read) (omega arith) in
-    let more = run-full words (c .before .before .before .loop .read) (omega (arith, turned-length t (a .first) (c .before .before .before .before .pre .0) (c .before .before .before .before .pre .1))) (λ e. c .if1 .left (sym here ∙ e)) in
-    (omega arith, omega (arith, more))
+    let start = c .before .before .before .before in
+    let loop = c .before .before .before .loop in
+    let on = full-on (start .args .index .now) (start .args .first) (loop .read) (start .pre .0) (start .pre .1) (omega arith) in
+    (omega arith, on (loop .inv .1) (c .if1 .left))
 
 returns-2 : tie.Need-returns-2 Inv-loop μ-loop
 returns-2 c =
-    let a = c .before .before .args in
-    let t = a .index .now in
-    let words = turned (a .first) t in
-    let none = run-out words (c .before .loop .read) (omega (arith, turned-length t (a .first) (c .before .before .pre .0) (c .before .before .pre .1))) in
-    omega (arith, none)
+    let start = c .before .before in
+    let loop = c .before .loop in
+    let all = full-all (start .args .index .now) (start .args .first) (loop .read) (start .pre .0) (start .pre .1) (omega arith) in
+    omega (arith, all (loop .inv .1))
 
 pub free-place-spec : {M : Type 1} → statement M
 free-place-spec =

@@ -18,18 +18,23 @@ is-ended-requires : tie.Need-is-ended-requires
 is-ended-requires c κs = search needs
 
 returns-2 : tie.Need-returns-2
-returns-2 c = refused (unfit-open (c .before .before .before .before .before .before .args .names .now) (sym (c .before .is-ended .ensures) ∙ not-true _ (c .if2 .taken)))
+returns-2 c =
+    let start = c .before .before .before .before .before .before in
+    refused (unfit-open (start .args .names .now) (sym (c .before .is-ended .ensures) ∙ not-true _ (c .if2 .taken)))
 
 sizes-fit-requires : tie.Need-sizes-fit-requires
 sizes-fit-requires c κs = search needs
 
 returns-3 : tie.Need-returns-3
-returns-3 c = refused (unfit-sizes (c .before .before .before .before .before .before .before .before .args .names .now) (sym (c .before .sizes-fit .ensures) ∙ not-true _ (c .if3 .taken)))
+returns-3 c =
+    let start = c .before .before .before .before .before .before .before .before in
+    refused (unfit-sizes (start .args .names .now) (sym (c .before .sizes-fit .ensures) ∙ not-true _ (c .if3 .taken)))
 
 find-starts-requires : tie.Need-find-starts-requires
 find-starts-requires c κs =
-    let few = few-of (c .before .before .before .before .before .before .before .before .before .args .names .now) (sym (c .before .before .sizes-fit .ensures) ∙ not-false _ (c .before .if3 .left)) in
-    (omega arith, omega (arith, few, c .before .before .before .before .before .before .before .before .before .pre .0))
+    let start = c .before .before .before .before .before .before .before .before .before in
+    let few = few-of (start .args .names .now) (sym (c .before .before .sizes-fit .ensures) ∙ not-false _ (c .before .if3 .left)) in
+    (omega arith, omega (arith, few, start .pre .0))
 
 enter-fixed-requires : tie.Need-enter-fixed-requires
 enter-fixed-requires c κs = search needs
@@ -42,14 +47,16 @@ slice-reshare-prefix-enter-listed c = search needs
 
 slice-aggregate-enter-listed : tie.Need-slice-aggregate-enter-listed
 slice-aggregate-enter-listed c =
-    sym (length-take-le (c .before .before .before .before .before .before .before .before .find-starts .result + 1) (c .before .before .before .before .before .before .before .before .find-starts .last .1 .0) (omega (arith, c .before .before .before .before .before .before .before .before .find-starts .ensures .1, c .before .before .before .before .before .before .before .before .find-starts .kept .1 .0)))
+    let starts = c .before .before .before .before .before .before .before .before .find-starts in
+    sym (length-take-le (starts .result + 1) (starts .last .1 .0) (omega (arith, starts .ensures .1, starts .kept .1 .0)))
 
 enter-listed-requires : tie.Need-enter-listed-requires
 enter-listed-requires c κs =
-    let table = c .before .before .before .before .before .before .before .before .find-starts .last .1 .0 in
-    let few : c .before .before .before .before .before .before .before .before .find-starts .result < 1025 = omega (arith, c .before .before .before .before .before .before .before .before .find-starts .ensures .1, c .before .before .before .before .before .before .before .before .before .before .before .before .before .before .before .before .before .before .pre .0) in
-    let size = length-take-le (c .before .before .before .before .before .before .before .before .find-starts .result + 1) table (omega (arith, c .before .before .before .before .before .before .before .before .find-starts .kept .1 .0, few, c .before .before .before .before .before .before .before .before .before .before .before .before .before .before .before .before .before .before .pre .0)) in
-    (c .before .before .before .before .enter-fixed .ensures, c .before .before .before .before .before .before .before .before .find-starts .ensures .2, omega (arith, size, few))
+    let start = c .before .before .before .before .before .before .before .before .before .before .before .before .before .before .before .before .before .before in
+    let starts = c .before .before .before .before .before .before .before .before .find-starts in
+    let few : starts .result < 1025 = omega (arith, starts .ensures .1, start .pre .0) in
+    let size = length-take-le (starts .result + 1) (starts .last .1 .0) (omega (arith, starts .kept .1 .0, few, start .pre .0)) in
+    (c .before .before .before .before .enter-fixed .ensures, starts .ensures .2, omega (arith, size, few))
 
 same-length : tie.Need-same-length
 same-length c = search needs
@@ -59,10 +66,11 @@ same-length-2 c = search needs
 
 returns-4 : tie.Need-returns-4
 returns-4 c =
-    let names = c .before .before .before .before .before .before .before .before .before .before .before .before .before .before .before .before .before .before .before .before .before .before .args .names .now in
-    let rest =
-    fit-rest names (omega arith) (sym (c .before .before .before .before .before .before .before .before .before .before .before .before .before .before .before .before .before .is-ended .ensures) ∙ not-false _ (c .before .before .before .before .before .before .before .before .before .before .before .before .before .before .before .before .if2 .left)) (sym (c .before .before .before .before .before .before .before .before .before .before .before .before .before .before .before .sizes-fit .ensures) ∙ not-false _ (c .before .before .before .before .before .before .before .before .before .before .before .before .before .before .if3 .left)) in
-    refused (rest ∙ sym (c .before .before .before .enter-listed .ensures .0) ∙ not-true _ (c .if4 .taken))
+    let start = c .before .before .before .before .before .before .before .before .before .before .before .before .before .before .before .before .before .before .before .before .before .before in
+    let listed = c .before .before .before .enter-listed in
+    let ended = sym (c .before .before .before .before .before .before .before .before .before .before .before .before .before .before .before .before .before .is-ended .ensures) ∙ not-false _ (c .before .before .before .before .before .before .before .before .before .before .before .before .before .before .before .before .if2 .left) in
+    let sized = sym (c .before .before .before .before .before .before .before .before .before .before .before .before .before .before .before .sizes-fit .ensures) ∙ not-false _ (c .before .before .before .before .before .before .before .before .before .before .before .before .before .before .if3 .left) in
+    refused (fit-rest (start .args .names .now) (omega arith) ended sized ∙ sym (listed .ensures .0) ∙ not-true _ (c .if4 .taken))
 
 add-result : tie.Need-add-result
 add-result c = search needs
@@ -75,12 +83,15 @@ same-length-4 c = search needs
 
 returns-5 : tie.Need-returns-5
 returns-5 c =
-    let names = c .before .before .before .before .before .before .before .before .before .before .before .before .before .before .before .before .before .before .before .before .before .before .args .names .now in
-    let rest =
-    fit-rest names (omega arith) (sym (c .before .before .before .before .before .before .before .before .before .before .before .before .before .before .before .before .before .is-ended .ensures) ∙ not-false _ (c .before .before .before .before .before .before .before .before .before .before .before .before .before .before .before .before .if2 .left)) (sym (c .before .before .before .before .before .before .before .before .before .before .before .before .before .before .before .sizes-fit .ensures) ∙ not-false _ (c .before .before .before .before .before .before .before .before .before .before .before .before .before .before .if3 .left)) in
-    let fit = sym (c .before .before .before .enter-listed .ensures .0) ∙ not-false _ (c .if4 .left) in
-    accepted (rest ∙ fit) (c .before .before .before .before .before .before .before .before .before .before .before .before .find-starts .ensures .0) (omega (arith, c .before .before .before .before .before .before .before .before .before .before .before .before .find-starts .ensures .1, c .before .before .before .before .before .before .before .before .before .before .before .before .before .before .before .before .before .before .before .before .before .before .pre .0)) (c .before .before .before .before .before .before .before .before .before .before .before .before .find-starts .ensures .2)
-    (c .before .before .before .enter-listed .ensures .1 (not-false _ (c .if4 .left)))
+    let start = c .before .before .before .before .before .before .before .before .before .before .before .before .before .before .before .before .before .before .before .before .before .before in
+    let starts = c .before .before .before .before .before .before .before .before .before .before .before .before .find-starts in
+    let few : starts .result < 1025 = omega (arith, starts .ensures .1, start .pre .0) in
+    let listed = c .before .before .before .enter-listed in
+    let ended = sym (c .before .before .before .before .before .before .before .before .before .before .before .before .before .before .before .before .before .is-ended .ensures) ∙ not-false _ (c .before .before .before .before .before .before .before .before .before .before .before .before .before .before .before .before .if2 .left) in
+    let sized = sym (c .before .before .before .before .before .before .before .before .before .before .before .before .before .before .before .sizes-fit .ensures) ∙ not-false _ (c .before .before .before .before .before .before .before .before .before .before .before .before .before .before .if3 .left) in
+    let unlike = not-false (listed .result) (c .if4 .left) in
+    accepted (fit-rest (start .args .names .now) (omega arith) ended sized ∙ sym (listed .ensures .0) ∙ unlike) (starts .ensures .0) few
+    (starts .ensures .2) (listed .ensures .1 unlike)
 
 pub index-names-spec : {M : Type 1} → statement M
 index-names-spec =

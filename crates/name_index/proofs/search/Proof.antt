@@ -1,12 +1,10 @@
 -- `name_index::search` meets its contract. Invariant: the walk has passed the places read. Assumes nothing.
-use mathlib.Core.Path.{sym, ap, _∙_}
-use Prim.Native.Nat.{ℕ, _-_, _≤_}
+use Rattle.name_index.proofs.StepLaws.{walked-all, walked-free, walked-here, walked-on}
+use Prim.Native.Nat.{_-_, _≤_}
 use native.Mathlib.Omega.{arith}
-use Rattle.definition.specs.Names.{sameName}
-use Rattle.name_index.proofs.WalkLaws.{Passed, passed-none, passed-all, passed-free, passed-here, passed-on}
-use Rattle.name_index.proofs.TurnLaws.{turned-length, turned-at}
+use Rattle.name_index.proofs.WalkLaws.{Passed, passed-none}
 use Rattle.name_index.specs.Index.{turned}
-use Rattle.names.specs.Listed.{numbered, named}
+use Rattle.names.specs.Listed.{numbered}
 use Rattle.name_index.proofs.search.Statement.{statement}
 use Rattle.name_index.proofs.search.Tie as tie
 
@@ -37,11 +35,10 @@ cast-t14 c = omega arith
 
 returns : tie.Need-returns Inv-loop μ-loop
 returns c =
-    let t = c .before .before .before .before .before .before .before .before .args .index .now in
-    let first = c .before .before .before .before .before .before .before .before .args .first in
-    let read = c .before .before .before .loop .read in
-    let here = turned-at t first (c .before .before .before .before .before .before .before .before .pre .0) (c .before .before .before .before .before .before .before .before .pre .1) read (omega arith) in
-    passed-free (c .before .before .before .loop .inv .1) (omega (arith, turned-length t first (c .before .before .before .before .before .before .before .before .pre .0) (c .before .before .before .before .before .before .before .before .pre .1))) (here ∙ c .if1 .taken)
+    let start = c .before .before .before .before .before .before .before .before in
+    let loop = c .before .before .before .loop in
+    walked-free (start .args .index .now) (start .args .first) (loop .read) (start .pre .0) (start .pre .1) (omega arith)
+    (loop .inv .1) (c .if1 .taken)
 
 is-name-of-requires : tie.Need-is-name-of-requires Inv-loop μ-loop
 is-name-of-requires c κs = (c .before .before .before .before .before .before .before .before .pre .2, omega arith)
@@ -51,37 +48,31 @@ cast-t16 c = omega arith
 
 returns-2 : tie.Need-returns-2 Inv-loop μ-loop
 returns-2 c =
-    let t = c .before .before .before .before .before .before .before .before .before .before .args .index .now in
-    let first = c .before .before .before .before .before .before .before .before .before .before .args .first in
-    let read = c .before .before .before .before .before .loop .read in
-    let here = turned-at t first (c .before .before .before .before .before .before .before .before .before .before .pre .0) (c .before .before .before .before .before .before .before .before .before .before .pre .1) read (omega arith) in
-    let same = sym (c .if2 .taken) ∙ c .before .is-name-of .ensures in
-    let end =
-    passed-here (c .before .before .before .before .before .loop .inv .1) (omega (arith, turned-length t first (c .before .before .before .before .before .before .before .before .before .before .pre .0) (c .before .before .before .before .before .before .before .before .before .before .pre .1))) (λ e. c .before .before .if1 .left (sym here ∙ e))
-    (ap (λ (n : ℕ). sameName (c .before .before .before .before .before .before .before .before .before .before .args .name .now) (named (numbered (c .before .before .before .before .before .before .before .before .before .before .args .names .now)) n)) here ∙ sym same) in
-    (sym here ∙ end .0, end .1)
+    let start = c .before .before .before .before .before .before .before .before .before .before in
+    let loop = c .before .before .before .before .before .loop in
+    walked-here (start .args .index .now) (start .args .first) (loop .read) (start .pre .0) (start .pre .1) (omega arith)
+    (loop .inv .1) (c .before .before .if1 .left) (c .before .is-name-of .ensures) (c .if2 .taken)
 
 loop-less : tie.Need-loop-less Inv-loop μ-loop
 loop-less c = omega arith
 
 loop-again : tie.Need-loop-again Inv-loop μ-loop
 loop-again c =
-    let t = c .before .before .before .before .before .before .before .before .before .before .args .index .now in
-    let first = c .before .before .before .before .before .before .before .before .before .before .args .first in
-    let read = c .before .before .before .before .before .loop .read in
-    let here = turned-at t first (c .before .before .before .before .before .before .before .before .before .before .pre .0) (c .before .before .before .before .before .before .before .before .before .before .pre .1) read (omega arith) in
-    let same = sym (c .if2 .left) ∙ c .before .is-name-of .ensures in (
-      omega arith,
-      passed-on (c .before .before .before .before .before .loop .inv .1) (omega (arith, turned-length t first (c .before .before .before .before .before .before .before .before .before .before .pre .0) (c .before .before .before .before .before .before .before .before .before .before .pre .1))) (λ e. c .before .before .if1 .left (sym here ∙ e))
-          (ap (λ (n : ℕ). sameName (c .before .before .before .before .before .before .before .before .before .before .args .name .now) (named (numbered (c .before .before .before .before .before .before .before .before .before .before .args .names .now)) n)) here ∙ sym same),
-    )
+    let start = c .before .before .before .before .before .before .before .before .before .before in
+    let loop = c .before .before .before .before .before .loop in
+    let on =
+    walked-on (start .args .index .now) (start .args .first) (loop .read) (start .pre .0) (start .pre .1) (omega arith)
+    (loop .inv .1) (c .before .before .if1 .left) (c .before .is-name-of .ensures) (c .if2 .left) in
+    (omega arith, on)
 
 cast-t17 : tie.Need-cast-t17 Inv-loop μ-loop
 cast-t17 c = omega arith
 
 returns-3 : tie.Need-returns-3 Inv-loop μ-loop
 returns-3 c =
-    passed-all (c .before .loop .inv .1) (omega (arith, turned-length (c .before .before .before .before .before .before .args .index .now) (c .before .before .before .before .before .before .args .first) (c .before .before .before .before .before .before .pre .0) (c .before .before .before .before .before .before .pre .1)))
+    let start = c .before .before .before .before .before .before in
+    let loop = c .before .loop in
+    walked-all (start .args .index .now) (start .args .first) (loop .read) (start .pre .0) (start .pre .1) (omega arith) (loop .inv .1)
 
 pub search-spec : {M : Type 1} → statement M
 search-spec =
