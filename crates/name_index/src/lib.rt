@@ -113,17 +113,12 @@ pub fn search(index: &[u32], first: usize, name: &[u8], names: &[u8], table: &[u
     while read < PLACES {
         let number = index[(first + read) % PLACES];
         read += 1;
+        let places = read as u32;
         if number == 0 {
-            return Found {
-                number: 0,
-                places: read as u32,
-            };
+            return Found { number: 0, places };
         }
         if names::is_name_of(name, names, table, number) {
-            return Found {
-                number,
-                places: read as u32,
-            };
+            return Found { number, places };
         }
     }
     Found {

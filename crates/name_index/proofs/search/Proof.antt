@@ -30,8 +30,8 @@ shared-slice-read-number c = omega arith
 add-read : tie.Need-add-read Inv-loop μ-loop
 add-read c = omega arith
 
-cast-t14 : tie.Need-cast-t14 Inv-loop μ-loop
-cast-t14 c = omega arith
+cast-places : tie.Need-cast-places Inv-loop μ-loop
+cast-places c = omega arith
 
 returns : tie.Need-returns Inv-loop μ-loop
 returns c =
@@ -42,9 +42,6 @@ returns c =
 
 is-name-of-requires : tie.Need-is-name-of-requires Inv-loop μ-loop
 is-name-of-requires c κs = (c .before .before .before .before .before .before .before .before .pre .2, omega arith)
-
-cast-t16 : tie.Need-cast-t16 Inv-loop μ-loop
-cast-t16 c = omega arith
 
 returns-2 : tie.Need-returns-2 Inv-loop μ-loop
 returns-2 c =
@@ -65,8 +62,8 @@ loop-again c =
     (loop .inv .1) (c .before .before .if1 .left) (c .before .is-name-of .ensures) (c .if2 .left) in
     (omega arith, on)
 
-cast-t17 : tie.Need-cast-t17 Inv-loop μ-loop
-cast-t17 c = omega arith
+cast-t16 : tie.Need-cast-t16 Inv-loop μ-loop
+cast-t16 c = omega arith
 
 returns-3 : tie.Need-returns-3 Inv-loop μ-loop
 returns-3 c =
@@ -85,12 +82,11 @@ search-spec =
     mul-number
     shared-slice-read-number
     add-read
-    cast-t14
+    cast-places
     returns
     is-name-of-requires
-    cast-t16
     returns-2
     loop-less
     loop-again
-    cast-t17
+    cast-t16
     returns-3)
