@@ -65,7 +65,8 @@ pub fn fnv_value(bytes: &[u8]) -> u32
     let mut value = FNV_START;
     let mut i = 0;
     while i < bytes.len() {
-        value = wrapping_product(value ^ (bytes[i] as u32), FNV_PRIME);
+        let mixed = value ^ (bytes[i] as u32);
+        value = wrapping_product(mixed, FNV_PRIME);
         i += 1;
     }
     value

@@ -20,11 +20,11 @@ abbrev μ-loop : tie.MeasureT-loop
 loop-holds : tie.Need-loop-holds Inv-loop μ-loop
 loop-holds c = (omega arith, omega arith, refl)
 
-shared-slice-read-wrapping-product : tie.Need-shared-slice-read-wrapping-product Inv-loop μ-loop
-shared-slice-read-wrapping-product c = search needs
+shared-slice-read-mixed : tie.Need-shared-slice-read-mixed Inv-loop μ-loop
+shared-slice-read-mixed c = search needs
 
-cast-wrapping-product : tie.Need-cast-wrapping-product Inv-loop μ-loop
-cast-wrapping-product c = omega (arith, c .shared-slice-known2 .given (c .before .before .loop .i))
+cast-mixed : tie.Need-cast-mixed Inv-loop μ-loop
+cast-mixed c = omega (arith, c .shared-slice-known2 .given (c .before .before .loop .i))
 
 wrapping-product-requires : tie.Need-wrapping-product-requires Inv-loop μ-loop
 wrapping-product-requires c κs = search needs
@@ -55,8 +55,8 @@ fnv-value-spec =
     Inv-loop
     μ-loop
     loop-holds
-    shared-slice-read-wrapping-product
-    cast-wrapping-product
+    shared-slice-read-mixed
+    cast-mixed
     wrapping-product-requires
     add-i
     loop-less
