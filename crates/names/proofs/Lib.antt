@@ -2,3 +2,4 @@
 pub mod Laws
 pub mod Compare
 pub mod Question
+pub mod Longer
