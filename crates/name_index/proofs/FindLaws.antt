@@ -3,18 +3,18 @@
 use mathlib.Core.Path.{_≡_, sym, ap, _∙_, subst}
 use mathlib.Core.Bool.{Bool, true, false}
 use mathlib.Core.Logic.{⊎-elim}
-use mathlib.Core.List.{List, [], _∷_, _++_, append-nil}
-use Prim.Native.Nat.{ℕ, zero, suc, _+_, _-_, _<_, _≤_}
+use mathlib.Core.List.{List, [], append-nil}
+use Prim.Native.Nat.{ℕ, suc, _+_, _-_, _<_, _≤_}
 use native.Mathlib.Omega.{arith}
 use lib.ListN.{length, getD, take, drop, length-append}
 use lib.Seq.{split-at, length-take-le, getD-take}
 use Rattle.definition.specs.Basics.{if_then_else_, unlike}
-use Rattle.definition.specs.Names.{Name, fixed, listed, nameCount, sameName, namesUnlike, namesFit}
+use Rattle.definition.specs.Names.{Name, fixed, listed, nameCount, sameName, namesFit}
 use Rattle.definition.proofs.Lists.Tests.{T-true}
 use Rattle.names.specs.Listed.{numbered, named}
 use Rattle.names.proofs.Laws.{side}
 use Rattle.names.proofs.Question.{fit-small, fit-unlike}
-use Rattle.name_index.specs.Index.{placeOf, indexOf, searched, find}
+use Rattle.name_index.specs.Index.{indexOf, searched, find}
 use Rattle.name_index.proofs.IndexLaws.{Entered, entered-index, same-equal, same-itself, found-low, found-same, absent-none, places-few}
 use Rattle.name_index.proofs.UnlikeLaws.{unlike-not}
 

@@ -8,14 +8,19 @@ ghost use Rattle.names.specs.Listed.{starts, numbered};
 ghost use Rattle.name_index.specs.Index.{fnv, placeOf, turned, run, enter, indexOf, walk, find};
 ghost use Rattle.name_index.specs.Indexed.{Indexed};
 use ast::limit;
+use ast::name;
 
 // How many places the table has.
 pub const PLACES: usize = 2048;
 
-// The value of no bytes, and the prime.
+// The value of no bytes.
 const FNV_START: u32 = 2166136261;
 
+// The prime by which each value is multiplied.
 const FNV_PRIME: u32 = 16777619;
+
+// 2^32.
+const MODULUS: u64 = 4294967296;
 
 // The place of each fixed name, in the order of their numbers.
 const FIXED_PLACES: [u32; 24] = [
@@ -55,7 +60,7 @@ pub struct Found {
 pub fn wrapping_product(a: u32, b: u32) -> u32
     ensures { λ r. ⌜ r ≡ a * b % 2 ^ 32 ⌝ }
 {
-    ((a as u64) * (b as u64) % 4294967296) as u32
+    ((a as u64) * (b as u64) % MODULUS) as u32
 }
 
 // The 32-bit FNV-1a value.
@@ -134,7 +139,7 @@ pub fn enter_fixed(index: &mut [u32])
     ensures { λ r. ⌜ now (index .exit) ≡ indexOf fixed ⌝ }
 {
     let mut k: usize = 0;
-    while k < 24 {
+    while k < name::LAST_FIXED {
         enter_number(index, FIXED_PLACES[k] as usize, k as u32 + 1);
         k += 1;
     }
@@ -153,7 +158,7 @@ pub fn enter_listed(index: &mut [u32], names: &[u8], table: &[u32]) -> bool
         if found.number != 0 {
             return false;
         }
-        enter_number(index, first, k as u32 + 25);
+        enter_number(index, first, (name::LAST_FIXED + k + 1) as u32);
         k += 1;
     }
     true
@@ -186,17 +191,19 @@ fn index_names(names: &[u8], table: &mut [u32], index: &mut [u32]) -> usize
 pub fn names_fit(names: &[u8]) -> bool
     ensures { λ r. ⌜ r ≡ namesFit (now (names .entry)) ⌝ }
 {
+    // One start for each name, and the place past the last.
     let mut table = [0u32; 1025];
-    let mut index = [0u32; 2048];
+    let mut index = [0u32; PLACES];
     index_names(names, &mut table, &mut index) != 0
 }
 
 // Finds bytes among the names of a list and the fixed ones.
 pub fn find_name(names: &[u8], name: &[u8]) -> Found
-    ensures { λ r. ⌜ (r .number ≡ find (now (names .entry)) (now (name .entry)) .0) × (r .places ≡ find (now (names .entry)) (now (name .entry)) .1) ⌝ }
+    ensures { λ r. ⌜ (r .number ≡ find (now (names .entry)) (now (name .entry)) .0)
+        × (r .places ≡ find (now (names .entry)) (now (name .entry)) .1) ⌝ }
 {
     let mut table = [0u32; 1025];
-    let mut index = [0u32; 2048];
+    let mut index = [0u32; PLACES];
     let starts = index_names(names, &mut table, &mut index);
     if starts == 0 {
         return Found {

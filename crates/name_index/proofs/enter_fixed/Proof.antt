@@ -5,9 +5,9 @@ use native.Mathlib.Omega.{arith}
 use lib.Seq.{take-all}
 use lib.ListN.{length, take, length-replicate}
 use Rattle.definition.specs.Names.{fixed}
+use Rattle.name_index.specs.Index.{indexOf}
 use Rattle.name_index.proofs.IndexLaws.{index-none}
 use Rattle.name_index.proofs.FixedLaws.{fixed-inside, fixed-next}
-use Rattle.name_index.specs.Index.{indexOf}
 use Rattle.name_index.proofs.enter_fixed.Statement.{statement}
 use Rattle.name_index.proofs.enter_fixed.Tie as tie
 

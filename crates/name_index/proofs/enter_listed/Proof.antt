@@ -1,21 +1,19 @@
 -- `name_index::enter_listed` meets its contract. Invariant: the index is that of the fixed and the first `k` listed names, and no
 -- two of them are the same. Assumes nothing.
-use mathlib.Core.Bool.{false}
-use mathlib.Core.List.{List}
-use mathlib.Core.List.{_++_}
-use mathlib.Core.Bool.{true}
+use mathlib.Core.Bool.{false, true}
+use mathlib.Core.List.{List, _++_}
 use mathlib.Core.Path.{_≡_, refl, sym, ap, _∙_}
 use Prim.Native.Nat.{_+_, _-_, _≤_}
 use native.Mathlib.Omega.{arith}
 use lib.Seq.{take-all}
 use lib.ListN.{length, take}
-use Rattle.definition.proofs.Lists.Tests.{T-true}
 use Rattle.definition.specs.Names.{Name, fixed, listed, sameName}
 use Rattle.definition.specs.Basics.{unlike}
-use Rattle.name_index.proofs.UnlikeLaws.{named-twice, named-once, entered-one}
-use Rattle.name_index.proofs.IndexLaws.{index-size}
+use Rattle.definition.proofs.Lists.Tests.{T-true}
 use Rattle.names.proofs.Laws.{table-size}
 use Rattle.name_index.specs.Index.{indexOf}
+use Rattle.name_index.proofs.UnlikeLaws.{named-twice, named-once, entered-one}
+use Rattle.name_index.proofs.IndexLaws.{index-size}
 use Rattle.name_index.proofs.enter_listed.Statement.{statement}
 use Rattle.name_index.proofs.enter_listed.Tie as tie
 
@@ -65,11 +63,14 @@ returns c =
     (omega (arith, size)) (loop .inv .2) (c .before .before .before .before .first-place .ensures) (c .before .before .search .ensures .0) (c .if1 .taken) in
     (sym twice, λ e. absurd (T-true false e))
 
-cast-enter-number : tie.Need-cast-enter-number Inv-loop μ-loop
-cast-enter-number c = omega arith
-
 add-enter-number : tie.Need-add-enter-number Inv-loop μ-loop
 add-enter-number c = omega arith
+
+add-enter-number-2 : tie.Need-add-enter-number-2 Inv-loop μ-loop
+add-enter-number-2 c = omega arith
+
+cast-enter-number : tie.Need-cast-enter-number Inv-loop μ-loop
+cast-enter-number c = omega arith
 
 enter-number-requires : tie.Need-enter-number-requires Inv-loop μ-loop
 enter-number-requires c κs =
@@ -128,8 +129,9 @@ enter-listed-spec =
     search-requires
     same-length
     returns
-    cast-enter-number
     add-enter-number
+    add-enter-number-2
+    cast-enter-number
     enter-number-requires
     add-k
     loop-less

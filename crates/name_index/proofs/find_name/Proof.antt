@@ -1,6 +1,5 @@
 -- `name_index::find_name` meets its contract. Assumes nothing.
-use mathlib.Core.Path.{sym, ap, _∙_}
-use Prim.Native.Nat.{ℕ}
+use mathlib.Core.Path.{sym}
 use native.Mathlib.Omega.{arith}
 use borrow.Author.Needs.{needs}
 use lib.Seq.{length-take-le}
@@ -45,7 +44,9 @@ search-requires c κs =
 returns-2 : tie.Need-returns-2
 returns-2 c =
     let start = c .before .before .before .before .before .before .before .before .before .before .before .before in
-    find-some (c .before .before .before .before .before .before .before .index-names .ensures) (start .args .name .now) (c .before .before .before .before .if1 .left) (c .before .before .first-place .ensures) (c .search .ensures)
+    let indexed = c .before .before .before .before .before .before .before .index-names in
+    let some = c .before .before .before .before .if1 .left in
+    find-some (indexed .ensures) (start .args .name .now) some (c .before .before .first-place .ensures) (c .search .ensures)
 
 pub find-name-spec : {M : Type 1} → statement M
 find-name-spec =

@@ -5,8 +5,8 @@ use Prim.Native.Nat.{ℕ, _+_, _-_, _≤_, _<_, _^_}
 use native.Mathlib.Omega.{arith}
 use borrow.Author.Needs.{needs}
 use lib.ListN.{length, drop}
-use Rattle.name_index.proofs.ValueLaws.{value-step, value-end}
 use Rattle.name_index.specs.Index.{fnv, fnvFrom}
+use Rattle.name_index.proofs.ValueLaws.{value-step, value-end}
 use Rattle.name_index.proofs.fnv_value.Statement.{statement}
 use Rattle.name_index.proofs.fnv_value.Tie as tie
 
@@ -37,16 +37,21 @@ loop-less c = omega arith
 
 loop-again : tie.Need-loop-again Inv-loop μ-loop
 loop-again c =
-    let a = c .before .before .before .before .before .args in (
+    let start = c .before .before .before .before .before in
+    let loop = c .before .before .before .loop in
+    let bytes = start .args .bytes .now in (
       omega arith,
       omega arith,
-      ap (λ (v : ℕ). fnvFrom v (drop (c .before .before .before .loop .i + 1) (a .bytes .now))) (c .wrapping-product .ensures)
-          ∙ sym (value-step (c .before .before .before .loop .value) (a .bytes .now) (c .before .before .before .loop .i) (omega arith))
-          ∙ c .before .before .before .loop .inv .2,
+      ap (λ (v : ℕ). fnvFrom v (drop (loop .i + 1) bytes)) (c .wrapping-product .ensures)
+          ∙ sym (value-step (loop .value) bytes (loop .i) (omega arith))
+          ∙ loop .inv .2,
     )
 
 returns : tie.Need-returns Inv-loop μ-loop
-returns c = sym (value-end (c .before .loop .value) (c .before .before .before .args .bytes .now) (c .before .loop .i) (omega arith)) ∙ c .before .loop .inv .2
+returns c =
+    let start = c .before .before .before in
+    let loop = c .before .loop in
+    sym (value-end (loop .value) (start .args .bytes .now) (loop .i) (omega arith)) ∙ loop .inv .2
 
 pub fnv-value-spec : {M : Type 1} → statement M
 fnv-value-spec =

@@ -1,8 +1,8 @@
 -- `name_index::free_place` meets its contract. Invariant: the places read are full. Assumes nothing.
-use Rattle.name_index.proofs.StepLaws.{Full, full-all, full-end, full-on}
 use mathlib.Core.Path.{ap}
 use Prim.Native.Nat.{ℕ, _+_, _-_, _%_, _≤_}
 use native.Mathlib.Omega.{arith}
+use Rattle.name_index.proofs.StepLaws.{Full, full-all, full-end, full-on}
 use Rattle.name_index.proofs.free_place.Statement.{statement}
 use Rattle.name_index.proofs.free_place.Tie as tie
 

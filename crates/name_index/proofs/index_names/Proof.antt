@@ -6,8 +6,8 @@ use native.Mathlib.Omega.{arith}
 use borrow.Author.Tests.{not-true, not-false}
 use borrow.Author.Needs.{needs}
 use lib.Seq.{length-take-le}
-use Rattle.name_index.proofs.QuestionLaws.{refused, accepted}
 use Rattle.names.proofs.Question.{few-of, unfit-long, unfit-open, unfit-sizes, fit-rest}
+use Rattle.name_index.proofs.QuestionLaws.{refused, accepted}
 use Rattle.name_index.proofs.index_names.Statement.{statement}
 use Rattle.name_index.proofs.index_names.Tie as tie
 
@@ -67,9 +67,10 @@ same-length-2 c = search needs
 returns-4 : tie.Need-returns-4
 returns-4 c =
     let start = c .before .before .before .before .before .before .before .before .before .before .before .before .before .before .before .before .before .before .before .before .before .before in
+    let past = c .before .before .before .before .before .before .before .before .before .before .before .before .before .before in
     let listed = c .before .before .before .enter-listed in
-    let ended = sym (c .before .before .before .before .before .before .before .before .before .before .before .before .before .before .before .before .before .is-ended .ensures) ∙ not-false _ (c .before .before .before .before .before .before .before .before .before .before .before .before .before .before .before .before .if2 .left) in
-    let sized = sym (c .before .before .before .before .before .before .before .before .before .before .before .before .before .before .before .sizes-fit .ensures) ∙ not-false _ (c .before .before .before .before .before .before .before .before .before .before .before .before .before .before .if3 .left) in
+    let ended = sym (past .before .before .before .is-ended .ensures) ∙ not-false _ (past .before .before .if2 .left) in
+    let sized = sym (past .before .sizes-fit .ensures) ∙ not-false _ (past .if3 .left) in
     refused (fit-rest (start .args .names .now) (omega arith) ended sized ∙ sym (listed .ensures .0) ∙ not-true _ (c .if4 .taken))
 
 add-result : tie.Need-add-result
@@ -84,11 +85,12 @@ same-length-4 c = search needs
 returns-5 : tie.Need-returns-5
 returns-5 c =
     let start = c .before .before .before .before .before .before .before .before .before .before .before .before .before .before .before .before .before .before .before .before .before .before in
+    let past = c .before .before .before .before .before .before .before .before .before .before .before .before .before .before in
     let starts = c .before .before .before .before .before .before .before .before .before .before .before .before .find-starts in
     let few : starts .result < 1025 = omega (arith, starts .ensures .1, start .pre .0) in
     let listed = c .before .before .before .enter-listed in
-    let ended = sym (c .before .before .before .before .before .before .before .before .before .before .before .before .before .before .before .before .before .is-ended .ensures) ∙ not-false _ (c .before .before .before .before .before .before .before .before .before .before .before .before .before .before .before .before .if2 .left) in
-    let sized = sym (c .before .before .before .before .before .before .before .before .before .before .before .before .before .before .before .sizes-fit .ensures) ∙ not-false _ (c .before .before .before .before .before .before .before .before .before .before .before .before .before .before .if3 .left) in
+    let ended = sym (past .before .before .before .is-ended .ensures) ∙ not-false _ (past .before .before .if2 .left) in
+    let sized = sym (past .before .sizes-fit .ensures) ∙ not-false _ (past .if3 .left) in
     let unlike = not-false (listed .result) (c .if4 .left) in
     accepted (fit-rest (start .args .names .now) (omega arith) ended sized ∙ sym (listed .ensures .0) ∙ unlike) (starts .ensures .0) few
     (starts .ensures .2) (listed .ensures .1 unlike)

@@ -1,10 +1,10 @@
 -- `name_index::search` meets its contract. Invariant: the walk has passed the places read. Assumes nothing.
-use Rattle.name_index.proofs.StepLaws.{walked-all, walked-free, walked-here, walked-on}
 use Prim.Native.Nat.{_-_, _≤_}
 use native.Mathlib.Omega.{arith}
-use Rattle.name_index.proofs.WalkLaws.{Passed, passed-none}
-use Rattle.name_index.specs.Index.{turned}
 use Rattle.names.specs.Listed.{numbered}
+use Rattle.name_index.specs.Index.{turned}
+use Rattle.name_index.proofs.StepLaws.{walked-all, walked-free, walked-here, walked-on}
+use Rattle.name_index.proofs.WalkLaws.{Passed, passed-none}
 use Rattle.name_index.proofs.search.Statement.{statement}
 use Rattle.name_index.proofs.search.Tie as tie
 
