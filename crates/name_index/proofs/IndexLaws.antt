@@ -96,11 +96,12 @@ module _ (t : List ℕ) (q v : ℕ) (free : getD t q 0 ≡ 0) where
         before = λ m h. still-full ((p + m) % 2048) (r .before m h);
       }
 
--- the first k of the names l are entered in the table t
+-- the first k of the names l are entered in the table t: no other numbers stand there, at most k places are full, and each name's walk
+-- reaches its number
 pub record Entered (l : List Name) (k : ℕ) (t : List ℕ) : Type 0 where
   pub size : length t ≡ 2048
   pub low : (j : ℕ) → getD t j 0 ≤ k
-  pub some : full t ≤ k
+  pub few : full t ≤ k
   pub reached : (i : ℕ) → i < k → Reached t (placeOf (getD l i [])) (suc i)
 
 first-inside : (b : Name) → placeOf b < 2048
@@ -111,16 +112,16 @@ entered-none l =
     record {
       size = length-replicate {A = ℕ} 2048 0;
       low = low-none 2048;
-      some = omega (arith, full-none 2048);
+      few = omega (arith, full-none 2048);
       reached = λ i h. absurd (omega arith);
     }
 
 module _ {l : List Name} {k : ℕ} {t : List ℕ} (e : Entered l k t) where
-  -- fewer words are full before the first free place than names are entered
+  -- at most as many places are full before the first free one as names are entered,
   pub run-few : (p : ℕ) → run (turned p t) ≤ k
-  run-few p = omega (arith, run-full-places (turned p t), full-turned p t, e .some)
+  run-few p = omega (arith, run-full-places (turned p t), full-turned p t, e .few)
 
-  -- so the first free place is one, and a further name can be entered there
+  -- so there is a free place, and a further name can be entered at the first
   module _ (room : k < 2048) (p : ℕ) (first : p < 2048) where
     place-free : getD t ((p + run (turned p t)) % 2048) 0 ≡ 0
     place-free = sym (turned-at t p (e .size) first (run (turned p t)) (omega (arith, run-few p))) ∙ run-ends (turned p t)
@@ -143,7 +144,7 @@ module _ {l : List Name} {k : ℕ} {t : List ℕ} (e : Entered l k t) where
       record {
         size = length-set t q (suc k) ∙ e .size;
         low = low-set (suc k) t q (suc k) (omega arith) (λ j. omega (arith, e .low j));
-        some = omega (arith, full-set t q (suc k), e .some);
+        few = omega (arith, full-set t q (suc k), e .few);
         reached = λ i h. ⊎-elim
             (λ (before : i < k). reached-still t q (suc k) (place-free room p first) (placeOf (getD l i [])) (suc i) (λ z. omega arith) (e .reached i before))
             (λ (last : k ≤ i).

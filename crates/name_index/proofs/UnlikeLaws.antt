@@ -1,5 +1,4 @@
--- Question 2 through the index: no two names are the same exactly if each is absent when it is entered; and of names that are
--- unlike, each is found under its number.
+-- Question 2 through the index: no two names are the same exactly if each is absent when it is entered.
 use mathlib.Core.Path.{_≡_, refl, sym, ap, _∙_, subst}
 use mathlib.Core.Bool.{Bool, true, false, not, _&&_, _||_}
 use mathlib.Core.List.{List, [], _∷_, _++_, append-assoc}
@@ -14,6 +13,7 @@ use Rattle.names.proofs.Laws.{and-false}
 use Rattle.name_index.specs.Index.{placeOf, turned, enter, indexOf, walk, searched}
 use Rattle.name_index.proofs.IndexLaws.{Entered, entered-index, index-next, same-equal, same-itself, found-low, found-same, absent-none}
 
+-- sameness either way round
 same-turned : (a b : Name) (t : Bool) → sameName a b ≡ t → sameName b a ≡ t
 same-turned a b true e = subst (λ (n : Name). sameName n a ≡ true) (same-equal a b e) (same-itself a)
 same-turned a b false e = go (sameName b a) refl
