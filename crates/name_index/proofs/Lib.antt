@@ -1,4 +1,4 @@
--- Words from a place on; the walk over words; what a table of names holds; question 2 through it.
+-- Values; words from a place on; the walk over words; what a table of names holds; question 2 through it; what finding promises.
 pub mod ValueLaws
 pub mod TurnLaws
 pub mod WalkLaws

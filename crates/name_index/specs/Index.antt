@@ -30,7 +30,7 @@ abbrev pub run : List ℕ → ℕ
 run [] = 0
 run (w ∷ ws) = if eqb w 0 then 0 else suc (run ws)
 
--- number n entered in a table at the first free place from p on
+-- number n entered in a table at the first free place from p on; while fewer than 2,048 places are full there is one
 abbrev pub enter : List ℕ → ℕ → ℕ → List ℕ
 enter t p n = set t ((p + run (turned p t)) % 2048) n
 
@@ -47,7 +47,7 @@ indexOf l = enterAll (replicate 2048 0) 1 l
 abbrev pub further : ℕ × ℕ → ℕ × ℕ
 further a = (a .0, suc (a .1))
 
--- bytes looked for among the names l, word by word: the number, 0 if absent, and how many places were read
+-- bytes looked for among the names l, word by word up to a free place: the number, 0 if absent, and how many places were read
 abbrev pub walk : List Name → Name → List ℕ → ℕ × ℕ
 walk l b [] = (0, 0)
 walk l b (n ∷ ws) = if eqb n 0 then (0, 1) else if sameName b (named l n) then (n, 1) else further (walk l b ws)

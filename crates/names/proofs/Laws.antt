@@ -1,5 +1,5 @@
 -- Laws of name lists: a list is its first name and the rest, names by number, and a table of starts cuts a list into its names.
-use mathlib.Core.Path.{_≡_, refl, sym, ap, _∙_}
+use mathlib.Core.Path.{_≡_, refl, ap, _∙_}
 use mathlib.Core.Bool.{Bool, true, false, _&&_}
 use mathlib.Core.Logic.{_⊎_, inl, inr, ⊎-elim}
 use mathlib.Core.List.{List, [], _∷_, _++_}
@@ -186,13 +186,6 @@ module _ (w : List ℕ) {t : List ℕ} (table : t ≡ starts w) where
 
   name-inside : (k : ℕ) → k + 1 < length t → k < length (listed w)
   name-inside k h = omega (arith, table-size)
-
-  pub no-more : (k : ℕ) → length t ≤ k + 1 → drop k (listed w) ≡ []
-  no-more k h = drop-of-length-le (listed w) {i = k} (omega (arith, table-size))
-
-  -- from place k on
-  pub names-step : (k : ℕ) → k + 1 < length t → {n : Name} → n ≡ getD (listed w) k [] → drop k (listed w) ≡ n ∷ drop (k + 1) (listed w)
-  names-step k h e = drop-step (listed w) k [] (name-inside k h) ∙ ap (λ (n : Name). n ∷ drop (k + 1) (listed w)) (sym e)
 
   pub cut : (k : ℕ) → k + 1 < length t → Cut w (getD t k 0) (getD t (k + 1) 0) (getD (listed w) k [])
   cut k h = rw (table, add-one) (cuts k w 0 (name-inside k h))

@@ -1,4 +1,4 @@
--- Question 2 part by part, and the fixed names as a list of their own.
+-- Question 2 part by part, and names by number.
 use mathlib.Core.Path.{_≡_, refl, sym, ap, _∙_}
 use mathlib.Core.Bool.{Bool, true, false, _&&_}
 use mathlib.Core.List.{List, [], _++_}
@@ -7,20 +7,10 @@ use native.Mathlib.Omega.{arith}
 use lib.ListN.{length, getD, List·getD-append, List·getD-eq-default}
 use lib.Seq.{getD-append-add}
 use borrow.Author.Tests.{le-leb, lt-leb, leb-true}
-use Rattle.definition.specs.Bytes.{bytes}
 use Rattle.definition.specs.Names.{fixed, listed, namesFew, namesShort, namesSized, namesEnded, namesUnlike, namesFit}
 use Rattle.definition.proofs.Lists.Tests.{T-true}
 use Rattle.names.specs.Listed.{starts, numbered, named}
 use Rattle.names.proofs.Laws.{and-false, table-size}
-
--- the bytes of the program's constant
-abbrev pub fixedList : List ℕ
-fixedList =
-    bytes "Int64\nFloat64\nString\nArray\nByteArray\nDict\nUIEvent\nAudioNeeded\nAudioData\n"
-    ++ bytes "kind\nwindow_id\nkey\nbutton\nx\ny\ndx\ndy\ntext\nnum_samples\nnum_channels\ndevice_id\nnull\ninit\nMAIN_UNIT\n"
-
-pub fixed-listed : listed fixedList ≡ fixed
-fixed-listed = refl
 
 -- the name of a number, fixed and listed
 pub fixed-named : (w : List ℕ) (n : ℕ) → n < 25 → 0 < n → getD fixed (n - 1) [] ≡ named (numbered w) n

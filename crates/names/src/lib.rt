@@ -1,4 +1,5 @@
-// The names of a sheet: a byte list in which byte 10 ends each. Question 2, and the bytes of a name by its number.
+// The names of a sheet: a byte list in which byte 10 ends each. What question 2 asks of each name by itself, and the bytes of a name by its
+// number.
 ghost use mathlib.Core.Path.{_≡_};
 ghost use mathlib.Core.Bool.{_&&_};
 ghost use mathlib.Core.List.{[]};
@@ -174,7 +175,7 @@ pub fn name_at<'a>(names: &'a [u8], table: &[u32], k: usize) -> &'a [u8]
     &names[start..end]
 }
 
-// Are these bytes the name of a number? `table` has the starts of the listed names. Where the number names nothing, of no bytes alone.
+// Are these bytes the name of a number? `table` has the starts of the listed names. A number above them all has the empty name.
 pub fn is_name_of(name: &[u8], names: &[u8], table: &[u32], number: u32) -> bool
     requires { ⌜ (now table ≡ starts (now names)) × (0 < number) ⌝ }
     ensures { λ r. ⌜ r ≡ sameName (now (name .entry)) (named (numbered (now (names .entry))) number) ⌝ }
