@@ -6,6 +6,7 @@ with the program.
 """
 import random
 import sys
+from functools import lru_cache
 from pathlib import Path
 
 from format_check import FIXED, listed, names_fit
@@ -36,6 +37,7 @@ def walk(places, name):
     return place, read
 
 
+@lru_cache(maxsize=2)
 def index(names):
     places = [None] * PLACES
     for number, name in enumerate(FIXED + listed(names), 1):
@@ -78,11 +80,11 @@ def list_of(names):
     return b"".join(name + b"\n" for name in names)
 
 
-def names_at(rng, place, count, size=5):
+def names_at(rng, place, count, size=5, letters=LETTERS):
     """Names whose first place is this one."""
     found = set()
     while len(found) < count:
-        name = bytes(rng.choice(LETTERS) for _ in range(size))
+        name = bytes(rng.choice(letters) for _ in range(size))
         if value(name) % PLACES == place:
             found.add(name)
     return sorted(found)
@@ -113,6 +115,8 @@ def directed():
     around = names_at(rng, 2046, 2) + names_at(rng, 2047, 3) + names_at(rng, 0, 2) + names_at(rng, 1, 1)
     for names in (around, around[::-1]):
         cases += look("around the end", names[:-1], names)
+    high = names_at(rng, value(b"ab") % PLACES, 2, 3, bytes(range(128, 256)))
+    cases += look("bytes above 127", [b"ab", *high], [b"ab", *high])
     cases += look("fixed names, none listed", [], FIXED)
     cases += look("fixed names", [b"ab", b"cd"], FIXED[:3])
     for name in (b"", b"\n", b"ab\n", b"a", b"abc", b"b", b"\x00", b"\xff\x80", b"\xc3\xa9", 255 * b"q", 256 * b"q"):

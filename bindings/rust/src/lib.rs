@@ -36,7 +36,14 @@ extern "C" {
         report: *mut u32,
         report_words: usize,
     ) -> u32;
-    fn plush_find_name(names: *const u8, name_bytes: usize, name: *const u8, bytes: usize, found: *mut u32, found_words: usize) -> u32;
+    fn plush_find_name(
+        names: *const u8,
+        name_bytes: usize,
+        name: *const u8,
+        bytes: usize,
+        found: *mut u32,
+        found_words: usize,
+    ) -> u32;
     fn plush_to_columns(source: *const u32, source_words: usize, target: *mut u32, target_words: usize) -> u32;
     fn plush_from_columns(source: *const u32, source_words: usize, target: *mut u32, target_words: usize) -> u32;
 }

@@ -1,10 +1,7 @@
 // The library to link: what C, or Rust through `bindings/rust`, calls. `include/plush.h` declares it.
 ghost use lib.ListN.{length};
 ghost use Rattle.columns.specs.Columns.{toColumns, fromColumns, Rearranged};
-ghost use mathlib.Core.Path.{_≡_};
-ghost use mathlib.Core.List.{[], _∷_};
-ghost use Rattle.name_index.specs.Index.{find};
-ghost use Rattle.report.specs.Report.{fitted};
+ghost use Rattle.plush.specs.Found.{NameFound};
 ghost use Rattle.plush.specs.Resolved.{Resolved};
 use columns::from_columns;
 use columns::to_columns;
@@ -51,9 +48,7 @@ pub extern "C" fn plush_from_columns(source: &[u32], target: &mut [u32]) -> u32
 // writes it, and how many places of the index were read, into the lent words as far as they go.
 #[no_mangle]
 pub extern "C" fn plush_find_name(names: &[u8], name: &[u8], found: &mut [u32]) -> u32
-    ensures { λ n. ⌜ (n ≡ find (now (names .entry)) (now (name .entry)) .0)
-        × (now (found .exit) ≡ fitted (length (now (found .entry)))
-        (find (now (names .entry)) (now (name .entry)) .0 ∷ find (now (names .entry)) (now (name .entry)) .1 ∷ [])) ⌝ }
+    ensures { λ n. ⌜ NameFound (now (names .entry)) (now (name .entry)) (length (now (found .entry))) n (now (found .exit)) ⌝ }
 {
     let x = find_name(names, name);
     let told = [x.number, x.places];
