@@ -1,14 +1,13 @@
 -- What is found and printed. Assumes nothing.
-use mathlib.Core.Path.{_≡_, refl, sym, ap, subst, _∙_}
+use mathlib.Core.Path.{_≡_, refl, ap, subst, _∙_}
 use mathlib.Core.Bool.{Bool, false}
 use mathlib.Core.List.{List, [], _∷_}
-use Prim.Native.Nat.{ℕ, _*_, _≤_}
+use Prim.Native.Nat.{ℕ}
 use native.Mathlib.Omega.{arith}
 use lib.ListN.{length, take, drop}
 use Rattle.definition.specs.Basics.{if_then_else_, concatMap}
 use Rattle.definition.specs.Names.{namesFit}
 use Rattle.definition.specs.Text.{textOf}
-use Rattle.definition.specs.Answer.{eight}
 use Rattle.definition.specs.Outcome.{report}
 use Rattle.definition.proofs.Format.Accepted.{Eights}
 use Rattle.lexer.proofs.Laws.{file-none, line-none, column-none}
@@ -16,7 +15,7 @@ use Rattle.names.proofs.Longer.{same-cut}
 use Rattle.answer.specs.declared.Answer.{Answer}
 use Rattle.answer.specs.Tells.{Tells}
 use Rattle.report.specs.Report.{Begins, reply, Printed}
-use Rattle.report.proofs.Laws.{report-printed, replied, replied-short}
+use Rattle.report.proofs.Laws.{report-printed}
 use Rattle.name_index.specs.declared.Found.{Found}
 use Rattle.name_index.specs.Index.{searched, indexOf, find}
 use Rattle.names.specs.Listed.{numbered}

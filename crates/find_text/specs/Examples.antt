@@ -2,7 +2,6 @@
 use mathlib.Core.Path.{_≡_, refl}
 use mathlib.Core.List.{List, [], _∷_, map}
 use Prim.Native.Nat.{ℕ}
-use lib.ListN.{replicate}
 use Rattle.definition.specs.Bytes.{bytes}
 use Rattle.definition.specs.Text.{textOf}
 use Rattle.definition.specs.Answer.{eight}

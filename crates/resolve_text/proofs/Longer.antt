@@ -1,19 +1,14 @@
 -- Texts longer than any accepted one: what the program prints of them is fixed by one byte more than the longest has.
-use mathlib.Core.Path.{_≡_, refl, sym, ap, subst, _∙_}
-use mathlib.Core.Bool.{Bool, true, false, not, _&&_}
+use mathlib.Core.Path.{_≡_, ap, subst, _∙_}
+use mathlib.Core.Bool.{Bool, false, not}
 use mathlib.Core.List.{List}
-use Prim.Native.Nat.{ℕ, _*_, _<_, _≤_}
-use native.Mathlib.Decide.{decLe}
-use native.Mathlib.Omega.{arith}
+use Prim.Native.Nat.{ℕ, _*_}
 use lib.ListN.{length, take}
-use lib.Dec.{T, leb→le}
-use lib.Seq.{take-all, length-take-le}
 use Rattle.definition.specs.Basics.{if_then_else_}
 use Rattle.definition.specs.Sheet.{Sheet}
-use Rattle.definition.specs.Names.{namesFew, namesShort, namesSized, namesEnded, namesUnlike, namesFit}
+use Rattle.definition.specs.Names.{namesFit}
 use Rattle.definition.specs.Text.{sheetOf, textOf}
 use Rattle.definition.specs.Outcome.{Outcome, rowsFit, refused, outcome, report}
-use Rattle.definition.proofs.Lists.Tests.{and-left, and-right}
 use Rattle.names.proofs.Longer.{same-cut as same-names-cut}
 use Rattle.text.proofs.Longer.{same-cut}
 use Rattle.report.specs.Report.{Begins, reply}
@@ -34,7 +29,10 @@ names-cut lent s ns =
 
 -- A program that reads 165,889 bytes of a sheet's text and 32,769 of its names prints what belongs to the whole texts.
 pub printed-cut : (lent : ℕ) (s ns : List ℕ) → printedWith lent (take 165889 s) (take 32769 ns) ≡ printedWith lent s ns
-printed-cut lent s ns = ap (λ (o : Outcome). textOf (report o)) (same-cut (λ t. outcome t (take 32769 ns) (8 * lent)) (refused 1) (λ t e. outcome-none (8 * lent) t (take 32769 ns) e) s ∙ names-cut (8 * lent) (sheetOf s) ns)
+printed-cut lent s ns =
+    let few : List ℕ = take 32769 ns in
+    ap (λ (o : Outcome). textOf (report o))
+    (same-cut (λ t. outcome t few (8 * lent)) (refused 1) (λ t e. outcome-none (8 * lent) t few e) s ∙ names-cut (8 * lent) (sheetOf s) ns)
 
 -- and so the reply to the bytes read is the reply to the texts
 pub replied-texts : {lent : ℕ} {sheet names before : List ℕ} {n : ℕ} {after : List ℕ}
