@@ -7,9 +7,6 @@ use name_index::Found;
 use name_index::find_name;
 use report::print_answer;
 
-// The bytes of 2,049 lines: the longest report.
-const LONGEST_REPORT: usize = 165969;
-
 // One row, and nothing refused.
 const ONE_ROW: Answer = Answer {
     number: 0,
@@ -32,7 +29,7 @@ fn found_words(x: Found) -> [u32; 16]
 pub fn find_lent(names: &[u8], name: &[u8], text: &mut [u8]) -> usize
     ensures { λ n. ⌜ RepliedOfNames (now (names .entry)) (now (name .entry)) (now (text .entry)) n (now (text .exit)) ⌝ }
 {
-    if text.len() < LONGEST_REPORT {
+    if text.len() < report::LONGEST {
         return 0;
     }
     let mut words = found_words(find_name(names, name));
