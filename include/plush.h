@@ -47,6 +47,16 @@ uint32_t plush_resolve(const uint32_t *sheet, size_t sheet_words, const uint8_t 
 uint32_t plush_to_columns(const uint32_t *source, size_t source_words, uint32_t *target, size_t target_words);
 uint32_t plush_from_columns(const uint32_t *source, size_t source_words, uint32_t *target, size_t target_words);
 
+/* Finds bytes among the fixed names and those of a list, through the name index of docs/FORMAT.md 3.
+ *
+ * names, name_bytes      the listed names, each ended by byte 10
+ * name, bytes            what is looked for, any bytes, without an end
+ * found, found_words     lent, of any length, also 0: the number, how many places of the index were read, and zeros to its end
+ *
+ * Returns the number, 0 where the bytes are no name of the list, or the list is refused by question 2; no place is read then.
+ */
+uint32_t plush_find_name(const uint8_t *names, size_t name_bytes, const uint8_t *name, size_t bytes, uint32_t *found, size_t found_words);
+
 /* The words of a report. */
 enum {
     PLUSH_REPORT_QUESTION = 0, /* 0: resolved */

@@ -1,6 +1,6 @@
 //! batch: as batch.c, through the Rust binding, in two threads. Each answer row is read as an `AnswerRow` and written back, and each
 //! sheet stored by column and taken back.
-use plush::{from_columns, resolve, resolve_to_vec, to_columns, Position, Question, ANSWER_WORDS};
+use plush::{find_name, from_columns, resolve, resolve_to_vec, to_columns, Position, Question, ANSWER_WORDS};
 use std::io::{Read, Write};
 
 fn numbers(bytes: &[u8]) -> Vec<u32> {
@@ -51,12 +51,24 @@ fn check_columns(sheet: &[u32]) {
     }
 }
 
+/// Each name is found under its number, if question 2 lets the list pass.
+fn check_names(names: &[u8], fits: bool) {
+    for (i, name) in names.split_inclusive(|&byte| byte == b'\n').enumerate() {
+        let found = find_name(names, name.strip_suffix(b"\n").unwrap_or(name));
+        assert_eq!((found.number, found.places > 0), (fits.then_some(25 + i as u32), fits));
+    }
+}
+
 /// The reports of some cases, in lent words of their own.
 fn reports(cases: &[(Vec<u32>, &[u8])]) -> String {
     let mut answer = vec![u32::MAX; ANSWER_WORDS];
     let told = |(sheet, names): &(Vec<u32>, &[u8])| {
         check_columns(sheet);
-        report(sheet, names, &mut answer)
+        let told = report(sheet, names, &mut answer);
+        if !told.starts_with("         1") {
+            check_names(names, !told.starts_with("         2"));
+        }
+        told
     };
     cases.iter().map(told).collect()
 }

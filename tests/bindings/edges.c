@@ -89,7 +89,25 @@ static void check_columns(void) {
     check(plush_from_columns(SHEET, 0, back, 96) == PLUSH_QUESTION_ROWS_FIT && all(back, 96, 0), "an empty source");
 }
 
+/* Names found, in words that go on behind the lent ones. */
+static void check_found(size_t name_bytes, const char *name, uint32_t number, uint32_t places, const char *what) {
+    for (size_t lent = 0; lent <= 3; lent++) {
+        const uint32_t told[3] = {number, places, 0};
+        uint32_t found[4];
+        memset(found, 0xA5, sizeof found);
+        check(plush_find_name(NAMES, name_bytes, (const uint8_t *)name, strlen(name), found, lent) == number, what);
+        check(memcmp(found, told, lent * sizeof *found) == 0, what);
+        check(all(found + lent, 4 - lent, STALE), "words after the lent ones are as before");
+    }
+}
+
 int main(void) {
+    check_found(4, "f", 25, 1, "f is found");
+    check_found(4, "p", 26, 1, "p is found");
+    check_found(4, "MAIN_UNIT", 24, 1, "a fixed name is found");
+    check_found(4, "g", 0, 1, "g is absent");
+    check_found(4, "", 0, 1, "no bytes are absent");
+    check_found(3, "f", 0, 0, "a list without its end has no index");
     check_columns();
     for (size_t room = 0; room <= 16; room++) {
         check_resolved(64, room);
@@ -110,6 +128,6 @@ int main(void) {
     static const uint32_t line[8] = {PLUSH_QUESTION_NULL_DECLARED, 7, 1, 20, PLUSH_NAME_NULL, 0, 0, 0};
     check(resolve(undeclared, 80, 4, 64, 8) == PLUSH_QUESTION_NULL_DECLARED, "null is not declared");
     check(memcmp(report, line, sizeof line) == 0, "position and name of a refusal");
-    puts(failed ? "edges: FAILED" : "edges: S1, refusals 1, 2, 3, 9 and 22, report slices of 0 to 16 words, S1 by column and back: as they must be");
+    puts(failed ? "edges: FAILED" : "edges: S1, refusals 1, 2, 3, 9 and 22, report slices of 0 to 16 words, S1 by column and back, names found: as they must be");
     return failed;
 }

@@ -1,6 +1,7 @@
 """Faults to plant: what each is, then pairs of a text that occurs once in the file and what stands in its place.
 
-RESOLVER is of second.py, FORMAT and TEXT of format_check.py, COLUMNS, COLUMN_REPLIES and COLUMN_SIZES of columns_cases.py. `format_faults(source)` adds to FORMAT those that can be "
+RESOLVER is of second.py, FORMAT and TEXT of format_check.py, COLUMNS, COLUMN_REPLIES and COLUMN_SIZES of columns_cases.py, FINDING
+of find_cases.py. `format_faults(source)` adds to FORMAT those that can be "
      "listed by
 rule: each demand left out, each child list a little too wide or too narrow, kinds taken for statements or expressions.
 """
@@ -869,6 +870,35 @@ COLUMNS = [
     ("2,049 rows at most", "MOST_ROWS = 2048", "MOST_ROWS = 2049"),
     ("an exact target is too short", "if lent < len(source):", "if lent <= len(source):"),
     ("a target a row short is enough", "if lent < len(source):", "if lent + ROW < len(source):"),
+]
+
+# The name index: of find_cases.py.
+FINDING = [
+    ("the product before the exclusive-or", "v = (v ^ byte) * 16777619 % 2**32", "v = v * 16777619 % 2**32 ^ byte"),
+    ("the sum for the exclusive-or", "(v ^ byte)", "(v + byte)"),
+    ("another start", "v = 2166136261", "v = 2166136262"),
+    ("another prime", "16777619", "16777617"),
+    ("bytes with a sign", "(v ^ byte)", "((v ^ (byte - 256 if byte > 127 else byte)) % 2**32)"),
+    ("the end byte is hashed", "for byte in name:", "for byte in name + b'\\n':"),
+    ("the first byte is left out", "for byte in name:", "for byte in name[1:]:"),
+    ("2,047 places", "PLACES = 2048", "PLACES = 2047"),
+    ("4,096 places", "PLACES = 2048", "PLACES = 4096"),
+    ("the high bits choose the place", "place = value(name) % PLACES", "place = value(name) >> 21"),
+    ("names of one value are one", "places[place][0] != name", "value(places[place][0]) != value(name)"),
+    ("places read from 0", "    read = 1\n", "    read = 0\n"),
+    ("the last place is not counted", "    return place, read\n", "    return place, max(1, read - 1)\n"),
+    ("the walk goes down", "place = (place + 1) % PLACES", "place = (place - 1) % PLACES"),
+    ("every third place", "place = (place + 1) % PLACES", "place = (place + 3) % PLACES"),
+    ("the last place is passed over", "place = (place + 1) % PLACES", "place = (place + 1) % (PLACES - 1)"),
+    ("fixed names are not entered", "enumerate(FIXED + listed(names), 1)", "enumerate(listed(names), 25)"),
+    ("fixed names are entered last", "for number, name in enumerate(FIXED + listed(names), 1):",
+     "for number, name in [*enumerate(listed(names), 25), *enumerate(FIXED, 1)]:"),
+    ("names are entered backwards", "enumerate(FIXED + listed(names), 1):", "[*enumerate(FIXED + listed(names), 1)][::-1]:"),
+    ("numbers from 0", "enumerate(FIXED + listed(names), 1)", "enumerate(FIXED + listed(names), 0)"),
+    ("a refused list is searched", "    if not names_fit(names):\n        return 0, 0\n", ""),
+    ("a refused list takes a place", "        return 0, 0\n", "        return 0, 1\n"),
+    ("the place for the number", "(places[place][1] if places[place] else 0), read", "(place if places[place] else 0), read"),
+    ("number and places exchanged", "[*find(names, name), 0,", "[*find(names, name)[::-1], 0,"),
 ]
 
 # The first line and the rows of a reply.

@@ -1,6 +1,6 @@
 """planted.py [WORD]
 
-Plants the faults of faults.py in copies of second.py, format_check.py and columns_cases.py, one at a time, and counts the
+Plants the faults of faults.py in copies of second.py, format_check.py, columns_cases.py and find_cases.py, one at a time, and counts the
 recorded cases that notice each: those of crates/plush_serve whose reply changes, and those of crates/question_tests and
 crates/columns_tests whose answer changes.
 Prints a line for each fault, first those that no case notices; exit status 1 if there is one, or if a copy without a fault
@@ -18,7 +18,8 @@ from tree import text_of
 HERE = Path(__file__).resolve().parent
 CRATES = HERE.parents[1] / "crates"
 RESOLVE = 1
-TO_COLUMNS = 9
+FIND = 6
+TO_COLUMNS, FROM_COLUMNS = 9, 10
 
 
 def altered(file, changes):
@@ -36,15 +37,16 @@ def altered(file, changes):
 # The recorded cases
 
 def serve_cases():
-    """(verb, text of a sheet, names, rows lent, reply) of each case of crates/plush_serve."""
+    """(verb, text of a sheet, names, rows lent, second names, reply) of each case of crates/plush_serve."""
     data, out = ((CRATES / "plush_serve" / name).read_bytes() for name in ("stdin", "stdout"))
     cases, at, replied = [], 0, 0
     while at < len(data):
-        verb, sheet_bytes, name_bytes, _, lent, *_ = (int(data[at + i:at + i + 10]) for i in range(0, 80, 10))
+        verb, sheet_bytes, name_bytes, _, lent, _, _, second_bytes = (int(data[at + i:at + i + 10]) for i in range(0, 80, 10))
         start = at + 81
-        middle, at = start + sheet_bytes, start + sheet_bytes + name_bytes
+        middle, second = start + sheet_bytes, start + sheet_bytes + name_bytes
+        at = second + second_bytes
         end = replied + 81 * (1 + int(out[replied + 50:replied + 60]))
-        cases.append((verb, data[start:middle], data[middle:at], lent, out[replied:end]))
+        cases.append((verb, data[start:middle], data[middle:second], lent, data[second:at], out[replied:end]))
         replied = end
     assert replied == len(out)
     return cases
@@ -70,8 +72,10 @@ class Recorded:
     def __init__(self):
         self.format = altered("format_check.py", ())
         cases = serve_cases()
-        self.serve = [rest for verb, *rest in cases if verb == RESOLVE]
-        self.columns = [(verb, self.format.words_of_text(text), lent, out) for verb, text, _, lent, out in cases if verb != RESOLVE]
+        self.serve = [(text, names, lent, out) for verb, text, names, lent, _, out in cases if verb == RESOLVE]
+        self.columns = [(verb, self.format.words_of_text(text), lent, out) for verb, text, _, lent, _, out in cases
+                        if verb in (TO_COLUMNS, FROM_COLUMNS)]
+        self.found = [(names, name, out) for verb, _, names, _, name, out in cases if verb == FIND]
         self.column_tests = column_tests()
         self.questions = question_cases()
         self.sheets = []
@@ -101,6 +105,10 @@ class Recorded:
             return text_of([told[i:i + 8] for i in range(0, len(told), 8)]).encode()
         return sum(outcome(lambda: reply(verb, words, lent)) != out for verb, words, lent, out in self.columns)
 
+    def finding_notices(self, module):
+        """How many cases of crates/plush_serve in which a name is looked for the module answers otherwise."""
+        return sum(outcome(lambda: module.reply(names, name)) != out for names, name, out in self.found)
+
     def column_tests_notice(self, module):
         """How many cases of crates/columns_tests the module answers otherwise."""
         return sum(outcome(lambda: module.expected(case)) != line for case, line in self.column_tests)
@@ -127,6 +135,7 @@ def planted(recorded, word):
         ("plush_serve", "format_check.py", faults.TEXT, recorded.text_notices),
         ("question_tests", "format_check.py", faults.format_faults(source), recorded.format_notices),
         ("plush_serve", "columns_cases.py", [*faults.COLUMNS, *faults.COLUMN_REPLIES], recorded.columns_notice),
+        ("plush_serve", "find_cases.py", faults.FINDING, recorded.finding_notices),
         ("columns_tests", "columns_cases.py", [*faults.COLUMNS, *faults.COLUMN_SIZES], recorded.column_tests_notice),
     ]
     for program, file, group, notices in groups:
@@ -141,13 +150,14 @@ def main():
     wrong = [recorded.resolver_notices(altered("second.py", ())), recorded.text_notices(recorded.format),
              recorded.format_notices(recorded.format)]
     wrong += [notices(altered("columns_cases.py", ())) for notices in (recorded.columns_notice, recorded.column_tests_notice)]
+    wrong.append(recorded.finding_notices(altered("find_cases.py", ())))
     if any(wrong):
         sys.exit(f"without a fault, cases answered otherwise: {wrong}")
     found = list(planted(recorded, sys.argv[1] if len(sys.argv) > 1 else ""))
     for count, line in sorted(found, key=lambda each: each[0] > 0):
         print(f"{count:5} {line}")
     missed = sum(count == 0 for count, _ in found)
-    print(f"{len(recorded.serve) + len(recorded.columns)} cases of plush_serve, {len(recorded.questions)} of question_tests,"
+    print(f"{len(recorded.serve) + len(recorded.columns) + len(recorded.found)} cases of plush_serve, {len(recorded.questions)} of question_tests,"
           f" {len(recorded.column_tests)} of columns_tests")
     print(f"{len(found)} faults planted, {missed} not noticed")
     sys.exit(1 if missed else 0)

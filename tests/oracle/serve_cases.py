@@ -7,7 +7,7 @@ The cases are the samples of document 01, the small programs of directed.py, som
 at most MOST_ROWS rows; of each question from 5 to 21 at least LEAST. The later ones follow these in order: small programs
 that planted.py asks for, sheets and texts at the limits, bodies that are too long, and sheets with few answer rows lent. Of
 those that questions 1 to 4 refuse, format_check.py says so; the oracle is not asked. Last come sheets to store by column and
-to take back, with the replies of columns_cases.py. Prints the counts by question and by kind of row.
+to take back, with the replies of columns_cases.py, and names to find, with those of find_cases.py. Prints the counts by question and by kind of row.
 """
 import random
 import sys
@@ -16,6 +16,7 @@ from pathlib import Path
 
 import columns_cases
 import directed
+import find_cases
 from expected import all_printed
 from format_check import first_no, words_of_text
 from limits import limits, long_texts, more_limits, texts
@@ -186,7 +187,7 @@ def make_cases(oracle, count, seed):
         first += BATCH
     rng.shuffle(cases)
     cases += expect(oracle, list(later_cases()))
-    return [*cases, *expect(oracle, list(lent_cases(cases))), *column_cases()]
+    return [*cases, *expect(oracle, list(lent_cases(cases))), *column_cases(), *find_cases.directed()]
 
 
 def summary(cases):

@@ -36,6 +36,14 @@ extern "C" {
         report: *mut u32,
         report_words: usize,
     ) -> u32;
+    fn plush_find_name(
+        names: *const u8,
+        name_bytes: usize,
+        name: *const u8,
+        bytes: usize,
+        found: *mut u32,
+        found_words: usize,
+    ) -> u32;
     fn plush_to_columns(source: *const u32, source_words: usize, target: *mut u32, target_words: usize) -> u32;
     fn plush_from_columns(source: *const u32, source_words: usize, target: *mut u32, target_words: usize) -> u32;
 }
@@ -274,4 +282,20 @@ pub fn to_columns(source: &[u32], target: &mut [u32]) -> Result<(), Question> {
 /// The way back. Each, handed the other's result at the source's length, gives the source again, whatever its words.
 pub fn from_columns(source: &[u32], target: &mut [u32]) -> Result<(), Question> {
     answered(unsafe { plush_from_columns(source.as_ptr(), source.len(), target.as_mut_ptr(), target.len()) })
+}
+
+/// What a search found.
+#[derive(Clone, Copy, Debug, PartialEq, Eq)]
+pub struct Found {
+    /// The name's number; `None` where the bytes are no name of the list, or question 2 refuses the list.
+    pub number: Option<u32>,
+    /// How many places of the index were read: none in a list that is refused.
+    pub places: u32,
+}
+
+/// Finds bytes, without an end, among the fixed names and those of a list.
+pub fn find_name(names: &[u8], name: &[u8]) -> Found {
+    let mut found = [0; 2];
+    unsafe { plush_find_name(names.as_ptr(), names.len(), name.as_ptr(), name.len(), found.as_mut_ptr(), found.len()) };
+    Found { number: Some(found[0]).filter(|&number| number != 0), places: found[1] }
 }

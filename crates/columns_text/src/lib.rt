@@ -13,9 +13,6 @@ use lexer::SrcPos;
 use report::print_answer;
 use text::read_sheet;
 
-// The bytes of 2,049 lines: the longest report.
-const LONGEST_REPORT: usize = 165969;
-
 // Stores a sheet by column, or takes it back.
 fn rearrange(back: bool, source: &[u32], target: &mut [u32]) -> u32
     ensures { λ n. ⌜ (n ≡ firstNo (now (source .entry)) (length (now (target .entry))))
@@ -66,7 +63,7 @@ pub fn columns_lent(sheet: &[u8], back: bool, lent: usize, text: &mut [u8]) -> u
     if lent > limit::LENT_ROWS as usize {
         return 0;
     }
-    if text.len() < LONGEST_REPORT {
+    if text.len() < report::LONGEST {
         return 0;
     }
     let mut words = [0u32; 16384];

@@ -31,7 +31,7 @@ pub fn first_four(words: &[u32], names: &[u8]) -> u32
     if !sheet_sized(words) {
         return question::ROWS_FIT;
     }
-    if !names::names_fit(names) {
+    if !name_index::names_fit(names) {
         return question::NAMES_FIT;
     }
     let last = name::LAST_FIXED + names::count_names(names);

@@ -1,5 +1,5 @@
 -- Laws of name lists: a list is its first name and the rest, names by number, and a table of starts cuts a list into its names.
-use mathlib.Core.Path.{_≡_, refl, sym, ap, _∙_}
+use mathlib.Core.Path.{_≡_, refl, ap, _∙_}
 use mathlib.Core.Bool.{Bool, true, false, _&&_}
 use mathlib.Core.Logic.{_⊎_, inl, inr, ⊎-elim}
 use mathlib.Core.List.{List, [], _∷_, _++_}
@@ -20,7 +20,7 @@ pub and-false : (t : Bool) {u : Bool} → u ≡ false → (t && u) ≡ false
 and-false true e = e
 and-false false e = refl
 
-side : (m n : ℕ) → (m < n) ⊎ (n ≤ m)
+pub side : (m n : ℕ) → (m < n) ⊎ (n ≤ m)
 side m n = go (ltb m n) refl
   where
     go : (t : Bool) → ltb m n ≡ t → (m < n) ⊎ (n ≤ m)
@@ -181,21 +181,11 @@ cuts (suc k) w at = ⊎-elim (λ h. later-cut (found w at h) k (cuts k w (at + f
 
 -- a table t of the starts of w cuts w into its names
 module _ (w : List ℕ) {t : List ℕ} (table : t ≡ starts w) where
-  sizes : length t ≡ suc (length (listed w))
-  sizes = ap length table ∙ starts-length 0 (listed w)
-
-  pub table-some : 0 < length t
-  table-some = omega (arith, sizes)
+  pub table-size : length t ≡ suc (length (listed w))
+  table-size = ap length table ∙ starts-length 0 (listed w)
 
   name-inside : (k : ℕ) → k + 1 < length t → k < length (listed w)
-  name-inside k h = omega (arith, sizes)
-
-  pub no-more : (k : ℕ) → length t ≤ k + 1 → drop k (listed w) ≡ []
-  no-more k h = drop-of-length-le (listed w) {i = k} (omega (arith, sizes))
-
-  -- from place k on
-  pub names-step : (k : ℕ) → k + 1 < length t → {n : Name} → n ≡ getD (listed w) k [] → drop k (listed w) ≡ n ∷ drop (k + 1) (listed w)
-  names-step k h e = drop-step (listed w) k [] (name-inside k h) ∙ ap (λ (n : Name). n ∷ drop (k + 1) (listed w)) (sym e)
+  name-inside k h = omega (arith, table-size)
 
   pub cut : (k : ℕ) → k + 1 < length t → Cut w (getD t k 0) (getD t (k + 1) 0) (getD (listed w) k [])
   cut k h = rw (table, add-one) (cuts k w 0 (name-inside k h))

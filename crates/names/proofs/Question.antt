@@ -1,37 +1,28 @@
--- Question 2 part by part, and the fixed names as a list of their own.
+-- Question 2 part by part, and names by number.
 use mathlib.Core.Path.{_≡_, refl, sym, ap, _∙_}
 use mathlib.Core.Bool.{Bool, true, false, _&&_}
-use mathlib.Core.List.{List, _++_}
-use Prim.Native.Nat.{ℕ, _<_, _≤_}
-use lib.ListN.{length}
+use mathlib.Core.List.{List, [], _++_}
+use Prim.Native.Nat.{ℕ, _+_, _-_, _<_, _≤_}
+use native.Mathlib.Omega.{arith}
+use lib.ListN.{length, getD, List·getD-append, List·getD-eq-default}
+use lib.Seq.{getD-append-add}
 use borrow.Author.Tests.{le-leb, lt-leb, leb-true}
-use Rattle.definition.specs.Basics.{all, unlike}
-use Rattle.definition.specs.Bytes.{bytes}
-use Rattle.definition.specs.Names.{Name, fixed, listed, sameName, namesFew, namesShort, namesSized, namesEnded, namesUnlike, namesFit}
+use Rattle.definition.specs.Names.{fixed, listed, namesFew, namesShort, namesSized, namesEnded, namesUnlike, namesFit}
 use Rattle.definition.proofs.Lists.Tests.{T-true}
-use Rattle.names.specs.Listed.{absent}
-use Rattle.names.proofs.Laws.{and-false}
-use Rattle.names.proofs.Compare.{unlike-append}
+use Rattle.names.specs.Listed.{starts, numbered, named}
+use Rattle.names.proofs.Laws.{and-false, table-size}
 
--- the bytes of the program's constant
-abbrev pub fixedList : List ℕ
-fixedList =
-    bytes "Int64\nFloat64\nString\nArray\nByteArray\nDict\nUIEvent\nAudioNeeded\nAudioData\n"
-    ++ bytes "kind\nwindow_id\nkey\nbutton\nx\ny\ndx\ndy\ntext\nnum_samples\nnum_channels\ndevice_id\nnull\ninit\nMAIN_UNIT\n"
+-- the name of a number, fixed and listed
+pub fixed-named : (w : List ℕ) (n : ℕ) → n < 25 → 0 < n → getD fixed (n - 1) [] ≡ named (numbered w) n
+fixed-named w n h some = sym (List·getD-append fixed (listed w) [] (n - 1) (omega arith))
 
-pub fixed-listed : listed fixedList ≡ fixed
-fixed-listed = refl
+pub listed-named : (w : List ℕ) (n : ℕ) → 25 ≤ n → getD (listed w) (n - 25) [] ≡ named (numbered w) n
+listed-named w n h =
+    let e : 24 + (n - 25) ≡ n - 1 = omega arith in
+    sym (getD-append-add fixed (listed w) (n - 25) []) ∙ ap (λ (k : ℕ). getD (fixed ++ listed w) k []) e
 
-fixed-unlike : unlike sameName fixed ≡ true
-fixed-unlike = refl
-
--- the fixed names are unlike each other, so what is left is to compare them with the listed ones, and those with each other
-pub fixed-first : (w : List ℕ) {t : Bool} → t ≡ all (absent w) (listed fixedList) → namesUnlike w ≡ (t && unlike sameName (listed w))
-fixed-first w e =
-    unlike-append sameName fixed (listed w)
-    ∙ ap (λ (t : Bool). t && (all (absent w) fixed && unlike sameName (listed w))) fixed-unlike
-    ∙ ap (λ (l : List Name). all (absent w) l && unlike sameName (listed w)) (sym fixed-listed)
-    ∙ ap (λ (t : Bool). t && unlike sameName (listed w)) (sym e)
+pub none-named : (w : List ℕ) {t : List ℕ} → t ≡ starts w → (n : ℕ) → 25 ≤ n → length t ≤ n - 25 + 1 → named (numbered w) n ≡ []
+none-named w table n h out = sym (listed-named w n h) ∙ List·getD-eq-default (listed w) [] (omega (arith, table-size w table))
 
 sizes-no : (f s z e u : Bool) → (f && z) ≡ false → (f && s && z && e && u) ≡ false
 sizes-no false s z e u p = refl
@@ -72,3 +63,7 @@ module _ (w : List ℕ) where
       let all-sized = left-true (namesFew w && namesShort w && namesSized w) (namesEnded w) ended in
       let short = left-true (namesFew w && namesShort w) (namesSized w) all-sized in
       (leb-true (length (listed w)) 1024 (left-true (namesFew w) (namesShort w) short), leb-true (length w) 32768 (right-true (namesFew w) (namesShort w) short))
+
+  -- and its names are unlike
+  pub fit-unlike : namesFit w ≡ true → namesUnlike w ≡ true
+  fit-unlike = right-true (namesFew w && namesShort w && namesSized w && namesEnded w) (namesUnlike w)

@@ -1,20 +1,23 @@
 -- Listed names by number, and the places at which they start in their bytes.
 use mathlib.Core.Path.{_≡_}
-use mathlib.Core.Bool.{Bool, not}
-use mathlib.Core.List.{List, [], _∷_}
+use mathlib.Core.List.{List, [], _∷_, _++_}
 use Prim.Native.Nat.{ℕ, suc, _+_, _-_, _<_, _≤_}
 use lib.ListN.{length, getD, drop}
 use lib.Dec.{eqb, leb}
-use Rattle.definition.specs.Basics.{if_then_else_, any}
-use Rattle.definition.specs.Names.{Name, listed, sameName}
+use Rattle.definition.specs.Basics.{if_then_else_}
+use Rattle.definition.specs.Names.{Name, fixed, listed}
 
 -- the listed name of number n, without its end; empty where n names nothing in the list
 abbrev pub nameOf : List ℕ → ℕ → Name
 nameOf ns n = if leb 25 n then getD (listed ns) (n - 25) [] else []
 
--- is a name not in a list?
-abbrev pub absent : List ℕ → Name → Bool
-absent ns n = not (any (sameName n) (listed ns))
+-- the fixed and the listed names, by rising number from 1 on
+abbrev pub numbered : List ℕ → List Name
+numbered ns = fixed ++ listed ns
+
+-- the name of number n; empty where n is above all numbers
+abbrev pub named : List Name → ℕ → Name
+named l n = getD l (n - 1) []
 
 -- how many bytes stand before the first end
 abbrev pub firstSize : List ℕ → ℕ

@@ -1,12 +1,12 @@
-// The names of a sheet: a byte list in which byte 10 ends each. Question 2, and the bytes of a name by its number.
+// The names of a sheet: a byte list in which byte 10 ends each. What question 2 asks of each name by itself, and the bytes of a name by its
+// number.
 ghost use mathlib.Core.Path.{_≡_};
 ghost use mathlib.Core.Bool.{_&&_};
 ghost use mathlib.Core.List.{[]};
 ghost use Prim.Native.Nat.{_+_, _<_, _≤_};
-ghost use lib.ListN.{length, getD, take, drop};
-ghost use Rattle.definition.specs.Basics.{any, all, unlike};
-ghost use Rattle.definition.specs.Names.{listed, sameName, namesFew, namesSized, namesEnded, namesUnlike, namesFit};
-ghost use Rattle.names.specs.Listed.{nameOf, Ends, starts, absent};
+ghost use lib.ListN.{length, getD, take};
+ghost use Rattle.definition.specs.Names.{listed, sameName, namesFew, namesSized, namesEnded};
+ghost use Rattle.names.specs.Listed.{nameOf, Ends, starts, numbered, named};
 use ast::limit;
 
 // The byte that ends a name.
@@ -115,7 +115,7 @@ pub fn name_bytes(names: &[u8], number: u32) -> &[u8]
 }
 
 // Are the names few enough, and each neither empty nor too long?
-fn sizes_fit(names: &[u8]) -> bool
+pub fn sizes_fit(names: &[u8]) -> bool
     ensures { λ r. ⌜ r ≡ (namesFew (now (names .entry)) && namesSized (now (names .entry))) ⌝ }
 {
     let mut at = 0;
@@ -138,7 +138,7 @@ fn sizes_fit(names: &[u8]) -> bool
 }
 
 // Has the last name its end?
-fn is_ended(names: &[u8]) -> bool
+pub fn is_ended(names: &[u8]) -> bool
     ensures { λ r. ⌜ r ≡ namesEnded (now (names .entry)) ⌝ }
 {
     if names.len() == 0 {
@@ -148,7 +148,7 @@ fn is_ended(names: &[u8]) -> bool
 }
 
 // Writes where each name starts and then the place past the last, and answers how many names there are.
-fn find_starts(names: &[u8], table: &mut [u32]) -> usize
+pub fn find_starts(names: &[u8], table: &mut [u32]) -> usize
     requires { ⌜ (length (now names) ≤ 32768) × (length (listed (now names)) < length (now table)) ⌝ }
     ensures { λ r. ⌜ (r ≡ length (listed (now (names .entry)))) × (r < length (now (table .entry)))
         × (take (r + 1) (now (table .exit)) ≡ starts (now (names .entry))) ⌝ }
@@ -166,7 +166,7 @@ fn find_starts(names: &[u8], table: &mut [u32]) -> usize
 }
 
 // The name at place `k` of a list whose starts are in `table`.
-fn name_at<'a>(names: &'a [u8], table: &[u32], k: usize) -> &'a [u8]
+pub fn name_at<'a>(names: &'a [u8], table: &[u32], k: usize) -> &'a [u8]
     requires { ⌜ (now table ≡ starts (now names)) × (k + 1 < length (now table)) ⌝ }
     ensures { λ r. ⌜ now r ≡ getD (listed (now (names .entry))) k [] ⌝ }
 {
@@ -175,78 +175,17 @@ fn name_at<'a>(names: &'a [u8], table: &[u32], k: usize) -> &'a [u8]
     &names[start..end]
 }
 
-// Is a name in a list, at place `from` or later? `same_name` looks at the sizes before all else.
-fn is_among(name: &[u8], names: &[u8], table: &[u32], from: usize) -> bool
-    requires { ⌜ (now table ≡ starts (now names)) × (from < length (now table)) ⌝ }
-    ensures { λ r. ⌜ r ≡ any (sameName (now (name .entry))) (drop from (listed (now (names .entry)))) ⌝ }
+// Are these bytes the name of a number? `table` has the starts of the listed names. A number above them all has the empty name.
+pub fn is_name_of(name: &[u8], names: &[u8], table: &[u32], number: u32) -> bool
+    requires { ⌜ (now table ≡ starts (now names)) × (0 < number) ⌝ }
+    ensures { λ r. ⌜ r ≡ sameName (now (name .entry)) (named (numbered (now (names .entry))) number) ⌝ }
 {
-    let mut k = from;
-    while k + 1 < table.len() {
-        if same_name(name, name_at(names, table, k)) {
-            return true;
-        }
-        k += 1;
+    if number < FIRST_LISTED {
+        return same_name(name, name_at(&FIXED, &FIXED_STARTS, number as usize - 1));
     }
-    false
-}
-
-// Is no name of one list in another? `places` has the starts of the one, `table` those of the other.
-fn none_shared(ours: &[u8], places: &[u32], names: &[u8], table: &[u32]) -> bool
-    requires { ⌜ (now places ≡ starts (now ours)) × (now table ≡ starts (now names)) ⌝ }
-    ensures { λ r. ⌜ r ≡ all (absent (now (names .entry))) (listed (now (ours .entry))) ⌝ }
-{
-    let mut i = 0;
-    while i + 1 < places.len() {
-        if is_among(name_at(ours, places, i), names, table, 0) {
-            return false;
-        }
-        i += 1;
+    let k = (number - FIRST_LISTED) as usize;
+    if k + 1 < table.len() {
+        return same_name(name, name_at(names, table, k));
     }
-    true
-}
-
-// Are no two names of a list the same?
-fn none_twice(names: &[u8], table: &[u32]) -> bool
-    requires { ⌜ now table ≡ starts (now names) ⌝ }
-    ensures { λ r. ⌜ r ≡ unlike sameName (listed (now (names .entry))) ⌝ }
-{
-    let mut i = 0;
-    while i + 1 < table.len() {
-        if is_among(name_at(names, table, i), names, table, i + 1) {
-            return false;
-        }
-        i += 1;
-    }
-    true
-}
-
-// Are no two of the fixed and the listed names the same? Question 2 compares names through this routine alone, so that an
-// index of names can take its place.
-fn names_unlike(names: &[u8], table: &[u32]) -> bool
-    requires { ⌜ now table ≡ starts (now names) ⌝ }
-    ensures { λ r. ⌜ r ≡ namesUnlike (now (names .entry)) ⌝ }
-{
-    if !none_shared(&FIXED, &FIXED_STARTS, names, table) {
-        return false;
-    }
-    none_twice(names, table)
-}
-
-// Question 2: may the names stand as they are listed?
-pub fn names_fit(names: &[u8]) -> bool
-    ensures { λ r. ⌜ r ≡ namesFit (now (names .entry)) ⌝ }
-{
-    if names.len() > limit::LIST_BYTES {
-        return false;
-    }
-    if !is_ended(names) {
-        return false;
-    }
-    if !sizes_fit(names) {
-        return false;
-    }
-    // One start for each name, and the place past the last.
-    let mut table = [0u32; 1025];
-    let count = find_starts(names, &mut table);
-    names_unlike(names, &table[..count + 1])
+    name.len() == 0
 }

@@ -1,9 +1,11 @@
 // The library to link: what C, or Rust through `bindings/rust`, calls. `include/plush.h` declares it.
 ghost use lib.ListN.{length};
 ghost use Rattle.columns.specs.Columns.{toColumns, fromColumns, Rearranged};
+ghost use Rattle.plush.specs.Found.{NameFound};
 ghost use Rattle.plush.specs.Resolved.{Resolved};
 use columns::from_columns;
 use columns::to_columns;
+use name_index::find_name;
 use report::first_line;
 use report::write_fitted;
 use resolver::resolve;
@@ -40,4 +42,16 @@ pub extern "C" fn plush_from_columns(source: &[u32], target: &mut [u32]) -> u32
     ensures { λ n. ⌜ Rearranged fromColumns toColumns (now (source .entry)) (length (now (target .entry))) n (now (target .exit)) ⌝ }
 {
     from_columns(source, target)
+}
+
+// Finds bytes among the fixed names and those of a list. Returns the number, 0 where they are absent or the list is refused by question 2; and
+// writes it, and how many places of the index were read, into the lent words as far as they go.
+#[no_mangle]
+pub extern "C" fn plush_find_name(names: &[u8], name: &[u8], found: &mut [u32]) -> u32
+    ensures { λ n. ⌜ NameFound (now (names .entry)) (now (name .entry)) (length (now (found .entry))) n (now (found .exit)) ⌝ }
+{
+    let x = find_name(names, name);
+    let told = [x.number, x.places];
+    write_fitted(&told, found);
+    x.number
 }

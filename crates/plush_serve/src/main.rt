@@ -6,6 +6,7 @@ mod input;
 mod say;
 
 use columns_text::columns_lent;
+use find_text::find_lent;
 use input::fill;
 use input::read_part;
 use input::skip;
@@ -44,6 +45,12 @@ fn reply_columns(sheet: &[u8], back: bool, lent: usize, text: &mut [u8]) -> bool
     write(&text[..n])
 }
 
+// The reply of bytes looked for in a list of names.
+fn reply_found(names: &[u8], name: &[u8], text: &mut [u8]) -> bool {
+    let n = find_lent(names, name, text);
+    write(&text[..n])
+}
+
 // Verb 1: resolves a sheet. Of a body that is too long one byte more than the longest accepted is kept, and the rest is read past.
 fn resolve(request: Request, sheet: &mut [u8], names: &mut [u8], text: &mut [u8]) -> bool {
     let s = read_part(request.sheet as usize, sheet);
@@ -55,6 +62,19 @@ fn resolve(request: Request, sheet: &mut [u8], names: &mut [u8], text: &mut [u8]
         return complain(broken::CUT_OFF);
     }
     reply_resolved(&sheet[..s], &names[..n], request.x as usize, text)
+}
+
+// Verb 6: finds a name. The bytes that are looked for, fewer than a sheet's text may have, are kept in its place.
+fn find(request: Request, sought: &mut [u8], names: &mut [u8], text: &mut [u8]) -> bool {
+    let n = read_part(request.names as usize, names);
+    if !skip(request.names as usize - n) {
+        return complain(broken::CUT_OFF);
+    }
+    let s = read_part(request.second_names as usize, sought);
+    if s < request.second_names as usize {
+        return complain(broken::CUT_OFF);
+    }
+    reply_found(&names[..n], &sought[..s], text)
 }
 
 // Verbs 9 and 10: stores a sheet by column, or takes it back.
@@ -75,6 +95,7 @@ fn answer(header: &[u8], sheet: &mut [u8], names: &mut [u8], text: &mut [u8]) ->
     let verb = request.verb;
     match verb {
         verb::RESOLVE => resolve(request, sheet, names, text),
+        verb::FIND_NAME => find(request, sheet, names, text),
         verb::TO_COLUMNS => rearrange(request, false, sheet, text),
         verb::FROM_COLUMNS => rearrange(request, true, sheet, text),
         _ => complain(broken::VERB),

@@ -7,6 +7,9 @@ use answer::Answer;
 use text::write_rows;
 use words::word_at;
 
+// The bytes of 2,049 lines: the longest report that is written as text.
+pub const LONGEST: usize = 165969;
+
 // A count in a report word, where any that is larger than a word is the largest word.
 fn count_word(n: usize) -> u32
     ensures { λ x. ⌜ x ≡ min 4294967295 n ⌝ }

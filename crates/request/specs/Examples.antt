@@ -32,6 +32,18 @@ breaks : map (λ w. requestOf (header w) .broken)
 unfolding requestOf brokenBy largest told
 breaks = refl
 
+-- verb 6: names, and at most 32,768 bytes that are looked for; no sheet
+find-verb : map (λ w. requestOf (header w) .broken)
+    ((6 ∷ 0 ∷ 4294967295 ∷ 0 ∷ 0 ∷ 0 ∷ 0 ∷ 32768 ∷ []) ∷
+    (6 ∷ 0 ∷ 4 ∷ 0 ∷ 0 ∷ 0 ∷ 0 ∷ 32769 ∷ []) ∷
+    (6 ∷ 1 ∷ 4 ∷ 0 ∷ 0 ∷ 0 ∷ 0 ∷ 1 ∷ []) ∷
+    (6 ∷ 0 ∷ 4 ∷ 0 ∷ 1 ∷ 0 ∷ 0 ∷ 1 ∷ []) ∷
+    (5 ∷ 0 ∷ 0 ∷ 0 ∷ 0 ∷ 0 ∷ 0 ∷ 0 ∷ []) ∷
+    (7 ∷ 0 ∷ 0 ∷ 0 ∷ 0 ∷ 0 ∷ 0 ∷ 0 ∷ []) ∷ [])
+    ≡ 0 ∷ 6 ∷ 6 ∷ 4 ∷ 2 ∷ 2 ∷ []
+unfolding requestOf brokenBy largest told
+find-verb = refl
+
 -- verbs 9 and 10: rows lent up to 2,048, no names, no second sheet; the verbs beside them are unknown
 column-verbs : map (λ w. requestOf (header w) .broken)
     ((9 ∷ 162 ∷ 0 ∷ 0 ∷ 2048 ∷ 0 ∷ 0 ∷ 0 ∷ []) ∷

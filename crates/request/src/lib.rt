@@ -12,6 +12,9 @@ use text::read_sheet;
 // A body may be of any length: what is too long is for a question to refuse.
 const ANY: u32 = 4294967295;
 
+// The most bytes that can be looked for.
+const LOOKED_FOR: u32 = 32768;
+
 // What breaks the request (0: nothing), and the numbers of its header.
 pub struct Request {
     pub broken: u32,
@@ -31,6 +34,7 @@ fn largest_of(verb: u32) -> [u32; 8]
 {
     match verb {
         verb::RESOLVE => [verb::RESOLVE, ANY, ANY, 0, limit::LENT_ROWS, 0, 0, 0],
+        verb::FIND_NAME => [verb::FIND_NAME, 0, ANY, 0, 0, 0, 0, LOOKED_FOR],
         verb::TO_COLUMNS => [verb::TO_COLUMNS, ANY, 0, 0, limit::LENT_ROWS, 0, 0, 0],
         verb::FROM_COLUMNS => [verb::FROM_COLUMNS, ANY, 0, 0, limit::LENT_ROWS, 0, 0, 0],
         _ => [0; 8],

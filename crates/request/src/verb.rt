@@ -1,6 +1,9 @@
 // The verbs.
 pub const RESOLVE: u32 = 1;
 
+// Bytes looked for in a list of names.
+pub const FIND_NAME: u32 = 6;
+
 // A sheet stored by column, and taken back.
 pub const TO_COLUMNS: u32 = 9;
 

@@ -1,37 +1,19 @@
 -- Texts longer than any accepted one: what the program prints of them is fixed by one byte more than the longest has.
-use mathlib.Core.Path.{_≡_, refl, sym, ap, subst, _∙_}
-use mathlib.Core.Bool.{Bool, true, false, not, _&&_}
+use mathlib.Core.Path.{_≡_, ap, subst, _∙_}
+use mathlib.Core.Bool.{Bool, false, not}
 use mathlib.Core.List.{List}
-use Prim.Native.Nat.{ℕ, _*_, _<_, _≤_}
-use native.Mathlib.Decide.{decLe}
-use native.Mathlib.Omega.{arith}
+use Prim.Native.Nat.{ℕ, _*_}
 use lib.ListN.{length, take}
-use lib.Dec.{T, leb→le}
-use lib.Seq.{take-all, length-take-le}
 use Rattle.definition.specs.Basics.{if_then_else_}
 use Rattle.definition.specs.Sheet.{Sheet}
-use Rattle.definition.specs.Names.{namesFew, namesShort, namesSized, namesEnded, namesUnlike, namesFit}
+use Rattle.definition.specs.Names.{namesFit}
 use Rattle.definition.specs.Text.{sheetOf, textOf}
 use Rattle.definition.specs.Outcome.{Outcome, rowsFit, refused, outcome, report}
-use Rattle.definition.proofs.Lists.Tests.{and-left, and-right}
+use Rattle.names.proofs.Longer.{same-cut as same-names-cut}
 use Rattle.text.proofs.Longer.{same-cut}
 use Rattle.report.specs.Report.{Begins, reply}
 use Rattle.resolve_text.specs.Report.{printedWith, RepliedOfTexts, PrintedOfFiles}
 use Rattle.resolve_text.proofs.ReportLaws.{outcome-none, printed-of}
-
-no-T : (b : Bool) → (T b → ⊥) → b ≡ false
-no-T true f = absurd (f tt)
-no-T false f = refl
-
--- names are at most 32,768 bytes
-names-long : (ns : List ℕ) → 32768 < length ns → namesFit ns ≡ false
-names-long ns l =
-    no-T (namesFit ns)
-    (λ h.
-    let ended = and-left (namesFew ns && namesShort ns && namesSized ns && namesEnded ns) (namesUnlike ns) h in
-    let sized = and-left (namesFew ns && namesShort ns && namesSized ns) (namesEnded ns) ended in
-    let short = and-right (namesFew ns) (namesShort ns) (and-left (namesFew ns && namesShort ns) (namesSized ns) sized) in
-    omega (arith, leb→le (length ns) 32768 short))
 
 -- names that question 2 refuses
 second : (t : Bool) (x y z : Outcome) (b : Bool) → b ≡ false → (if not t then x else if not b then y else z) ≡ (if not t then x else y)
@@ -40,18 +22,17 @@ second t x y z b e = ap (λ (c : Bool). if not t then x else if not c then y els
 names-none : (lent : ℕ) (s : Sheet) (ns : List ℕ) → namesFit ns ≡ false → outcome s ns lent ≡ (if not (rowsFit s) then refused 1 else refused 2)
 names-none lent s ns e = second (rowsFit s) (refused 1) (refused 2) _ (namesFit ns) e
 
+-- one sheet and different names
 names-cut : (lent : ℕ) (s ns : List ℕ) → outcome s (take 32769 ns) lent ≡ outcome s ns lent
-names-cut lent s ns = go (decLe (length ns) 32769)
-  where
-    go : Dec (length ns ≤ 32769) → outcome s (take 32769 ns) lent ≡ outcome s ns lent
-    go (yes l) = ap (λ (t : List ℕ). outcome s t lent) (take-all 32769 ns l)
-    go (no l) =
-        names-none lent s (take 32769 ns) (names-long (take 32769 ns) (omega (arith, length-take-le 32769 ns (omega arith))))
-        ∙ sym (names-none lent s ns (names-long ns (omega arith)))
+names-cut lent s ns =
+    same-names-cut (λ t. outcome s t lent) (if not (rowsFit s) then refused 1 else refused 2) (λ t e. names-none lent s t e) ns
 
 -- A program that reads 165,889 bytes of a sheet's text and 32,769 of its names prints what belongs to the whole texts.
 pub printed-cut : (lent : ℕ) (s ns : List ℕ) → printedWith lent (take 165889 s) (take 32769 ns) ≡ printedWith lent s ns
-printed-cut lent s ns = ap (λ (o : Outcome). textOf (report o)) (same-cut (λ t. outcome t (take 32769 ns) (8 * lent)) (refused 1) (λ t e. outcome-none (8 * lent) t (take 32769 ns) e) s ∙ names-cut (8 * lent) (sheetOf s) ns)
+printed-cut lent s ns =
+    let few : List ℕ = take 32769 ns in
+    ap (λ (o : Outcome). textOf (report o))
+    (same-cut (λ t. outcome t few (8 * lent)) (refused 1) (λ t e. outcome-none (8 * lent) t few e) s ∙ names-cut (8 * lent) (sheetOf s) ns)
 
 -- and so the reply to the bytes read is the reply to the texts
 pub replied-texts : {lent : ℕ} {sheet names before : List ℕ} {n : ℕ} {after : List ℕ}

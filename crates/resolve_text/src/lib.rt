@@ -9,9 +9,6 @@ use report::print_answer;
 use resolver::resolve;
 use text::read_sheet;
 
-// The bytes of 2,049 lines: the longest report.
-const LONGEST_REPORT: usize = 165969;
-
 // The report of a sheet's text, as text, with the lent words for the sheet and the report: the answer rows stand after room for the first
 // line.
 fn print_report(
@@ -39,7 +36,7 @@ pub fn resolve_lent(sheet: &[u8], names: &[u8], lent: usize, text: &mut [u8]) ->
     if lent > limit::LENT_ROWS as usize {
         return 0;
     }
-    if text.len() < LONGEST_REPORT {
+    if text.len() < report::LONGEST {
         return 0;
     }
     let mut words = [0u32; 16384];

@@ -33,8 +33,10 @@ same-length c = search needs
 returns-3 : tie.Need-returns-3
 returns-3 c =
     let start = c .before .before .before .before .before .before .before .before .before .before .before .before in
-    replied-text (replied (start .args .lent) _ (start .args .text .now) _ _
-    (c .before .before .before .before .before .before .before .before .before .if1 .left) (c .before .before .before .before .before .before .before .before .if2 .left) (c .before .before .before .before .print-columns .ensures))
+    let if1 = c .before .before .before .before .before .before .before .before .before .if1 in
+    let if2 = c .before .before .before .before .before .before .before .before .if2 in
+    let print-columns = c .before .before .before .before .print-columns in
+    replied-text (replied (start .args .lent) _ (start .args .text .now) _ _ (if1 .left) (if2 .left) (print-columns .ensures))
 
 pub columns-lent-spec : {M : Type 1} → statement M
 columns-lent-spec =

@@ -42,7 +42,10 @@ slice-aggregate-write-rows c =
     let start = c .before .before .before .before .before .before .before .before .before .before in
     let first-line = c .before .before .before .before .before .before .before .first-line in
     let write-fitted = c .before .before .before .before .write-fitted in
-    sym (length-take-le _ _ (omega (arith, start .pre .0, stored-length (start .args .x) (start .args .words .now) (first-line .result) _ (start .pre .0) (first-line .ensures) (write-fitted .ensures))))
+    let size =
+    stored-length (start .args .x) (start .args .words .now) (first-line .result) _ (start .pre .0) (first-line .ensures)
+    (write-fitted .ensures) in
+    sym (length-take-le _ _ (omega (arith, start .pre .0, size)))
 
 write-rows-requires : tie.Need-write-rows-requires
 write-rows-requires c κs = search needs

@@ -18,7 +18,13 @@ unfolding largest
 returns-3 c = ap largest (sym (c .match .keys3))
 
 returns-4 : tie.Need-returns-4
-returns-4 c = unknown-verb (c .before .args .verb) (c .match .rest .0 .0 .1) (c .match .rest .0 .1) (c .match .rest .1)
+unfolding largest
+returns-4 c = ap largest (sym (c .match .keys4))
+
+returns-5 : tie.Need-returns-5
+returns-5 c =
+    let rest = c .match .rest in
+    unknown-verb (c .before .args .verb) (rest .0 .0 .0 .1) (rest .0 .0 .1) (rest .0 .1) (rest .1)
 
 pub largest-of-spec : {M : Type 1} → statement M
-largest-of-spec = tie.close (tie.spec returns returns-2 returns-3 returns-4)
+largest-of-spec = tie.close (tie.spec returns returns-2 returns-3 returns-4 returns-5)
