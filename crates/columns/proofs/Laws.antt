@@ -1,5 +1,5 @@
 -- Each way undoes the other, and so what both routines promise. Assumes nothing.
-use mathlib.Core.Bool.{Bool, true, false, not, _&&_}
+use mathlib.Core.Bool.{Bool, true, false, not, _&&_, true≢false}
 use mathlib.Core.Path.{_≡_, refl, sym, ap, _∙_}
 use mathlib.Core.List.{List, _++_, append-nil}
 use Prim.Native.Nat.{ℕ, _+_, _-_, _*_, _/_, _%_, _^_, _<_, _≤_}
@@ -13,7 +13,7 @@ use Rattle.definition.specs.Basics.{if_then_else_}
 use Rattle.definition.specs.Sheet.{word, rows}
 use Rattle.definition.specs.Outcome.{rowsFit}
 use Rattle.definition.proofs.Lists.Tests.{T-true, T-and}
-use Rattle.columns.specs.Columns.{isLink, stored, restored, table, toColumns, fromColumns, firstNo, targetAfter, Rearranged}
+use Rattle.columns.specs.Columns.{isLink, stored, restored, table, toColumns, fromColumns, way, firstNo, targetAfter, Rearranged}
 use Rattle.columns.proofs.TableLaws.{table-length, table-read, table-of}
 
 -- a row's number taken off a link and added again modulo 2^32, and the other way round
@@ -152,3 +152,33 @@ rearranged f g s lent t ok long undone e = record { answer = sym ok; target = e 
     given =
         after-passing g u (length s) again
         ∙ ap (λ (k : ℕ). g u ++ replicate k 0) none ∙ append-nil (g u) ∙ ap g same ∙ undone
+
+-- the two ways as one, by `back`
+pub way-there : (back : Bool) (s : List ℕ) → back ≡ false → toColumns s ≡ way back s
+unfolding way
+way-there false s e = refl
+way-there true s e = absurd (true≢false e)
+
+pub way-back : (back : Bool) (s : List ℕ) → back ≡ true → fromColumns s ≡ way back s
+unfolding way
+way-back true s e = refl
+way-back false s e = absurd (true≢false (sym e))
+
+pub way-length : (back : Bool) (s : List ℕ) → 8 * rows s ≡ length s → length (way back s) ≡ length s
+unfolding way
+way-length true s e = from-length s e
+way-length false s e = to-length s e
+
+pub way-undone : (back : Bool) (s : List ℕ) → 8 * rows s ≡ length s → rows s ≤ 2 ^ 32 → ((i : ℕ) → getD s i 0 < 2 ^ 32) → way (not back) (way back s) ≡ s
+unfolding way
+way-undone true s whole few words = to-from s whole few words
+way-undone false s whole few words = from-to s whole few words
+
+module _ (s : List ℕ) (lent n : ℕ) (t : List ℕ) where
+  pub told-there : Rearranged (way false) (way true) s lent n t → Rearranged toColumns fromColumns s lent n t
+  unfolding way targetAfter
+  told-there h = record { answer = h .answer; target = h .target; back = h .back }
+
+  pub told-back : Rearranged (way true) (way false) s lent n t → Rearranged fromColumns toColumns s lent n t
+  unfolding way targetAfter
+  told-back h = record { answer = h .answer; target = h .target; back = h .back }

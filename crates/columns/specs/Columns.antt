@@ -33,6 +33,10 @@ toColumns s = table 8 (rows s) (λ c r. stored c r (word s r c))
 unfoldable pub fromColumns : List ℕ → List ℕ
 fromColumns s = table (rows s) 8 (λ r c. restored c r (getD s (c * rows s + r) 0))
 
+-- by column, or back
+unfoldable pub way : Bool → List ℕ → List ℕ
+way back s = if back then fromColumns s else toColumns s
+
 -- the first question that gets a no for a source s and a target of `lent` words, or 0
 unfoldable pub firstNo : List ℕ → ℕ → ℕ
 firstNo s lent = if not (rowsFit s) then 1 else if ltb lent (length s) then 22 else 0

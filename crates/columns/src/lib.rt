@@ -1,38 +1,24 @@
 // A sheet stored by column, for disks (document 02, F-12), and the way back. Only the sheet's size is asked, not what its words say.
 ghost use mathlib.Core.Path.{_≡_};
+ghost use mathlib.Core.Bool.{not};
 ghost use mathlib.Core.List.{_++_};
 ghost use Prim.Native.Nat.{_-_, _*_, _≤_};
 ghost use lib.ListN.{length, take, drop, replicate};
 ghost use Rattle.definition.specs.Sheet.{rows as rowsOf};
-ghost use Rattle.definition.specs.Outcome.{rowsFit};
-ghost use Rattle.columns.specs.Columns.{isLink, stored, restored, toColumns, fromColumns, firstNo, Rearranged};
+ghost use Rattle.columns.specs.Columns.{isLink, stored, restored, toColumns, fromColumns, way, firstNo, Rearranged};
 use ast::column;
-use ast::limit;
 use ast::question;
 use words::clear;
+use words::sheet_sized;
 
 // Differences of links are taken modulo 2^32.
 const MODULUS: u64 = 4294967296;
-
-// Question 1: is the source 1 to 2,048 rows of eight words?
-fn source_sized(source: &[u32]) -> bool
-    ensures { λ x. ⌜ x ≡ rowsFit (now (source .entry)) ⌝ }
-{
-    let rows = source.len() / 8;
-    if 8 * rows != source.len() {
-        return false;
-    }
-    if rows < 1 {
-        return false;
-    }
-    rows <= limit::ROWS
-}
 
 // The first question that gets a no, or 0: question 1, then 22.
 fn first_no(source: &[u32], lent: usize) -> u32
     ensures { λ x. ⌜ x ≡ firstNo (now (source .entry)) lent ⌝ }
 {
-    if !source_sized(source) {
+    if !sheet_sized(source) {
         return question::ROWS_FIT;
     }
     if lent < source.len() {
@@ -117,30 +103,43 @@ fn clear_from(place: usize, target: &mut [u32])
     clear(&mut target[place..]);
 }
 
-// Stores a sheet by column. Returns 0; or the question that got a no, 1 or 22, and then the whole target is zero.
-pub fn to_columns(source: &[u32], target: &mut [u32]) -> u32
-    ensures { λ n. ⌜ Rearranged toColumns fromColumns (now (source .entry)) (length (now (target .entry))) n (now (target .exit)) ⌝ }
+// Writes a sheet by column, or the sheet that a source by column stands for.
+fn write_way(back: bool, source: &[u32], target: &mut [u32])
+    requires { ⌜ (8 * rowsOf (now source) ≡ length (now source)) × (rowsOf (now source) ≤ 2048) × (length (now source) ≤ length (now target)) ⌝ }
+    ensures { λ _. ⌜ now (target .exit) ≡ way back (now (source .entry)) ++ drop (length (now (source .entry))) (now (target .entry)) ⌝ }
+{
+    if back {
+        write_rows(source, target);
+        return;
+    }
+    write_columns(source, target);
+}
+
+// Stores a sheet by column, or with `back` takes it back. Returns 0; or the question that got a no, 1 or 22, and then the whole target is
+// zero.
+pub fn rearrange(back: bool, source: &[u32], target: &mut [u32]) -> u32
+    ensures { λ n. ⌜ Rearranged (way back) (way (not back)) (now (source .entry)) (length (now (target .entry))) n (now (target .exit)) ⌝ }
 {
     let no = first_no(source, target.len());
     if no != 0 {
         clear(target);
         return no;
     }
-    write_columns(source, target);
+    write_way(back, source, target);
     clear_from(source.len(), target);
     0
 }
 
-// The way back, with the same answers: the sheet that was stored by column.
+// Stores a sheet by column.
+pub fn to_columns(source: &[u32], target: &mut [u32]) -> u32
+    ensures { λ n. ⌜ Rearranged toColumns fromColumns (now (source .entry)) (length (now (target .entry))) n (now (target .exit)) ⌝ }
+{
+    rearrange(false, source, target)
+}
+
+// The way back: the sheet that was stored by column.
 pub fn from_columns(source: &[u32], target: &mut [u32]) -> u32
     ensures { λ n. ⌜ Rearranged fromColumns toColumns (now (source .entry)) (length (now (target .entry))) n (now (target .exit)) ⌝ }
 {
-    let no = first_no(source, target.len());
-    if no != 0 {
-        clear(target);
-        return no;
-    }
-    write_rows(source, target);
-    clear_from(source.len(), target);
-    0
+    rearrange(true, source, target)
 }

@@ -1,6 +1,6 @@
 -- What is read, rearranged and printed. Assumes nothing.
 use mathlib.Core.Path.{_≡_, refl, sym, ap, subst, _∙_}
-use mathlib.Core.Bool.{Bool, true, false, not, true≢false}
+use mathlib.Core.Bool.{Bool, true, false, not}
 use mathlib.Core.List.{List, _++_}
 use Prim.Native.Nat.{ℕ, _*_, _≤_}
 use native.Mathlib.Omega.{arith}
@@ -22,22 +22,8 @@ use Rattle.answer.specs.declared.Answer.{Answer}
 use Rattle.answer.specs.Tells.{Tells}
 use Rattle.report.specs.Report.{Begins, reply, Printed}
 use Rattle.report.proofs.Laws.{rows-eights, rows-number, rows-joined, report-printed}
-use Rattle.columns.specs.Columns.{toColumns, fromColumns, firstNo, targetAfter, Rearranged}
-use Rattle.columns_text.specs.Reply.{way, rearranged, toldBy, printedColumns, RepliedOfText}
-
--- what each routine of `columns` promises, by the way
-module _ (s : List ℕ) (lent n : ℕ) (t : List ℕ) where
-  pub went-back : (back : Bool) → back ≡ true → Rearranged fromColumns toColumns s lent n t
-      → (n ≡ firstNo s lent) × (t ≡ targetAfter (way back) s lent)
-  unfolding way targetAfter
-  went-back true e h = (h .answer, h .target)
-  went-back false e h = absurd (true≢false (sym e))
-
-  pub went-there : (back : Bool) → back ≡ false → Rearranged toColumns fromColumns s lent n t
-      → (n ≡ firstNo s lent) × (t ≡ targetAfter (way back) s lent)
-  unfolding way targetAfter
-  went-there false e h = (h .answer, h .target)
-  went-there true e h = absurd (true≢false e)
+use Rattle.columns.specs.Columns.{way, firstNo, targetAfter, Rearranged}
+use Rattle.columns_text.specs.Reply.{rearranged, toldBy, printedColumns, RepliedOfText}
 
 -- the outcome of a target w and the first question q that got a no, or 0
 abbrev outcomeOf : ℕ → List ℕ → Bool → Outcome
@@ -109,8 +95,7 @@ module _ (q lent : ℕ) (w : List ℕ) (size : length w ≡ 8 * lent) where
 module _ (back : Bool) (lent : ℕ) (sheet rep out : List ℕ) (k : ℕ) (words : List ℕ) (m q : ℕ) (x : Answer) (low : lent ≤ 2048)
     (size : length rep ≡ 16392) (e : m ≡ 8 * lent) (read : SheetRead sheet 16384 k words)
     (kept : length out ≡ length (take m (drop 8 rep)))
-    (done : (q ≡ firstNo (take (8 * k) words) (length (take m (drop 8 rep))))
-    × (out ≡ targetAfter (way back) (take (8 * k) words) (length (take m (drop 8 rep))))) (told : x ≡ toldBy q lent) where
+    (done : Rearranged (way back) (way (not back)) (take (8 * k) words) (length (take m (drop 8 rep))) q out) (told : x ≡ toldBy q lent) where
   words-lent : length (take m (drop 8 rep)) ≡ 8 * lent
   words-lent = length-take-le m (drop 8 rep) (omega (arith, length-drop 8 rep)) ∙ e
 
@@ -124,8 +109,8 @@ module _ (back : Bool) (lent : ℕ) (sheet rep out : List ℕ) (k : ℕ) (words 
   found-is =
       sym (same-read (rearranged back lent) (refused 1) (refused-first back lent) sheet k words read)
       ∙ rearranged-is back lent (take (8 * k) words) out q
-      (done .0 ∙ ap (firstNo (take (8 * k) words)) words-lent)
-      (done .1 ∙ ap (targetAfter (way back) (take (8 * k) words)) words-lent)
+      (done .answer ∙ ap (firstNo (take (8 * k) words)) words-lent)
+      (done .target ∙ ap (targetAfter (way back) (take (8 * k) words)) words-lent)
 
   tells : Tells found x
   tells = subst (Tells found) (sym told) (tells-of q lent out out-size (eqb q 0) refl)

@@ -5,9 +5,9 @@ use mathlib.Core.List.{List, [], _∷_, _++_, map}
 use Prim.Native.Nat.{ℕ}
 use lib.ListN.{replicate}
 use Rattle.definition.specs.Text.{textOf}
-use Rattle.columns.specs.Columns.{isLink, stored, restored, table, toColumns, fromColumns, firstNo, targetAfter}
+use Rattle.columns.specs.Columns.{isLink, stored, restored, table, toColumns, fromColumns, way, firstNo, targetAfter}
 use Rattle.report.specs.Report.{reply}
-use Rattle.columns_text.specs.Reply.{way, rearranged, printedColumns}
+use Rattle.columns_text.specs.Reply.{rearranged, printedColumns}
 
 -- two rows, whose links are to row 1, to nothing, and to the largest row
 abbrev sheet : List (List ℕ)

@@ -11,11 +11,7 @@ use Rattle.definition.specs.Outcome.{Outcome, refused, report}
 use Rattle.text.specs.Writing.{rowsIn}
 use Rattle.answer.specs.declared.Answer.{Answer}
 use Rattle.report.specs.Report.{Begins, reply}
-use Rattle.columns.specs.Columns.{toColumns, fromColumns, firstNo, targetAfter}
-
--- by column, or back
-unfoldable pub way : Bool → List ℕ → List ℕ
-way back s = if back then fromColumns s else toColumns s
+use Rattle.columns.specs.Columns.{way, firstNo, targetAfter}
 
 -- all n lent rows of the target, zeros past the source's length; or refused by question 1 or 22
 unfoldable pub rearranged : Bool → ℕ → List ℕ → Outcome

@@ -1,28 +1,15 @@
 // A sheet's text stored by column, or taken back, as text: the replies to verbs 9 and 10 of the pipe.
 ghost use mathlib.Core.Path.{_≡_};
-ghost use Prim.Native.Nat.{_*_, _≤_};
+ghost use Prim.Native.Nat.{_≤_};
 ghost use lib.ListN.{length};
-ghost use Rattle.columns.specs.Columns.{firstNo, targetAfter};
 ghost use Rattle.report.specs.Report.{Begins};
-ghost use Rattle.columns_text.specs.Reply.{way, toldBy, printedColumns, RepliedOfText};
+ghost use Rattle.columns_text.specs.Reply.{toldBy, printedColumns, RepliedOfText};
 use answer::Answer;
 use ast::limit;
-use columns::from_columns;
-use columns::to_columns;
+use columns::rearrange;
 use lexer::SrcPos;
 use report::print_answer;
 use text::read_sheet;
-
-// Stores a sheet by column, or takes it back.
-fn rearrange(back: bool, source: &[u32], target: &mut [u32]) -> u32
-    ensures { λ n. ⌜ (n ≡ firstNo (now (source .entry)) (length (now (target .entry))))
-        × (now (target .exit) ≡ targetAfter (way back) (now (source .entry)) (length (now (target .entry)))) ⌝ }
-{
-    if back {
-        return from_columns(source, target);
-    }
-    to_columns(source, target)
-}
 
 // The answer with all lent rows, or after a no with none.
 fn tell(no: u32, lent: usize) -> Answer

@@ -3,7 +3,9 @@ ghost use mathlib.Core.Path.{_≡_};
 ghost use Prim.Native.Nat.{_+_, _*_};
 ghost use lib.ListN.{length, getD, set, replicate};
 ghost use Rattle.definition.specs.Sheet.{word as wordAt};
+ghost use Rattle.definition.specs.Outcome.{rowsFit};
 ghost use Rattle.machine.specs.Machine.{oneMore};
+use ast::limit;
 
 // A word of a row, eight words to a row: of a sheet, of the results, of the outside.
 pub fn word(rows: &[u32], row: u32, column: u32) -> u32
@@ -64,4 +66,18 @@ pub fn one_more(n: u32) -> u32
     ensures { λ x. ⌜ x ≡ oneMore n ⌝ }
 {
     if n < 4294967295 { n + 1 } else { n }
+}
+
+// Question 1: are words 1 to 2,048 rows of eight?
+pub fn sheet_sized(words: &[u32]) -> bool
+    ensures { λ x. ⌜ x ≡ rowsFit (now (words .entry)) ⌝ }
+{
+    let n = words.len() / 8;
+    if 8 * n != words.len() {
+        return false;
+    }
+    if n < 1 {
+        return false;
+    }
+    n <= limit::ROWS
 }
