@@ -15,7 +15,7 @@ use Rattle.definition.specs.Answer.{eight, letRow, identifierRow, hostRow, inst
 use Rattle.definition.proofs.Lists.Tests.{kind-apart}
 use Rattle.definition.proofs.Lists.Members.{from-mem}
 use Rattle.machine.specs.Machine.{Store, cell}
-use Rattle.machine.specs.Reads.{StoreReads, PastFour, answerRow, rowWords}
+use Rattle.machine.specs.Reads.{StoreReads, PastFour, answerRow, identifierAnswer, rowWords}
 use Rattle.after.specs.Inherited.{parentIn, fieldsIn, hasChildrenIn}
 use Rattle.after.specs.Rows.{literalRowsIn, functionRowsIn, classRowsIn, rowsIn, answersIn}
 use Rattle.after.proofs.Parents.{parents}
@@ -78,7 +78,7 @@ module _ {O : Outside} {s : Sheet} (ok : PastFour O s) {o : Store} (k : StoreRea
       by-kind (is s 29 r) (is s 50 r) (is s 51 r) (is s 55 r) (is s 54 r) (is s 52 r) (is s 6 r) (is s 4 r) (λ vs. eight (r ∷ vs))
       (letRow s h r) (identifierRow s h r) (hostRow s h r) (instanceRow s h r) (memberRow O s h r) (literalRows s h r) (functionRows s h r) (classRows O s h r)
       (literalRowsIn s o r) (functionRowsIn s o r) (classRowsIn O s o r) words
-      (if eqb (cell (o .table) r 4) 0 then words else []) (if eqb (cell (o .table) r 0) 0 then [] else words)
+      (if eqb (cell (o .table) r 4) 0 then identifierAnswer r (rowWords (o .table) r) ∷ [] else []) (if eqb (cell (o .table) r 0) 0 then [] else words)
       (kind-apart (kind s r) 50 51 tt) (kind-apart (kind s r) 50 55 tt)
       (k .lets r l) (k .hosts r l) (k .instances r l) (k .identifiers r l) (k .members r l) (literal-rows r l) (function-rows r l) (class-rows r)
     where

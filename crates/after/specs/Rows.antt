@@ -10,7 +10,7 @@ use Rattle.definition.specs.Outside.{Outside, Method}
 use Rattle.definition.specs.Classes.{methodNamed}
 use Rattle.definition.specs.Answer.{eight, numbered}
 use Rattle.machine.specs.Machine.{Store, cell, listAt, seenIn, codeOf}
-use Rattle.machine.specs.Reads.{rowWords, answerRow, meaningOfNode, escapingSlots}
+use Rattle.machine.specs.Reads.{rowWords, answerRow, identifierAnswer, meaningOfNode, escapingSlots}
 use Rattle.after.specs.Inherited.{parentIn, fieldsIn, methodsIn, methodNamesIn, hasChildrenIn}
 
 -- a literal: a row for each source
@@ -43,7 +43,7 @@ classRowsNamed O s o r =
 unfoldable pub rowsIn : Outside → Sheet → Store → ℕ → List (List ℕ)
 rowsIn O s o r =
     if is s 29 r || is s 51 r || is s 55 r then answerRow r (rowWords (o .table) r) ∷ []
-    else if is s 50 r then (if eqb (cell (o .table) r 4) 0 then answerRow r (rowWords (o .table) r) ∷ [] else [])
+    else if is s 50 r then (if eqb (cell (o .table) r 4) 0 then identifierAnswer r (rowWords (o .table) r) ∷ [] else [])
     else if is s 54 r then (if eqb (cell (o .table) r 0) 0 then [] else answerRow r (rowWords (o .table) r) ∷ [])
     else map (λ vs. eight (r ∷ vs)) (if is s 52 r then literalRowsIn s o r else if is s 6 r then functionRowsIn s o r else if is s 4 r then classRowsIn O s o r else [])
 

@@ -3,7 +3,7 @@ ghost use mathlib.Core.Path.{_≡_};
 ghost use Prim.Native.Nat.{_+_, _<_};
 ghost use Rattle.definition.specs.Sheet.{rows};
 ghost use Rattle.after.specs.Rows.{rowsIn, answersIn};
-ghost use Rattle.machine.specs.Reads.{PastFour, StoreReads, rowWords, answerRow};
+ghost use Rattle.machine.specs.Reads.{PastFour, StoreReads, rowWords, answerRow, identifierAnswer};
 ghost use Rattle.machine.specs.Machine.{cell};
 ghost use Rattle.definition.specs.Basics.{if_then_else_};
 ghost use mathlib.Core.List.{[], _∷_};
@@ -29,7 +29,7 @@ use store::nodes::Store;
 use store::result;
 use words::word;
 
-// The row of a let, identifier, host constant, instanceof or member, as the results have it.
+// The row of a let, host constant, instanceof or member, as the results have it.
 fn emit_row(results: &[u32], row: u32, k: usize, out: &mut [u32]) -> usize
     ensures { λ n. ⌜ sink n (now (out .exit)) ≡ emitted (answerRow row (rowWords (now (results .entry)) row)) (sink k (now (out .entry))) ⌝ }
 {
@@ -44,16 +44,34 @@ fn emit_row(results: &[u32], row: u32, k: usize, out: &mut [u32]) -> usize
     emit(out, k, told)
 }
 
+// The row of an identifier. Of a captured one the results have the distance where its second value would be.
+fn emit_use(results: &[u32], row: u32, k: usize, out: &mut [u32]) -> usize
+    ensures { λ n. ⌜ sink n (now (out .exit)) ≡ emitted (identifierAnswer row (rowWords (now (results .entry)) row)) (sink k (now (out .entry))) ⌝ }
+{
+    if word(results, row, result::CODE) != code::CAPTURED {
+        return emit_row(results, row, k, out);
+    }
+    let told = AnswerRow {
+        row: row,
+        code: code::CAPTURED,
+        one: word(results, row, result::ONE),
+        two: 0,
+        three: word(results, row, result::THREE),
+        four: word(results, row, result::DISTANCE),
+    };
+    emit(out, k, told)
+}
+
 // An identifier has a row unless it is the base of a method called on a class.
 fn emit_shown(results: &[u32], row: u32, k: usize, out: &mut [u32]) -> usize
     ensures { λ n. ⌜ sink n (now (out .exit))
-        ≡ emitAll (if eqb (cell (now (results .entry)) row 4) 0 then answerRow row (rowWords (now (results .entry)) row) ∷ [] else [])
+        ≡ emitAll (if eqb (cell (now (results .entry)) row 4) 0 then identifierAnswer row (rowWords (now (results .entry)) row) ∷ [] else [])
         (sink k (now (out .entry))) ⌝ }
 {
     if word(results, row, result::HIDDEN) != 0 {
         return k;
     }
-    emit_row(results, row, k, out)
+    emit_use(results, row, k, out)
 }
 
 // A member has a row if it is the callee of such a call.

@@ -32,7 +32,8 @@ fn assign_name(sheet: &[u32], row: u32, walk: Walk, entries: &[u32]) -> Walk
     }
     let target = word(sheet, row, column::CHILD);
     let m = word(sheet, target, column::A);
-    if is_mutable(sheet, lookup(walk.env, entries, m)) {
+    let found = lookup(sheet, walk.env, entries, m);
+    if is_mutable(sheet, found.decl) {
         return walk;
     }
     refuse(walk, question::MUTABLE, row, m)

@@ -39,7 +39,8 @@ fn constructed_class(sheet: &[u32], row: u32, env: Env, entries: &[u32]) -> Clas
         return ClassId(0);
     }
     let m = word(sheet, callee, column::A);
-    class_number(lookup(env, entries, m))
+    let found = lookup(sheet, env, entries, m);
+    class_number(found.decl)
 }
 
 // The class on which call `row` calls a method, or 0: its callee is a member of an identifier that means the class.
@@ -55,7 +56,8 @@ fn receiver_class(sheet: &[u32], row: u32, env: Env, entries: &[u32]) -> ClassId
         return ClassId(0);
     }
     let m = word(sheet, base, column::A);
-    class_number(lookup(env, entries, m))
+    let found = lookup(sheet, env, entries, m);
+    class_number(found.decl)
 }
 
 // Question 12: has a class called as a constructor a record? The call is kept: 20 and 21 are asked after the walk.

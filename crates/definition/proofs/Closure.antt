@@ -4,6 +4,7 @@ pub mod Declared
 pub mod Variables
 pub mod Captured
 pub mod OpenApart
+pub mod Values
 pub mod Following
 pub mod Sources
 pub mod Declarations

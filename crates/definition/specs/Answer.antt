@@ -11,13 +11,17 @@ use Rattle.definition.specs.Meaning.{isClass, classNumber}
 use Rattle.definition.specs.Outside.{Outside, Method}
 use Rattle.definition.specs.Scope.{Moment, lookup, visited, visits, visitOf, declaringOf, declaration, within}
 use Rattle.definition.specs.Slots.{code, openLocals, localCount}
-use Rattle.definition.specs.Capture.{useAt, captures, seenFrom, sources, escaping}
+use Rattle.definition.specs.Capture.{useAt, distance, captures, seenFrom, sources, escaping}
 use Rattle.definition.specs.Classes.{methodNamed, ownMethods, parentOf, fields, methods, hasChildren}
 use Rattle.definition.specs.Question.{openOn, receiver}
 
 -- eight numbers: the given ones, then zeros
 abbrev pub eight : List ℕ → List ℕ
 eight vs = take 8 (vs ++ replicate 8 0)
+
+-- code and values with n as the fourth value
+abbrev pub withFourth : ℕ → List ℕ → List ℕ
+withFourth n vs = getD vs 0 0 ∷ getD vs 1 0 ∷ getD vs 2 0 ∷ getD vs 3 0 ∷ n ∷ []
 
 -- the rows of fields, with their slots from i on
 abbrev pub numbered : ℕ → List ℕ → List (List ℕ)
@@ -37,10 +41,10 @@ module _ (s : Sheet) (h : List Moment) where
   abbrev pub classCalls : List Moment
   classCalls = filter (λ m. not (eqb (receiver s (visited (m .event)) (openOn s (m .stack))) 0)) (visits s h CALL)
 
-  -- an identifier: what it means in its function; nothing where it is the base of a class method's callee
+  -- an identifier: what it means in its function and, fourth, how far out that is; nothing where it is the base of a class method's callee
   abbrev pub identifierRow : ℕ → List (List ℕ)
   identifierRow r =
-      map (λ m. seenFrom s h (within s m) (useAt s m))
+      map (λ m. withFourth (distance (useAt s m)) (seenFrom s h (within s m) (useAt s m)))
       (filter (λ m. not (isCalleeBase s r && isClass (useAt s m .means))) (visitOf h r))
 
   -- MAIN_UNIT: true in the main function itself

@@ -32,6 +32,11 @@ beyond f (g ∷ gs) = if eqb g f then gs else beyond f gs
 abbrev pub isOuter : ℕ → Use → Bool
 isOuter f u = isVariable (u .means) && ownerOf (u .means) ∈? beyond f (u .funs)
 
+-- F-6: how many function boundaries lie between an identifier and what it means: the functions around it inside the one that declares
+-- the local or argument; none where it means a global, function or class
+abbrev pub distance : Use → ℕ
+distance u = if isVariable (u .means) then place (eqb (ownerOf (u .means))) (u .funs) else 0
+
 -- do two identifiers mean one local or argument?
 abbrev pub same : Use → Use → Bool
 same u v = eqb (rowOf (u .means)) (rowOf (v .means))

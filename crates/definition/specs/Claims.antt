@@ -83,6 +83,8 @@ pub record Followed (O : Outside) (s : Sheet) (out : List Row) (st : Stack) (r d
   -- .. in exactly as many steps as functions lie around the identifier inside the declaration's own",
   pub follows : Follows s out row (between s r d) end
   pub tells : told end ≡ declaredAs O s out d
+  -- F-6: that number of steps is the fourth value of its row;
+  pub far : getD row 5 0 ≡ between s r d
   -- "the only one open there with its code, function and slot or index"
   pub is-open : count (eqb d) (openRows st) ≡ 1
   pub alone : (e : ℕ) → Mem e (openRows st) → take 3 (declaredAs O s out e) ≡ take 3 (declaredAs O s out d) → e ≡ d

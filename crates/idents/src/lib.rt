@@ -20,7 +20,7 @@ use store::code::seen_in;
 use store::nodes::Node;
 use store::nodes::Store;
 use store::nodes::reg_captured;
-use store::table::write_decl;
+use store::table::write_use;
 use symbols::decl::OpenDecl;
 use symbols::decl::is_declared;
 use symbols::decl::lookup;
@@ -75,7 +75,7 @@ fn capture(
     reg_captured(sheet, entries, env.count, x, store, results, nodes)
 }
 
-// An identifier: questions 8 and 9, the captures, and what it means.
+// An identifier: questions 8 and 9, the captures, what it means, and how far out that is.
 pub fn resolve_ident(
     sheet: &[u32],
     row: u32,
@@ -95,13 +95,14 @@ pub fn resolve_ident(
     let e = walk.env;
     let o = walk.store;
     let m = word(sheet, row, column::A);
-    let d = lookup(e, entries, m);
+    let found = lookup(sheet, e, entries, m);
+    let d = found.decl;
     if !is_declared(d) {
         return refuse(walk, undeclared(m), row, m);
     }
     let fun = e.fun;
     let store = capture(sheet, entries, e, d, o, results, nodes);
     let x = seen_in(sheet, d, fun, results, nodes);
-    write_decl(results, row, x);
+    write_use(results, row, x, found.distance);
     with_store(walk, store)
 }

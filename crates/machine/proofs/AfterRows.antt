@@ -15,12 +15,12 @@ use Rattle.definition.specs.Meaning.{classNumber}
 use Rattle.definition.specs.Walk.{Event, enter, leave, loop, declare, bring, visit}
 use Rattle.definition.specs.Scope.{Stack, Moment, lookup, within, visited, declares, visits, visitOf, declaringOf, declaration}
 use Rattle.definition.specs.Slots.{openLocals, code}
-use Rattle.definition.specs.Capture.{useAt, seenFrom}
+use Rattle.definition.specs.Capture.{useAt, distance, seenFrom}
 use Rattle.definition.specs.Classes.{methodNamed, ownMethods, parentOf}
 use Rattle.definition.specs.Question.{openOn, receiver}
 use Rattle.definition.specs.Answer.{letRow, memberRow}
 use Rattle.definition.proofs.Classes.{of-sheet}
-use Rattle.machine.specs.Machine.{cell, Store, fourWords}
+use Rattle.machine.specs.Machine.{cell, Store, fourWords, withDistance}
 use Rattle.machine.specs.Reads.{rowWords}
 use Rattle.machine.proofs.RowWords.{rowWritten, wordsWritten, WrittenBy, unwritten, written}
 use Rattle.machine.proofs.StoreAgrees.{StoreAgrees}
@@ -218,8 +218,9 @@ module _ (O : Outside) (s : Sheet) (h : List Moment) (o : Store) (k : StoreAgree
       (k .words-is r l nz)
 
   -- an identifier: what it means, seen from its function
-  pub identifier-words : is s 50 r ≡ true → map (λ m. fourWords (seenFrom s h (within s m) (useAt s m))) (visitOf h r) ≡ map (λ m. rowWords (o .table) r) (visitOf h r)
-  identifier-words hr = visit-row 50 (λ m. seenFrom s h (within s m) (useAt s m)) hr refl refl refl (λ k q. rw q) (λ z. rw hr)
+  pub identifier-words : is s 50 r ≡ true
+      → map (λ m. fourWords (withDistance (distance (useAt s m)) (seenFrom s h (within s m) (useAt s m)))) (visitOf h r) ≡ map (λ m. rowWords (o .table) r) (visitOf h r)
+  identifier-words hr = visit-row 50 (λ m. withDistance (distance (useAt s m)) (seenFrom s h (within s m) (useAt s m))) hr refl refl refl (λ k q. rw q) (λ z. rw hr)
 
   -- a host constant, an instanceof: the definition's row
   pub host-words : is s 51 r ≡ true → map (λ m. fourWords ((if eqb (within s m) (b s 0) then 7 else 8) ∷ [])) (visitOf h r) ≡ map (λ m. rowWords (o .table) r) (visitOf h r)

@@ -1,23 +1,24 @@
 -- The answer rows that are written from the program's store are the definition's.
 use mathlib.Core.Path.{_≡_, refl, sym, ap, _∙_, subst}
 use mathlib.Core.List.{List, [], _∷_, _++_, map, append-nil}
-use mathlib.Core.Bool.{Bool, true, false, not, _&&_}
+use mathlib.Core.Bool.{Bool, true, false, not, _&&_, true≢false}
 use Prim.Native.Nat.{ℕ, suc, _+_, _-_, _*_, _/_, _<_, _≤_}
 use native.Mathlib.Omega.{arith}
 use lib.ListN.{length, getD, take}
 use lib.Dec.{eqb, leb}
 use borrow.Author.Tests.{leb-true}
-use Rattle.definition.specs.Basics.{if_then_else_, filter, place, concatMap, from, bit}
+use Rattle.definition.specs.Basics.{if_then_else_, filter, place, concatMap, from, bit, head}
 use Rattle.definition.specs.Sheet.{Sheet, kind, is, a, b, child, kidsOf, rows}
 use Rattle.definition.specs.Outside.{Outside}
 use Rattle.definition.specs.Meaning.{Meaning, nothing, function, class, global, toplevel, variable, isVariable, ownerOf, classNumber, isClass}
 use Rattle.definition.specs.Scope.{Moment, within, lookup, visitOf, declaringOf, declaration}
 use Rattle.definition.specs.Slots.{isMutable, code, openLocals, localCount}
-use Rattle.definition.specs.Capture.{Use, useAt, same, captures, seenFrom, sources, escaping}
-use Rattle.definition.specs.Answer.{eight, isCalleeBase, letRow, identifierRow, hostRow, instanceRow, literalRows, functionRows}
+use Rattle.definition.specs.Capture.{Use, useAt, distance, same, captures, seenFrom, sources, escaping}
+use Rattle.definition.specs.Answer.{eight, withFourth, isCalleeBase, letRow, identifierRow, hostRow, instanceRow, literalRows, functionRows}
 use Rattle.definition.proofs.Lists.Members.{map-map}
-use Rattle.machine.specs.Machine.{cell, Store, listAt, seenIn, codeOf, fourWords}
-use Rattle.machine.specs.Reads.{answerRow, handsOn, literalsIn, meaningOfNode, rowWords}
+use Rattle.definition.proofs.Closure.Values.{short, code-short, no-fourth}
+use Rattle.machine.specs.Machine.{cell, Store, listAt, seenIn, codeOf, fourWords, withDistance}
+use Rattle.machine.specs.Reads.{answerRow, identifierAnswer, handsOn, literalsIn, meaningOfNode, rowWords}
 use Rattle.machine.proofs.StoreParts.{isHidden}
 use Rattle.machine.proofs.StoreAgrees.{StoreAgrees}
 use Rattle.machine.proofs.AfterRows.{All, al-none, al-one, identifier-words, host-words, instance-words, literal-words, let-words}
@@ -31,28 +32,53 @@ eight-full r (x ∷ y ∷ z ∷ []) h = refl
 eight-full r (x ∷ y ∷ z ∷ w ∷ []) h = refl
 eight-full r (x ∷ y ∷ z ∷ w ∷ v ∷ vs) h = let l : length (x ∷ y ∷ z ∷ w ∷ v ∷ vs) ≤ 4 = leb-true (length (x ∷ y ∷ z ∷ w ∷ v ∷ vs)) 4 h in absurd (omega arith)
 
--- no row has more than four values
-abbrev short : List ℕ → Bool
-short vs = leb (length vs) 4
-
-code-short : (s : Sheet) (h : List Moment) (d : Meaning) (k : ℕ) → short (code s h d k) ≡ true
-code-short s h nothing k = refl
-code-short s h (function f) k = refl
-code-short s h (class c) k = refl
-code-short s h (global g m) k = refl
-code-short s h (toplevel r) k = refl
-code-short s h (variable r f) k = go (is s 11 r)
+-- an identifier that is not captured has no distance
+own-distance : (u : Use) → (isVariable (u .means) && not (eqb (ownerOf (u .means)) (head (u .funs)))) ≡ false → distance u ≡ 0
+own-distance u = go (isVariable (u .means)) (u .funs)
   where
-    go : (t : Bool) → short (if t then 4 ∷ place (eqb r) (kidsOf s 11 f) ∷ f ∷ [] else 5 ∷ k ∷ f ∷ bit (eqb (b s r) 1) ∷ []) ≡ true
-    go true = refl
-    go false = refl
+    go : (v : Bool) (fs : List ℕ) → (v && not (eqb (ownerOf (u .means)) (head fs))) ≡ false → (if v then place (eqb (ownerOf (u .means))) fs else 0) ≡ 0
+    go true [] q = refl
+    go true (f ∷ fs) q = here (eqb (ownerOf (u .means)) f) q
+      where
+        here : (t : Bool) → not t ≡ false → (if t then 0 else suc (place (eqb (ownerOf (u .means))) fs)) ≡ 0
+        here true q = refl
+        here false q = absurd (true≢false q)
+    go false fs q = refl
 
-seen-short : (s : Sheet) (h : List Moment) (f : ℕ) (u : Use) → short (seenFrom s h f u) ≡ true
-seen-short s h f u = go (isVariable (u .means) && not (eqb (ownerOf (u .means)) f))
+-- the code of what is not captured
+code-own : (s : Sheet) (h : List Moment) (d : Meaning) (k : ℕ) → (eqb (getD (code s h d k) 0 0) 6 ≡ false) × (eqb (getD (fourWords (code s h d k)) 0 0) 6 ≡ false)
+code-own s h nothing k = (refl, refl)
+code-own s h (function f) k = (refl, refl)
+code-own s h (class c) k = (refl, refl)
+code-own s h (global g m) k = (refl, refl)
+code-own s h (toplevel r) k = (refl, refl)
+code-own s h (variable r f) k = go (is s 11 r)
   where
-    go : (t : Bool) → short (if t then 6 ∷ place (same u) (captures s h f) ∷ 0 ∷ bit (isMutable s (u .means)) ∷ [] else code s h (u .means) (u .slot)) ≡ true
-    go true = refl
-    go false = code-short s h (u .means) (u .slot)
+    own-code : Bool → List ℕ
+    own-code t = if t then 4 ∷ place (eqb r) (kidsOf s 11 f) ∷ f ∷ [] else 5 ∷ k ∷ f ∷ bit (eqb (b s r) 1) ∷ []
+
+    go : (t : Bool) → (eqb (getD (own-code t) 0 0) 6 ≡ false) × (eqb (getD (fourWords (own-code t)) 0 0) 6 ≡ false)
+    go true = (refl, refl)
+    go false = (refl, refl)
+
+-- the answer row of an identifier, from what is stored of it
+identifier-full : (s : Sheet) (h : List Moment) (r : ℕ) (u : Use)
+    → eight (r ∷ withFourth (distance u) (seenFrom s h (head (u .funs)) u)) ≡ identifierAnswer r (fourWords (withDistance (distance u) (seenFrom s h (head (u .funs)) u)))
+unfolding withDistance
+identifier-full s h r u = go (isVariable (u .means) && not (eqb (ownerOf (u .means)) (head (u .funs)))) (own-distance u)
+  where
+    own : List ℕ
+    own = code s h (u .means) (u .slot)
+
+    seen : Bool → List ℕ
+    seen t = if t then 6 ∷ place (same u) (captures s h (head (u .funs))) ∷ 0 ∷ bit (isMutable s (u .means)) ∷ [] else own
+
+    go : (t : Bool) → (t ≡ false → distance u ≡ 0) → eight (r ∷ withFourth (distance u) (seen t)) ≡ identifierAnswer r (fourWords (withDistance (distance u) (seen t)))
+    go true z = refl
+    go false z =
+        let c = code-own s h (u .means) (u .slot) in
+        ap (λ (n : ℕ). eight (r ∷ withFourth n own)) (z refl) ∙ no-fourth r own (code-short s h (u .means) (u .slot)) ∙ eight-full r own (code-short s h (u .means) (u .slot))
+        ∙ sym (rw (c .0, c .1))
 
 all-map : {A : Type 0} (f : A → List ℕ) → ((x : A) → short (f x) ≡ true) → (xs : List A) → All short (map f xs)
 all-map f h [] = al-none
@@ -76,21 +102,28 @@ module _ (O : Outside) (s : Sheet) (h : List Moment) (o : Store) (k : StoreAgree
 
   -- an identifier, if the machine hides it where the definition does
   pub identifier-written : is s 50 r ≡ true → (m : Moment) → visitOf h r ≡ m ∷ [] → isHidden s h r ≡ (isCalleeBase s r && isClass (useAt s m .means))
-      → map (λ vs. eight (r ∷ vs)) (identifierRow s h r) ≡ (if eqb (cell (o .table) r 4) 0 then answerRow r (rowWords (o .table) r) ∷ [] else [])
+      → map (λ vs. eight (r ∷ vs)) (identifierRow s h r) ≡ (if eqb (cell (o .table) r 4) 0 then identifierAnswer r (rowWords (o .table) r) ∷ [] else [])
   identifier-written hr m e eh =
-      ap (λ (ms : List Moment). map (λ vs. eight (r ∷ vs)) (map (λ m. seenFrom s h (within s m) (useAt s m)) (filter (λ m. not (isCalleeBase s r && isClass (useAt s m .means))) ms))) e
+      ap (λ (ms : List Moment). map (λ vs. eight (r ∷ vs)) (map seen (filter (λ m. not (isCalleeBase s r && isClass (useAt s m .means))) ms))) e
       ∙ go (isCalleeBase s r && isClass (useAt s m .means)) (k .hidden-is r l ∙ ap bit eh)
     where
-      one : map (λ vs. eight (r ∷ vs)) (map (λ m. seenFrom s h (within s m) (useAt s m)) (visitOf h r)) ≡ answerRow r (rowWords (o .table) r) ∷ []
-      one =
-          whole r (all-map (λ m. seenFrom s h (within s m) (useAt s m)) (λ m. seen-short s h (within s m) (useAt s m)) (visitOf h r))
-          ∙ ap (map (answerRow r)) (once (λ m. seenFrom s h (within s m) (useAt s m)) (rowWords (o .table) r) (visitOf h r) m e (identifier-words O s h o k r nz l hr))
+      seen : Moment → List ℕ
+      seen m = withFourth (distance (useAt s m)) (seenFrom s h (within s m) (useAt s m))
+
+      stored : Moment → List ℕ
+      stored m = withDistance (distance (useAt s m)) (seenFrom s h (within s m) (useAt s m))
+
+      words : fourWords (stored m) ∷ [] ≡ rowWords (o .table) r ∷ []
+      words = subst (λ (ms : List Moment). map (λ m. fourWords (stored m)) ms ≡ map (λ m. rowWords (o .table) r) ms) e (identifier-words O s h o k r nz l hr)
+
+      one : eight (r ∷ seen m) ∷ [] ≡ identifierAnswer r (rowWords (o .table) r) ∷ []
+      one = ap (λ (x : List ℕ). x ∷ []) (identifier-full s h r (useAt s m)) ∙ ap (map (identifierAnswer r)) words
 
       go : (t : Bool) → cell (o .table) r 4 ≡ bit t
-          → map (λ vs. eight (r ∷ vs)) (map (λ m. seenFrom s h (within s m) (useAt s m)) (if not t then m ∷ [] else []))
-          ≡ (if eqb (cell (o .table) r 4) 0 then answerRow r (rowWords (o .table) r) ∷ [] else [])
+          → map (λ vs. eight (r ∷ vs)) (map seen (if not t then m ∷ [] else []))
+          ≡ (if eqb (cell (o .table) r 4) 0 then identifierAnswer r (rowWords (o .table) r) ∷ [] else [])
       go true c = rw c
-      go false c = rw c (subst (λ (ms : List Moment). map (λ vs. eight (r ∷ vs)) (map (λ m. seenFrom s h (within s m) (useAt s m)) ms) ≡ answerRow r (rowWords (o .table) r) ∷ []) e one)
+      go false c = rw c one
 
   pub host-written : is s 51 r ≡ true → (m : Moment) → visitOf h r ≡ m ∷ [] → map (λ vs. eight (r ∷ vs)) (hostRow s h r) ≡ answerRow r (rowWords (o .table) r) ∷ []
   host-written hr m e =

@@ -13,7 +13,7 @@ use Rattle.definition.specs.Walk.{Event, enter, leave, loop, declare, bring, vi
 use Rattle.definition.specs.Scope.{Stack, Moment, inside, declared, newGlobal, declares, declarings, declaration}
 use Rattle.definition.specs.Slots.{globalLets, globalOf, finalGlobals, code}
 use Rattle.definition.proofs.Lists.Members.{filter-append, map-append}
-use Rattle.machine.specs.Machine.{entryRoom, entryWord, tagOf, firstOf, secondOf, meaningOf, findName, meaningAt}
+use Rattle.machine.specs.Machine.{entryRoom, entryWord, tagOf, firstOf, secondOf, meaningOf, findName, searched, meaningAt}
 use Rattle.machine.specs.Machine.{globalAt, Scopes, lookupMeaning, lookupGlobal, countPushed, wordsPushed}
 use Rattle.machine.specs.Machine.{newMeaning, stepScopes, declaresLet, codeOf, oneMore}
 use Rattle.machine.proofs.Lists.{only, any-append, place-append, filter2-snoc, eqb-self, eqb-same}
@@ -130,8 +130,8 @@ pub record Numbered (s : Sheet) (h : List Moment) (p : Scopes) : Type 0 where
   pub numbers : (k : ℕ) → k ≤ p .count → Known s h (globalAt (p .env) k) (meaningAt (p .env) k)
 
 pub number-look : (s : Sheet) (h : List Moment) (p : Scopes) → Numbered s h p → (m : ℕ) → Known s h (lookupGlobal p m) (lookupMeaning p m)
-unfolding lookupMeaning lookupGlobal
-number-look s h p q m = q .numbers (findName (p .env) m (p .count)) (find-le (p .env) m (p .count))
+unfolding searched lookupMeaning lookupGlobal
+number-look s h p q m = q .numbers (findName (p .env) m (searched p)) (omega (arith, find-le (p .env) m (searched p)))
 
 -- an entry pushed
 pub numbers-push : (s : Sheet) (h : List Moment) (v : List ℕ) (n t m x y w : ℕ) → n < entryRoom v

@@ -1,20 +1,24 @@
 -- The program asks the definition's questions.
-use mathlib.Core.Path.{_≡_, refl, sym, ap}
+use mathlib.Core.Path.{_≡_, refl, sym, ap, _∙_}
 use mathlib.Core.List.{List}
 use mathlib.Core.Bool.{Bool, true, false}
 use Prim.Native.Nat.{ℕ, zero, suc, _-_, _<_, _≤_}
 use native.Mathlib.Omega.{arith}
+use lib.ListN.{length}
 use lib.Dec.{eqb, leb}
-use Rattle.definition.specs.Basics.{if_then_else_}
+use Rattle.definition.specs.Basics.{if_then_else_, place}
 use Rattle.definition.specs.Sheet.{Sheet}
 use Rattle.definition.specs.Outside.{Outside}
+use Rattle.definition.specs.Meaning.{isVariable, ownerOf}
 use Rattle.definition.specs.Walk.{Event}
-use Rattle.definition.specs.Scope.{Stack, find, taken, inLoop}
+use Rattle.definition.specs.Scope.{Stack, find, lookup, around, taken, inLoop}
 use Rattle.definition.specs.Slots.{openLocals, topSlot}
 use Rattle.definition.specs.Question.{openOn, constructed, receiver, askEvent}
-use Rattle.machine.specs.Machine.{entryWord, findName, takenIn, loopIn, slotAt, Scopes, lookupSlot, openIn, constructedClass, receiverClass, checkEvent}
-use Rattle.machine.proofs.Entries.{entries, find-is, taken-is, loop-is}
-use Rattle.machine.proofs.ScopesAgree.{ScopesAgree, lookup-is}
+use Rattle.machine.specs.Machine.{entryWord, findName, takenIn, loopIn, slotAt, Scopes, lookupSlot}
+use Rattle.machine.specs.Machine.{marksAfter, lookupDistance, openIn, constructedClass, receiverClass, checkEvent}
+use Rattle.machine.proofs.Entries.{entries, find-is, around-is, taken-is, loop-is}
+use Rattle.machine.proofs.ScopesAgree.{ScopesAgree, searched-is, lookup-is}
+use Rattle.machine.proofs.Stacks.{WellFormed, owned-far}
 
 -- the slot of what a name means
 if-le : (b : Bool) (x y n : ℕ) → x ≤ n → y ≤ n → (if b then x else y) ≤ n
@@ -37,7 +41,19 @@ slot-of s v n (suc i) h f = sym (f i (omega arith))
 module _ (O : Outside) (s : Sheet) (z : Stack) (p : Scopes) (o : ScopesAgree s z p) where
   pub slot-found : (m : ℕ) → topSlot s (find m z) ≡ lookupSlot p m
   unfolding lookupSlot
-  slot-found m = rw (← (o .stack-is), find-is) (slot-of s (p .env) (p .count) _ (find-le (p .env) m (p .count)) (o .slots))
+  slot-found m = rw (searched-is s z p o, ← (o .stack-is), find-is) (slot-of s (p .env) (p .count) _ (find-le (p .env) m (p .count)) (o .slots))
+
+  -- how far out it is declared: the functions opened after it
+  pub distance-found : WellFormed s z → (m : ℕ) → (if isVariable (lookup m z) then place (eqb (ownerOf (lookup m z))) (around s z) else 0) ≡ lookupDistance s p m
+  unfolding lookupDistance marksAfter
+  distance-found snd m =
+      go (isVariable (lookup m z)) refl
+      ∙ rw (searched-is s z p o, lookup-is s z p o m, ← (o .stack-is), find-is, around-is s (p .env) (p .count), around-is s (p .env) (findName (p .env) m (p .count)))
+    where
+      go : (t : Bool) → isVariable (lookup m z) ≡ t
+          → (if t then place (eqb (ownerOf (lookup m z))) (around s z) else 0) ≡ (if t then length (around s z) - length (around s (find m z)) else 0)
+      go true v = omega (arith, owned-far s m (snd .apart) (snd .owned) v)
+      go false v = refl
 
   taken-found : (m : ℕ) → taken m z ≡ takenIn (p .env) m (p .count)
   taken-found m = rw (← (o .stack-is)) (taken-is (p .env) m (p .count))

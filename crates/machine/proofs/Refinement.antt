@@ -2,22 +2,21 @@
 use mathlib.Core.Path.{_≡_, refl, sym, ap, _∙_, subst}
 use mathlib.Core.List.{List, [], _∷_, _++_, map, append-nil, append-assoc}
 use mathlib.Core.Bool.{Bool, true, false}
-use Prim.Native.Nat.{ℕ, _+_, _-_, _*_, _/_, _<_, _≤_, min}
+use Prim.Native.Nat.{ℕ, _+_, _-_, _/_, _<_, _≤_, min}
 use native.Mathlib.Omega.{arith}
 use lib.ListN.{length}
-use lib.Seq.{sets, length-sets}
-use lib.Dec.{eqb, ltb}
+use lib.Dec.{eqb}
 use borrow.Author.Tests.{eq-eqb, ne-eqb, eqb-true, eqb-false}
-use Rattle.definition.specs.Basics.{if_then_else_, _∈?_}
+use Rattle.definition.specs.Basics.{_∈?_}
 use Rattle.definition.specs.Sheet.{Sheet, kind, a}
 use Rattle.definition.specs.Outside.{Outside}
 use Rattle.definition.specs.Walk.{Event, enter, leave, loop, declare, bring, visit}
 use Rattle.definition.specs.Scope.{Stack, Moment, around, inside, step, run, moments}
 use Rattle.definition.specs.Slots.{finalGlobals}
 use Rattle.definition.specs.Question.{Refusal, firstNo, openOn, askEvent}
-use Rattle.machine.specs.Machine.{nodeRoom, entryRoom, tagOf, firstOf, secondOf, newMeaning, Scopes, Store, State, wordsPushed, stepScopes, stepStore, checkEvent, stepState, runState}
+use Rattle.machine.specs.Machine.{nodeRoom, entryRoom, tagOf, firstOf, secondOf, newMeaning, Scopes, Store, State, stepScopes, stepStore, checkEvent, stepState, runState}
 use Rattle.machine.proofs.Nodes.{Extends, extends-trans}
-use Rattle.machine.proofs.ScopesAgree.{slot-small, ScopesAgree, scopes-step}
+use Rattle.machine.proofs.ScopesAgree.{pushed-length, slot-small, ScopesAgree, scopes-step}
 use Rattle.machine.proofs.Questions.{check-is}
 use Rattle.machine.proofs.Stacks.{WellFormed, Proper, wellFormed-step}
 use Rattle.machine.proofs.Captures.{Outward}
@@ -66,13 +65,6 @@ refused-run O s [] x n = refl
 refused-run O s (e ∷ es) x n = ap (runState O s es) (refused-one O s e x n) ∙ refused-run O s es x n
 
 -- the lengths of the buffers do not change
-pub pushed-length : (v : List ℕ) (n : ℕ) (ws : List ℕ) → length (wordsPushed v n ws) ≡ length v
-pushed-length v n ws = by (ltb n (entryRoom v))
-  where
-    by : (t : Bool) → length (if t then sets v (5 * n) ws else v) ≡ length v
-    by true = length-sets v (5 * n) ws
-    by false = refl
-
 move-length : (s : Sheet) (e : Event) (p : Scopes) → length (stepScopes s e p .env) ≡ length (p .env)
 unfolding stepScopes
 move-length s (enter r) p = pushed-length (p .env) (p .count) (1 ∷ r ∷ p .fun ∷ 0 ∷ p .slot ∷ [])

@@ -13,18 +13,18 @@ use Rattle.definition.specs.Meaning.{isVariable, rowOf, ownerOf, classNumber}
 use Rattle.definition.specs.Walk.{Event, enter, leave, loop, declare, bring, visit}
 use Rattle.definition.specs.Scope.{Stack, Moment, lookup, around, inside, within, declared, visited, declares}
 use Rattle.definition.specs.Slots.{isMutable, openLocals, code}
-use Rattle.definition.specs.Capture.{Use, useAt, beyond, isOuter, same, captures, seenFrom}
+use Rattle.definition.specs.Capture.{Use, useAt, distance, beyond, isOuter, same, captures, seenFrom}
 use Rattle.definition.specs.Classes.{methodNamed, ownMethods}
 use Rattle.definition.specs.Question.{openOn, receiver}
 use Rattle.definition.proofs.Lists.Members.{filter-append}
 use Rattle.machine.specs.Machine.{Node, Store, listAt, Scopes, currentFunction, lookupMeaning, lookupSlot}
 use Rattle.machine.specs.Machine.{lookupGlobal, newMeaning, codeOf, fourWords, writeRow, visitsKind, declaresLet}
-use Rattle.machine.specs.Machine.{eventRow, receiverClass, writtenRow, writtenWords, seenIn, storeRow}
+use Rattle.machine.specs.Machine.{lookupDistance, eventRow, receiverClass, writtenRow, writtenWords, seenIn, withDistance, storeRow}
 use Rattle.machine.specs.Reads.{rowWords}
 use Rattle.machine.proofs.Nodes.{isBefore}
 use Rattle.machine.proofs.Lists.{only, any-append, place-map, place-append, final-snoc, eqb-same, eqb-self}
 use Rattle.machine.proofs.ScopesAgree.{ScopesAgree, lookup-is, current-is, newMeaning-is}
-use Rattle.machine.proofs.Questions.{slot-found}
+use Rattle.machine.proofs.Questions.{slot-found, distance-found}
 use Rattle.machine.proofs.Stacks.{WellFormed, owned-find, beyond-early}
 use Rattle.machine.proofs.Captures.{nodeOf, captures-snoc}
 use Rattle.machine.proofs.Globals.{Known, listed, listed-on, code-on, known-listed, code-is}
@@ -42,7 +42,7 @@ rowWritten s e st =
 abbrev pub wordsWritten : Outside → Sheet → List Moment → Moment → List ℕ
 wordsWritten O s h m =
     if declaresLet s (m .event) then code s h (declared s (eventRow (m .event)) (within s m)) (openLocals s (m .stack))
-    else if visitsKind s 50 (m .event) then seenFrom s h (within s m) (useAt s m)
+    else if visitsKind s 50 (m .event) then withDistance (distance (useAt s m)) (seenFrom s h (within s m) (useAt s m))
     else if visitsKind s 51 (m .event) then (if eqb (within s m) (b s 0) then 7 else 8) ∷ []
     else if visitsKind s 52 (m .event) then 1 ∷ within s m ∷ []
     else if visitsKind s 55 (m .event) then 2 ∷ classNumber (lookup (a s (eventRow (m .event))) (m .stack)) ∷ []
@@ -108,8 +108,11 @@ words-on : (O : Outside) (s : Sheet) (h : List Moment) (m′ m : Moment) → Sta
 words-on O s h m′ m q =
     go (declaresLet s (m .event)) (visitsKind s 50 (m .event))
     (λ v. code-on s h m′ (declared s (eventRow (m .event)) (within s m)) (openLocals s (m .stack)) (q .let-listed v))
-    (λ v. seen-on s h m′ m (q .captured v) (q .use-listed v))
+    (λ v. ap (withDistance (distance (useAt s m))) (seen-on s h m′ m (q .captured v) (q .use-listed v)))
   where
+    seen : List Moment → List ℕ
+    seen k = withDistance (distance (useAt s m)) (seenFrom s k (within s m) (useAt s m))
+
     rest : List ℕ
     rest =
         if visitsKind s 51 (m .event) then (if eqb (within s m) (b s 0) then 7 else 8) ∷ []
@@ -122,9 +125,9 @@ words-on O s h m′ m q =
         → (t ≡ true
         → code s (h ++ m′ ∷ []) (declared s (eventRow (m .event)) (within s m)) (openLocals s (m .stack))
         ≡ code s h (declared s (eventRow (m .event)) (within s m)) (openLocals s (m .stack)))
-        → (u ≡ true → seenFrom s (h ++ m′ ∷ []) (within s m) (useAt s m) ≡ seenFrom s h (within s m) (useAt s m))
-        → (if t then code s (h ++ m′ ∷ []) (declared s (eventRow (m .event)) (within s m)) (openLocals s (m .stack)) else if u then seenFrom s (h ++ m′ ∷ []) (within s m) (useAt s m) else rest)
-        ≡ (if t then code s h (declared s (eventRow (m .event)) (within s m)) (openLocals s (m .stack)) else if u then seenFrom s h (within s m) (useAt s m) else rest)
+        → (u ≡ true → seen (h ++ m′ ∷ []) ≡ seen h)
+        → (if t then code s (h ++ m′ ∷ []) (declared s (eventRow (m .event)) (within s m)) (openLocals s (m .stack)) else if u then seen (h ++ m′ ∷ []) else rest)
+        ≡ (if t then code s h (declared s (eventRow (m .event)) (within s m)) (openLocals s (m .stack)) else if u then seen h else rest)
     go true u j i = j refl
     go false true j i = i refl
     go false false j i = refl
@@ -229,7 +232,7 @@ seenIn-is s h u g f o e n =
     else l)
     (code-is s h (u .means) (u .slot) g n)
 
-module _ (O : Outside) (s : Sheet) (h : List Moment) (z : Stack) (p : Scopes) (op : ScopesAgree s z p) where
+module _ (O : Outside) (s : Sheet) (h : List Moment) (z : Stack) (p : Scopes) (op : ScopesAgree s z p) (snd : WellFormed s z) where
   writtenRow-is : (e : Event) → writtenRow s e p ≡ rowWritten s e z
   writtenRow-is (enter r) = refl
   writtenRow-is leave = refl
@@ -265,10 +268,14 @@ module _ (O : Outside) (s : Sheet) (h : List Moment) (z : Stack) (p : Scopes) (o
       else 1 ∷ methodNamed (a s (child s r)) (ownMethods O s (receiverClass s r p)) ∷ []) seen
       ∙ rw (← (current-is s z p op), ← (lookup-is s z p op (a s r)), ← (lookup-is s z p op (b s (a s r))), ← (lookup-is s z p op (a s (child s (child s r)))))
     where
-      seen : seenIn s (lookupMeaning p (a s r)) (lookupSlot p (a s r)) (lookupGlobal p (a s r)) (currentFunction p) o ≡ seenFrom s h (inside s z) (useAt s (record { event = visit r; stack = z }))
+      u : Use
+      u = useAt s (record { event = visit r; stack = z })
+
+      seen : withDistance (lookupDistance s p (a s r)) (seenIn s (lookupMeaning p (a s r)) (lookupSlot p (a s r)) (lookupGlobal p (a s r)) (currentFunction p) o)
+          ≡ withDistance (distance u) (seenFrom s h (inside s z) u)
       seen =
-          rw (← (lookup-is s z p op (a s r)), ← (slot-found O s z p op (a s r)), ← (current-is s z p op))
-          (seenIn-is s h (useAt s (record { event = visit r; stack = z })) (lookupGlobal p (a s r)) (inside s z) o i (rw (lookup-is s z p op (a s r)) (ku (a s r))))
+          rw (← (distance-found O s z p op snd (a s r)), ← (lookup-is s z p op (a s r)), ← (slot-found O s z p op (a s r)), ← (current-is s z p op))
+          (ap (withDistance (distance u)) (seenIn-is s h u (lookupGlobal p (a s r)) (inside s z) o i (rw (lookup-is s z p op (a s r)) (ku (a s r)))))
 
 pub row-part : (O : Outside) (s : Sheet) (h : List Moment) (z : Stack) (p : Scopes) (op : ScopesAgree s z p) → WellFormed s z → (e : Event) (o : Store) (r : ℕ)
     → (declaresLet s e ≡ true → Known s (h ++ record { event = e; stack = z } ∷ []) (p .nextGlobal) (newMeaning s (declares e) p))
@@ -280,7 +287,7 @@ pub row-part : (O : Outside) (s : Sheet) (h : List Moment) (z : Stack) (p : Scop
     (final (filter (λ m. eqb (rowWritten s (m .event) (m .stack)) r) (h ++ record { event = e; stack = z } ∷ [])))
 unfolding storeRow
 row-part O s h z p op snd e o r kl ku l nz i t =
-    rw (filter-append (λ m. eqb (rowWritten s (m .event) (m .stack)) r) h (record { event = e; stack = z } ∷ []), writtenRow-is O s h z p op e)
+    rw (filter-append (λ m. eqb (rowWritten s (m .event) (m .stack)) r) h (record { event = e; stack = z } ∷ []), writtenRow-is O s h z p op snd e)
     (go (eqb (rowWritten s e z) r) refl)
   where
     old : List Moment
@@ -293,7 +300,7 @@ row-part O s h z p op snd e o r kl ku l nz i t =
         ap (λ (k : ℕ). rowWords ((if eqb k 0 then o else writeRow k (writtenWords O s e p o) o) .table) r) (eqb-true (rowWritten s e z) r q)
         ∙ ap (λ (t : Bool). rowWords ((if t then o else writeRow r (writtenWords O s e p o) o) .table) r) (ne-eqb r 0 nz)
         ∙ writeRow-same r (writtenWords O s e p o) o l
-        ∙ ap fourWords (written-is O s (h ++ record { event = e; stack = z } ∷ []) z p op e o i kl ku)
+        ∙ ap fourWords (written-is O s (h ++ record { event = e; stack = z } ∷ []) z p op snd e o i kl ku)
 
     there : (t : Bool) → eqb (rowWritten s e z) r ≡ false
         → rowWords ((if t then o else writeRow (rowWritten s e z) (writtenWords O s e p o) o) .table) r ≡ rowWords (o .table) r

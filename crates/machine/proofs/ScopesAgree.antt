@@ -3,9 +3,10 @@ use mathlib.Core.Path.{_≡_, refl, sym, ap, _∙_, subst}
 use mathlib.Core.Logic.{_⊎_, inl, inr, ⊎-elim}
 use mathlib.Core.List.{List, [], _∷_}
 use mathlib.Core.Bool.{Bool, true, false, true≢false}
-use Prim.Native.Nat.{ℕ, suc, _+_, _-_, _*_, _<_, _≤_}
+use Prim.Native.Nat.{ℕ, suc, _+_, _-_, _*_, _/_, _<_, _≤_}
 use native.Mathlib.Omega.{arith}
 use lib.ListN.{length, getD}
+use lib.Seq.{sets, length-sets}
 use lib.Dec.{eqb, leb, ltb}
 use borrow.Author.Tests.{lt-ltb, ltb-true, ltb-false, eqb-true, eqb-false}
 use Rattle.definition.specs.Basics.{if_then_else_, head}
@@ -14,7 +15,7 @@ use Rattle.definition.specs.Meaning.{Meaning, nothing, function, class, global,
 use Rattle.definition.specs.Walk.{Event, enter, leave, loop, declare, bring, visit}
 use Rattle.definition.specs.Scope.{Entry, scope, looping, bound, Stack, lookup, around, closed, declared, step, inside}
 use Rattle.definition.specs.Slots.{isLocal, openLocals}
-use Rattle.machine.specs.Machine.{entryRoom, entryWord, tagOf, firstOf, secondOf, lastMark, Scopes, lookupMeaning}
+use Rattle.machine.specs.Machine.{entryRoom, entryWord, tagOf, firstOf, secondOf, lastMark, Scopes, searched, lookupMeaning}
 use Rattle.machine.specs.Machine.{openFunctions, currentFunction, countPushed, wordsPushed, oneMore, pushName}
 use Rattle.machine.specs.Machine.{newMeaning, stepScopes}
 use Rattle.machine.proofs.Words.{sets-in, sets-out}
@@ -22,12 +23,20 @@ use Rattle.machine.proofs.Entries.{entryOf, entries, entries-length, fi
 
 pub record ScopesAgree (s : Sheet) (z : Stack) (p : Scopes) : Type 0 where
   pub stack-is : entries (p .env) (p .count) ≡ z
+  pub whole : p .count ≤ length (p .env) / 5
   pub slot-is : p .slot ≡ openLocals s z
   pub slots : (i : ℕ) → i < p .count → entryWord (p .env) i 4 ≡ openLocals s (entries (p .env) i)
   pub fun-is : p .fun ≡ inside s z
   pub funs-kept : (i : ℕ) → i < p .count → leb (entryWord (p .env) i 0) 1 ≡ true → entryWord (p .env) i 2 ≡ head (around s (entries (p .env) i))
 
--- An entry pushed.
+-- An entry pushed. The length of the buffer does not change.
+pub pushed-length : (v : List ℕ) (n : ℕ) (ws : List ℕ) → length (wordsPushed v n ws) ≡ length v
+pushed-length v n ws = by (ltb n (entryRoom v))
+  where
+    by : (t : Bool) → length (if t then sets v (5 * n) ws else v) ≡ length v
+    by true = length-sets v (5 * n) ws
+    by false = refl
+
 module _ (v : List ℕ) (n t m x y k : ℕ) (room : n < entryRoom v) where
   pub push-below : (i : ℕ) → i < n → (c : ℕ) → c < 5 → entryWord (wordsPushed v n (t ∷ m ∷ x ∷ y ∷ k ∷ [])) i c ≡ entryWord v i c
   push-below i h c g = rw (lt-ltb n (entryRoom v) room) (sets-out (t ∷ m ∷ x ∷ y ∷ k ∷ []) v (5 * n) (5 * i + c) (inl (omega arith)))
@@ -73,6 +82,7 @@ scopes-push s z p e t m x y k′ g f′ o room ee ek ef ex =
     let mo : countPushed v n ≡ suc n = push-more v n t m x y (p .slot) r in
     record {
       stack-is = ap (entries v′) mo ∙ push-entries v n t m x y (p .slot) r ∙ ap (λ (q : Entry). q ∷ entries v n) ee ∙ ap (λ (q : Stack). e ∷ q) (o .stack-is);
+      whole = omega (arith, mo, r, pushed-length v n (t ∷ m ∷ x ∷ y ∷ p .slot ∷ []));
       slot-is = ek;
       slots = λ i h. upto (λ q. entryWord v′ q 4 ≡ openLocals s (entries v′ q)) n i
           (push-at v n t m x y (p .slot) r 4 (omega arith) ∙ o .slot-is ∙ ap (openLocals s) (sym (o .stack-is) ∙ sym (entries-same v v′ n same)))
@@ -131,9 +141,14 @@ scopes-name s m d z p room small o =
 
 -- what is looked up
 module _ (s : Sheet) (z : Stack) (p : Scopes) (o : ScopesAgree s z p) where
+  -- all entries in use are searched
+  pub searched-is : searched p ≡ p .count
+  unfolding searched
+  searched-is = omega (arith, o .whole)
+
   pub lookup-is : (m : ℕ) → lookup m z ≡ lookupMeaning p m
   unfolding lookupMeaning
-  lookup-is m = rw (← (o .stack-is), find-is, top-is)
+  lookup-is m = rw (searched-is, ← (o .stack-is), find-is, top-is)
 
   pub functions-is : around s z ≡ openFunctions s p
   unfolding openFunctions
@@ -186,6 +201,7 @@ scopes-step s (enter r) z p room small o =
 scopes-step s leave z p room small o =
     record {
       stack-is = closed-at;
+      whole = omega (arith, mark-le (p .env) (p .count), o .whole);
       slot-is = slot-at s (p .env) (p .count) (o .slots) ∙ ap (openLocals s) closed-at;
       slots = λ i h. o .slots i (omega (arith, mark-le (p .env) (p .count)));
       fun-is = fun-at s (p .env) (p .count) (o .funs-kept) ∙ ap (λ (st : Stack). head (around s st)) closed-at;

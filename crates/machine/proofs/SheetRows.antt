@@ -27,7 +27,7 @@ use Rattle.definition.proofs.Walk.Once.{visit-of, visits-once}
 use Rattle.definition.proofs.Walk.Told.{Told, t-visit, told}
 use Rattle.definition.proofs.Closure.Following.{walked-visited, walks-range}
 use Rattle.machine.specs.Machine.{cell, Store, listAt, seenIn, codeOf, fourWords}
-use Rattle.machine.specs.Reads.{answerRow, handsOn, literalsIn, meaningOfNode, rowWords}
+use Rattle.machine.specs.Reads.{answerRow, identifierAnswer, handsOn, literalsIn, meaningOfNode, rowWords}
 use Rattle.machine.proofs.StoreAgrees.{StoreAgrees}
 use Rattle.machine.proofs.AfterRows.{All, al-none, al-one, isMemberCall, memberValues, member-words, member-none, member-row, literal-words}
 use Rattle.machine.proofs.AnswerRows.{eight-full, let-written, identifier-written, host-written, instance-written, literal-written, function-written}
@@ -59,7 +59,8 @@ module _ (n : ℕ) {O : Outside} {s : Sheet} (ok : Fits O s) (fa : SheetFacts n 
 
   -- an identifier has no row where a method call on a class hides it
   pub identifier-rows : (r : ℕ) → r < rows s → T (is s 50 r)
-      → map (λ vs. eight (r ∷ vs)) (identifierRow s (history O s) r) ≡ (if eqb (cell (o .table) r 4) 0 then answerRow r (rowWords (o .table) r) ∷ [] else [])
+      → map (λ vs. eight (r ∷ vs)) (identifierRow s (history O s) r)
+      ≡ (if eqb (cell (o .table) r 4) 0 then identifierAnswer r (rowWords (o .table) r) ∷ [] else [])
   identifier-rows r lr t =
       let q : kind s r ≡ 50 = eqb→eq (kind s r) 50 t in
       let v = visit-once 50 r lr tt tt t (rw q) in

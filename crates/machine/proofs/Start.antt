@@ -18,16 +18,16 @@ use Rattle.machine.specs.Machine.{globalAt, meaningAt, tagOf, firstOf, s
 use Rattle.machine.specs.Machine.{runState}
 use Rattle.machine.specs.Reads.{listedFields, rowWords}
 use Rattle.machine.proofs.Entries.{entries, entries-length}
-use Rattle.machine.proofs.ScopesAgree.{ScopesAgree, scopes-name}
+use Rattle.machine.proofs.ScopesAgree.{pushed-length, ScopesAgree, scopes-name}
 use Rattle.machine.proofs.Stacks.{wellFormed-start}
 use Rattle.machine.proofs.RowWords.{unwritten}
 use Rattle.machine.proofs.Globals.{Known, unnumbered, Numbered, known-stored, numbers-push}
 use Rattle.machine.proofs.StoreAgrees.{StoreAgrees}
-use Rattle.machine.proofs.Refinement.{pushed-length, StateAgrees, Runs, Ends, refine}
+use Rattle.machine.proofs.Refinement.{StateAgrees, Runs, Ends, refine}
 
 noScopes-agree : (s : Sheet) (v : List ℕ) → ScopesAgree s [] (noScopes s v)
 unfolding entries
-noScopes-agree s v = record { stack-is = refl; slot-is = refl; slots = λ i h. absurd (omega arith); fun-is = refl; funs-kept = λ i h. absurd (omega arith) }
+noScopes-agree s v = record { stack-is = refl; whole = omega arith; slot-is = refl; slots = λ i h. absurd (omega arith); fun-is = refl; funs-kept = λ i h. absurd (omega arith) }
 
 -- a table of zeros agrees with the empty history
 kept-none : (O : Outside) (s : Sheet) (t q : List ℕ) → ((j : ℕ) → getD t j 0 ≡ 0) → StoreAgrees O s [] (record { used = 0; calls = 0; table = t; nodes = q })

@@ -3,7 +3,7 @@
 -- contract is an equation with one of these functions and needs no fact about the sheet.
 use mathlib.Core.Bool.{Bool, true, false, not, _&&_, _||_}
 use mathlib.Core.List.{List, [], _∷_, _++_, map}
-use Prim.Native.Nat.{ℕ, zero, suc, _+_, _*_, _/_, min, max}
+use Prim.Native.Nat.{ℕ, zero, suc, _+_, _-_, _*_, _/_, min, max}
 use lib.ListN.{length, getD, set, take}
 use lib.Seq.{sets}
 use lib.Dec.{eqb, leb, ltb}
@@ -39,7 +39,7 @@ pub record Scopes : Type 0 where
   pub nextGlobal : ℕ  -- the number of the next global
   pub env : List ℕ  -- the entries' words
 
--- What the walk stores. A sheet row has eight words in the table: 0 to 3 code and values, 4 whether a method call hides the
+-- What the walk stores. A sheet row has eight words in the table: 0 to 3 code and values (`withDistance`), 4 whether a method call hides the
 -- identifier, 5 the local count of a function, 6 the last capture node of a function, 7 the last field node of a class. A node is
 -- four words: the node before it in its list, a key, two values. Nodes are only appended, so that a list, told by its last node,
 -- never changes.
@@ -136,21 +136,33 @@ unfoldable pub globalAt : List ℕ → ℕ → ℕ
 globalAt v zero = 0
 globalAt v (suc i) = entryWord v i 3
 
+-- the entries in which a name is looked for: those in use, as far as the buffer has all words of an entry
+unfoldable pub searched : Scopes → ℕ
+searched p = min (p .count) (length (p .env) / 5)
+
 -- what name m means: what the innermost entry of it declares
 unfoldable pub lookupMeaning : Scopes → ℕ → Meaning
-lookupMeaning p m = meaningAt (p .env) (findName (p .env) m (p .count))
+lookupMeaning p m = meaningAt (p .env) (findName (p .env) m (searched p))
 
 -- the slot of what name m means, if that is a local
 unfoldable pub lookupSlot : Scopes → ℕ → ℕ
-lookupSlot p m = slotAt (p .env) (findName (p .env) m (p .count))
+lookupSlot p m = slotAt (p .env) (findName (p .env) m (searched p))
 
 -- the global number of what name m means, if that is a let of a unit
 unfoldable pub lookupGlobal : Scopes → ℕ → ℕ
-lookupGlobal p m = globalAt (p .env) (findName (p .env) m (p .count))
+lookupGlobal p m = globalAt (p .env) (findName (p .env) m (searched p))
 
 -- the functions around, innermost first
 unfoldable pub openFunctions : Sheet → Scopes → List ℕ
 openFunctions s p = functionMarks s (p .env) (p .count)
+
+-- how many functions' marks stand after the innermost entry of name m, among the first n
+unfoldable pub marksAfter : Sheet → List ℕ → ℕ → ℕ → ℕ
+marksAfter s v m n = length (functionMarks s v n) - length (functionMarks s v (findName v m n))
+
+-- how many function boundaries lie between here and what name m means, if that is a local or argument; else 0
+unfoldable pub lookupDistance : Sheet → Scopes → ℕ → ℕ
+lookupDistance s p m = if isVariable (lookupMeaning p m) then marksAfter s (p .env) m (searched p) else 0
 
 -- the innermost function
 unfoldable pub currentFunction : Scopes → ℕ
@@ -419,11 +431,17 @@ seenIn s d k g f o =
     then 6 ∷ place (λ y. eqb (rowOf d) (y .key)) (listAt o (8 * f + 6)) ∷ 0 ∷ bit (isMutable s d) ∷ []
     else codeOf s d k g
 
+-- what is stored of an identifier: n, how far out it is declared, takes the place of a captured one's second value, which is 0
+unfoldable pub withDistance : ℕ → List ℕ → List ℕ
+withDistance n vs = if eqb (getD vs 0 0) 6 then getD vs 0 0 ∷ getD vs 1 0 ∷ n ∷ getD vs 3 0 ∷ [] else vs
+
 -- the code and values that an event writes: of a literal the function in which it stands, of a class its parent
 abbrev pub writtenWords : Outside → Sheet → Event → Scopes → Store → List ℕ
 writtenWords O s e p o =
     if declaresLet s e then codeOf s (newMeaning s (eventRow e) p) (p .slot) (p .nextGlobal)
-    else if visitsKind s 50 e then seenIn s (lookupMeaning p (a s (eventRow e))) (lookupSlot p (a s (eventRow e))) (lookupGlobal p (a s (eventRow e))) (currentFunction p) o
+    else if visitsKind s 50 e
+    then withDistance (lookupDistance s p (a s (eventRow e)))
+    (seenIn s (lookupMeaning p (a s (eventRow e))) (lookupSlot p (a s (eventRow e))) (lookupGlobal p (a s (eventRow e))) (currentFunction p) o)
     else if visitsKind s 51 e then (if eqb (currentFunction p) (b s 0) then 7 else 8) ∷ []
     else if visitsKind s 52 e then 1 ∷ currentFunction p ∷ []
     else if visitsKind s 55 e then 2 ∷ classNumber (lookupMeaning p (a s (eventRow e))) ∷ []

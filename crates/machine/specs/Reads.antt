@@ -3,7 +3,7 @@ use mathlib.Core.Path.{_≡_}
 use mathlib.Core.Bool.{Bool, not, _&&_}
 use mathlib.Core.List.{List, [], _∷_, _++_, map}
 use Prim.Native.Nat.{ℕ, suc, _+_, _*_, _<_, _≤_}
-use lib.ListN.{length}
+use lib.ListN.{length, getD}
 use lib.Dec.{eqb, T}
 use Rattle.definition.specs.Basics.{if_then_else_, filter, any, distinct, from, concatMap}
 use Rattle.definition.specs.Sheet.{Sheet, rows, child, a, is, kidsOf}
@@ -25,6 +25,10 @@ rowWords t r = cell t r 0 ∷ cell t r 1 ∷ cell t r 2 ∷ cell t r 3 ∷ []
 -- the answer row of sheet row r with four words, filled with zeros to eight
 abbrev pub answerRow : ℕ → List ℕ → List ℕ
 answerRow r ws = r ∷ ws ++ 0 ∷ 0 ∷ 0 ∷ []
+
+-- the answer row of an identifier with four words: the third of a captured one is how far out it is declared, its fourth value
+abbrev pub identifierAnswer : ℕ → List ℕ → List ℕ
+identifierAnswer r ws = if eqb (getD ws 0 0) 6 then r ∷ getD ws 0 0 ∷ getD ws 1 0 ∷ 0 ∷ getD ws 3 0 ∷ getD ws 2 0 ∷ 0 ∷ 0 ∷ [] else answerRow r ws
 
 -- what a capture node stands for
 abbrev pub meaningOfNode : Node → Meaning
@@ -62,7 +66,8 @@ pub record StoreReads (O : Outside) (s : Sheet) (o : Store) : Type 0 where
   pub instances : (r : ℕ) → r < rows s → T (is s 55 r) → map (λ vs. eight (r ∷ vs)) (instanceRow s (history O s) r) ≡ answerRow r (rowWords (o .table) r) ∷ []
   -- an identifier too unless it is marked as hidden, and a member if it has a code;
   pub identifiers : (r : ℕ) → r < rows s → T (is s 50 r)
-      → map (λ vs. eight (r ∷ vs)) (identifierRow s (history O s) r) ≡ (if eqb (cell (o .table) r 4) 0 then answerRow r (rowWords (o .table) r) ∷ [] else [])
+      → map (λ vs. eight (r ∷ vs)) (identifierRow s (history O s) r)
+      ≡ (if eqb (cell (o .table) r 4) 0 then identifierAnswer r (rowWords (o .table) r) ∷ [] else [])
   pub members : (r : ℕ) → r < rows s → T (is s 54 r)
       → map (λ vs. eight (r ∷ vs)) (memberRow O s (history O s) r) ≡ (if eqb (cell (o .table) r 0) 0 then [] else answerRow r (rowWords (o .table) r) ∷ [])
   -- a literal has its sources in the capture list of its function, seen from the function in which it stands,

@@ -11,11 +11,11 @@ use Rattle.definition.specs.Outside.{core}
 use Rattle.definition.specs.Walk.{walk}
 use Rattle.machine.specs.Machine.{State, cell, chainTo, listAt, runState, startState}
 use Rattle.machine.specs.Machine.{findName, takenIn, loopIn, functionMarks, lastMark, meaningAt, slotAt, globalAt}
-use Rattle.machine.specs.Machine.{lookupMeaning, lookupSlot, lookupGlobal, openFunctions, currentFunction}
+use Rattle.machine.specs.Machine.{searched, lookupMeaning, lookupSlot, lookupGlobal, openFunctions, marksAfter, lookupDistance, currentFunction}
 use Rattle.machine.specs.Machine.{newMeaning, stepScopes}
 use Rattle.machine.specs.Machine.{chainBack, reversed, appendNode, appendCall, addNew, addCapture, writeRow}
 use Rattle.machine.specs.Machine.{markHidden, raiseLocals, storeCall, storeField, storeCapture, storeLocal}
-use Rattle.machine.specs.Machine.{storeHidden, codeOf, seenIn, storeRow, stepStore, checkEvent, stepState}
+use Rattle.machine.specs.Machine.{storeHidden, codeOf, seenIn, withDistance, storeRow, stepStore, checkEvent, stepState}
 use Rattle.machine.specs.Reads.{rowWords, escapingSlots}
 
 -- What is read off a state. A list that belongs to a row has the row first.
@@ -52,9 +52,9 @@ readOff s x =
 -- what is read off the state after the walk over a sheet, on buffers of 30 entries, 60 rows and 10 nodes
 unfoldable pub reading : Sheet → Reading
 unfolding rowWords listAt chainTo runState startState findName takenIn loopIn functionMarks lastMark meaningAt slotAt
-    globalAt lookupMeaning lookupSlot lookupGlobal openFunctions currentFunction newMeaning stepScopes chainBack
+    globalAt searched lookupMeaning lookupSlot lookupGlobal openFunctions marksAfter lookupDistance currentFunction newMeaning stepScopes chainBack
     reversed appendNode appendCall addNew addCapture writeRow markHidden raiseLocals storeCall storeField storeCapture
-    storeLocal storeHidden storeRow codeOf seenIn stepStore checkEvent stepState
+    storeLocal storeHidden storeRow codeOf seenIn withDistance stepStore checkEvent stepState
 reading s = readOff s (runState core s (walk s) (startState core s (replicate 150 0) (replicate 480 0) (replicate 40 0)))
 
 -- With 3 globals before it:
@@ -130,8 +130,8 @@ accepted =
     50 ∷ 0 ∷ 0 ∷ 0 ∷ 1 ∷ 55 ∷ 27 ∷ 0 ∷ []
 
 -- The lets p and q of the unit are globals 3 and 4, and f is function 23. In f, r is in slot 0, q and s of the block in 1 and 2, and the
--- later s in 1 again. Both literals in f capture r of row 26, then p of row 24; r is mutable, so its slot escapes. The identifier of
--- row 55 means q of the unit.
+-- later s in 1 again. Both literals in f capture r of row 26, then p of row 24; r is mutable, so its slot escapes. Their
+-- identifiers lie two functions in. The identifier of row 55 means q of the unit.
 pub accepted-reading : reading accepted
     ≡ record {
       refusal = 0 ∷ 0 ∷ 0 ∷ [];
@@ -152,9 +152,9 @@ pub accepted-reading : reading accepted
           (32 ∷ 5 ∷ 1 ∷ 23 ∷ 0 ∷ []) ∷
           (34 ∷ 1 ∷ 23 ∷ 0 ∷ 0 ∷ []) ∷
           (37 ∷ 1 ∷ 35 ∷ 0 ∷ 0 ∷ []) ∷
-          (41 ∷ 6 ∷ 0 ∷ 0 ∷ 1 ∷ []) ∷
-          (43 ∷ 6 ∷ 1 ∷ 0 ∷ 0 ∷ []) ∷
-          (45 ∷ 6 ∷ 0 ∷ 0 ∷ 1 ∷ []) ∷
+          (41 ∷ 6 ∷ 0 ∷ 2 ∷ 1 ∷ []) ∷
+          (43 ∷ 6 ∷ 1 ∷ 2 ∷ 0 ∷ []) ∷
+          (45 ∷ 6 ∷ 0 ∷ 2 ∷ 1 ∷ []) ∷
           (46 ∷ 5 ∷ 1 ∷ 23 ∷ 0 ∷ []) ∷
           (47 ∷ 5 ∷ 0 ∷ 23 ∷ 1 ∷ []) ∷
           (50 ∷ 2 ∷ 258 ∷ 0 ∷ 0 ∷ []) ∷

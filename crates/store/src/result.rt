@@ -6,6 +6,9 @@ pub const ONE: u32 = 1;
 
 pub const TWO: u32 = 2;
 
+// How far out a captured identifier is declared: kept in place of its second value, which is 0.
+pub const DISTANCE: u32 = 2;
+
 pub const THREE: u32 = 3;
 
 // 1 if a method call hides the identifier.

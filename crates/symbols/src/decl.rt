@@ -7,7 +7,7 @@ ghost use Rattle.definition.specs.Basics.{if_then_else_};
 ghost use Rattle.definition.specs.Sheet.{word as wordAt};
 ghost use Rattle.definition.specs.Meaning.{Meaning, classNumber, isDeclared, isToplevel};
 ghost use Rattle.definition.specs.Slots.{isLocal, isMutable};
-ghost use Rattle.machine.specs.Machine.{oneMore, lookupMeaning, lookupSlot, lookupGlobal, newMeaning, pushName};
+ghost use Rattle.machine.specs.Machine.{meaningAt, slotAt, globalAt, oneMore, searched, lookupMeaning, lookupSlot, lookupGlobal, lookupDistance, newMeaning, pushName};
 ghost use Rattle.symbols.specs.OpenScopes.{scopesOf};
 ghost use Rattle.symbols.specs.OpenDecls.{means, entryFor};
 use crate::entry;
@@ -34,13 +34,17 @@ pub struct OpenDecl {
     pub slot: u32,
 }
 
-// What name `m` means: the innermost open declaration of it.
-pub fn lookup(env: Env, entries: &[u32], m: u32) -> OpenDecl
-    ensures { λ x. ⌜ (means x ≡ lookupMeaning (scopesOf env (now (entries .entry))) m)
-        × (x .slot ≡ lookupSlot (scopesOf env (now (entries .entry))) m)
-        × (x .second ≡ lookupGlobal (scopesOf env (now (entries .entry))) m) ⌝ }
+// What a name means, and how far out: the function boundaries between here and a local or argument, 0 for anything else.
+pub struct Found {
+    pub decl: OpenDecl,
+    pub distance: u32,
+}
+
+// The declaration of entry `k - 1`; nothing for 0.
+fn decl_at(entries: &[u32], k: u32) -> OpenDecl
+    ensures { λ x. ⌜ (means x ≡ meaningAt (now (entries .entry)) k) × (x .slot ≡ slotAt (now (entries .entry)) k)
+        × (x .second ≡ globalAt (now (entries .entry)) k) ⌝ }
 {
-    let k = find_name(entries, m, env.count);
     if k == 0 {
         return OpenDecl {
             tag: tag::NOTHING,
@@ -55,6 +59,40 @@ pub fn lookup(env: Env, entries: &[u32], m: u32) -> OpenDecl
         first: entry_word(entries, i, entry::FIRST),
         second: entry_word(entries, i, entry::SECOND),
         slot: entry_word(entries, i, entry::SLOT),
+    }
+}
+
+// How many entries a name is looked for in: those in use, as far as the buffer has all words of an entry.
+fn entries_searched(env: Env, entries: &[u32]) -> u32
+    ensures { λ x. ⌜ x ≡ searched (scopesOf env (now (entries .entry))) ⌝ }
+{
+    let whole = entries.len() / 5;
+    let count = env.count;
+    if (count as usize) < whole {
+        return count;
+    }
+    whole as u32
+}
+
+// What name `m` means: the innermost open declaration of it.
+pub fn lookup(sheet: &[u32], env: Env, entries: &[u32], m: u32) -> Found
+    ensures { λ x. ⌜ (means (x .decl) ≡ lookupMeaning (scopesOf env (now (entries .entry))) m)
+        × (x .decl .slot ≡ lookupSlot (scopesOf env (now (entries .entry))) m)
+        × (x .decl .second ≡ lookupGlobal (scopesOf env (now (entries .entry))) m)
+        × (x .distance ≡ lookupDistance (now (sheet .entry)) (scopesOf env (now (entries .entry))) m) ⌝ }
+{
+    let n = entries_searched(env, entries);
+    let at = find_name(sheet, entries, m, n);
+    let d = decl_at(entries, at.place);
+    if d.tag != tag::VARIABLE {
+        return Found {
+            decl: d,
+            distance: 0,
+        };
+    }
+    Found {
+        decl: d,
+        distance: at.marks,
     }
 }
 

@@ -1,10 +1,12 @@
 // The open scopes: entries of five words in a lent buffer, the innermost last. Searches go from the last entry down.
 ghost use mathlib.Core.Path.{_≡_};
 ghost use mathlib.Core.List.{[], _∷_};
+ghost use Prim.Native.Nat.{_≤_, _/_};
+ghost use lib.ListN.{length};
 ghost use Rattle.definition.specs.Walk.{enter, leave, loop};
 ghost use Rattle.definition.specs.Basics.{if_then_else_};
 ghost use Rattle.definition.specs.Sheet.{Sheet, is};
-ghost use Rattle.machine.specs.Machine.{entryWord, findName, takenIn, loopIn, lastMark, countPushed, wordsPushed, stepScopes};
+ghost use Rattle.machine.specs.Machine.{entryWord, findName, takenIn, loopIn, marksAfter, lastMark, countPushed, wordsPushed, stepScopes};
 ghost use Rattle.symbols.specs.OpenScopes.{scopesOf};
 use crate::entry;
 use crate::tag;
@@ -29,22 +31,46 @@ pub fn entry_word(entries: &[u32], i: u32, c: u32) -> u32
     if at < entries.len() { entries[at] } else { 0 }
 }
 
-// One more than the place of the innermost of the first `n` entries that declares name `m`, or 0. An entry's name is read first, since it
-// seldom is `m`.
-pub fn find_name(entries: &[u32], m: u32, n: u32) -> u32
-    ensures { λ x. ⌜ x ≡ findName (now (entries .entry)) m n ⌝ }
+// Where a name is declared: one more than the place of its entry, or 0, and how many functions' marks stand after it.
+pub struct NamePlace {
+    pub place: u32,
+    pub marks: u32,
+}
+
+// The innermost of the first `n` entries that declares name `m`. The search goes from the last entry down, past the marks that it counts.
+// The entries lie in the buffer, so that their words are read where they stand.
+pub fn find_name(sheet: &[u32], entries: &[u32], m: u32, n: u32) -> NamePlace
+    requires { ⌜ n ≤ length (now entries) / 5 ⌝ }
+    ensures { λ x. ⌜ (x .place ≡ findName (now (entries .entry)) m n)
+        × (x .marks ≡ marksAfter (now (sheet .entry)) (now (entries .entry)) m n) ⌝ }
 {
     let mut i = n;
+    let mut marks = 0;
     while 0 < i {
         let at = i - 1;
-        if entry_word(entries, at, entry::NAME) == m {
-            if tag::SCOPE < entry_word(entries, at, entry::TAG) {
-                return i;
+        let w = 5 * (at as usize);
+        let tag = entries[w];
+        let name = entries[w + 1];
+        if tag == tag::SCOPE {
+            if word(sheet, name, column::KIND) == kind::FUNCTION {
+                marks += 1;
+            }
+        } else {
+            if name == m {
+                if tag::SCOPE < tag {
+                    return NamePlace {
+                        place: i,
+                        marks: marks,
+                    };
+                }
             }
         }
         i = at;
     }
-    0
+    NamePlace {
+        place: 0,
+        marks: marks,
+    }
 }
 
 // Is name `m` declared in the innermost scope?

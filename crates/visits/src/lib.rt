@@ -62,7 +62,8 @@ pub fn check_instanceof(
         return walk;
     }
     let m = word(sheet, row, column::A);
-    let class = class_number(lookup(walk.env, entries, m));
+    let found = lookup(sheet, walk.env, entries, m);
+    let class = class_number(found.decl);
     if class.0 == 0 {
         return refuse(walk, question::INSTANCEOF_CLASS, row, m);
     }
@@ -153,7 +154,8 @@ pub fn resolve_parent(
     }
     let c = word(sheet, row, column::A);
     let m = word(sheet, c, column::B);
-    let class = class_number(lookup(walk.env, entries, m));
+    let found = lookup(sheet, walk.env, entries, m);
+    let class = class_number(found.decl);
     if !names_class(m, class) {
         return refuse(walk, question::PARENT_CLASS, row, m);
     }

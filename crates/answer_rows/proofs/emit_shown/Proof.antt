@@ -14,8 +14,8 @@ returns c =
     rw (← c .before .word .ensures, ne-eqb _ _ (c .if1 .taken))
     (emit-none (sink (start .args .k) (start .args .out .now)))
 
-emit-row-requires : tie.Need-emit-row-requires
-emit-row-requires c κs = search needs
+emit-use-requires : tie.Need-emit-use-requires
+emit-use-requires c κs = search needs
 
 same-length : tie.Need-same-length
 same-length c = search needs
@@ -26,8 +26,8 @@ returns-2 c =
     let word = c .before .before .before .before .before .word in
     let if1 = c .before .before .before .before .if1 in
     rw (← word .ensures, if1 .left)
-    (emit-one _ (sink (start .args .k) (start .args .out .now)) (c .before .before .emit-row .ensures))
+    (emit-one _ (sink (start .args .k) (start .args .out .now)) (c .before .before .emit-use .ensures))
 
 pub emit-shown-spec : {M : Type 1} → statement M
 emit-shown-spec =
-    tie.close (tie.spec word-requires returns emit-row-requires same-length returns-2)
+    tie.close (tie.spec word-requires returns emit-use-requires same-length returns-2)

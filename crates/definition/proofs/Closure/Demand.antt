@@ -75,6 +75,7 @@ module _ {O : Outside} {s : Sheet} (ok : Fits O s) where
         own-around = f .2;
         follows = f .4;
         tells = ap told (f .5) ∙ sym (use-told ok u is-use v);
+        far = f .6;
         is-open = count-open (m .stack) d (one-place ok m q d) (row-open (m .stack) (o .at) (a s r) (lookup (a s r) (m .stack)) (o .before) (o .is-open) v);
         alone = alone;
       }
@@ -96,7 +97,7 @@ module _ {O : Outside} {s : Sheet} (ok : Fits O s) where
           Memᴰ·cast (sym use-is) (mem-map (useAt s) m (visits s (history O s) 50) (mem-filter (λ k. is s 50 (visited (k .event))) m (history O s) (subst (λ (x : ℕ). T (is s 50 x)) (sym e) t) q))
 
       f : (x : Row) × (rowsFor (answers O s (history O s)) r ≡ x ∷ []) × Mem (functionOf s d) (functionsOf s r)
-          × (y : Row) × Follows s (answers O s (history O s)) x (between s r d) y × Tells O s y u
+          × (y : Row) × Follows s (answers O s (history O s)) x (between s r d) y × Tells O s y u × (getD x 5 0 ≡ between s r d)
       f = identifiers ok u is-use v
 
       mine : OpenRow (m .stack) d

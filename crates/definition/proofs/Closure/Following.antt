@@ -14,8 +14,8 @@ use Rattle.definition.specs.Meaning.{Meaning, nothing, variable, rowOf, 
 use Rattle.definition.specs.Walk.{Event, visit, before, after, each, parts, walk}
 use Rattle.definition.specs.Scope.{Stack, Moment, around, history, start, visited, visits, visitOf, within}
 use Rattle.definition.specs.Slots.{isMutable, openLocals, code}
-use Rattle.definition.specs.Capture.{Use, useAt, uses, captures, beyond, isOuter, same, seenFrom, sources}
-use Rattle.definition.specs.Answer.{eight, isCalleeBase, identifierRow, literalRows, letRow, hostRow, instanceRow, memberRow, rowsOf, answers}
+use Rattle.definition.specs.Capture.{Use, useAt, uses, distance, captures, beyond, isOuter, same, seenFrom, sources}
+use Rattle.definition.specs.Answer.{eight, withFourth, isCalleeBase, identifierRow, literalRows, letRow, hostRow, instanceRow, memberRow, rowsOf, answers}
 use Rattle.definition.specs.Claims.{Row, rowsFor, Follows, ends, steps}
 use Rattle.definition.specs.Bounds.{own, walked}
 use Rattle.definition.proofs.Lists.Tests.{and-both, and-left, and-right, decide, eqb-of, if-true, if-false, kind-apart}
@@ -202,7 +202,7 @@ module _ {O : Outside} {s : Sheet} (ok : Fits O s) where
 
   -- the answer row of an identifier
   pub identifier-rows : (u : Use) → Located O s u → T (isVariable (u .means))
-      → rowsFor (answers O s (history O s)) (u .row) ≡ eight (u .row ∷ seenFrom s (history O s) (functionOf s (u .row)) u) ∷ []
+      → rowsFor (answers O s (history O s)) (u .row) ≡ eight (u .row ∷ withFourth (distance u) (seenFrom s (history O s) (functionOf s (u .row)) u)) ∷ []
   identifier-rows u x v = rows-for O s (history O s) r (walks-range ok r (x .walks)) ∙ ap (map (λ vs. eight (r ∷ vs))) (rows-of-identifier O s (history O s) r (x .identifier) ∙ one)
     where
       r : ℕ
@@ -226,12 +226,15 @@ module _ {O : Outside} {s : Sheet} (ok : Fits O s) where
       inside-is : within s m ≡ functionOf s r
       inside-is = ap head (visit-around ok m r (x .among) row-is (kind-not-zero ok 50 r tt (x .identifier)) .0)
 
-      one : identifierRow s (history O s) r ≡ seenFrom s (history O s) (functionOf s r) u ∷ []
+      shown : ℕ → Use → List ℕ
+      shown f w = withFourth (distance w) (seenFrom s (history O s) f w)
+
+      one : identifierRow s (history O s) r ≡ shown (functionOf s r) u ∷ []
       one =
-          ap (λ (l : List Moment). map (λ k. seenFrom s (history O s) (within s k) (useAt s k)) (filter keep l)) visits-is
-          ∙ ap (map (λ k. seenFrom s (history O s) (within s k) (useAt s k))) (if-true (keep m) (m ∷ []) [] kept)
-          ∙ ap (λ (f : ℕ). seenFrom s (history O s) f (useAt s m) ∷ []) inside-is
-          ∙ ap (λ (w : Use). seenFrom s (history O s) (functionOf s r) w ∷ []) (sym (x .use-is))
+          ap (λ (l : List Moment). map (λ k. shown (within s k) (useAt s k)) (filter keep l)) visits-is
+          ∙ ap (map (λ k. shown (within s k) (useAt s k))) (if-true (keep m) (m ∷ []) [] kept)
+          ∙ ap (λ (f : ℕ). shown f (useAt s m) ∷ []) inside-is
+          ∙ ap (λ (w : Use). shown (functionOf s r) w ∷ []) (sym (x .use-is))
 
   -- the answer rows of a walked literal
   pub literal-rows : (l : ℕ) → Walks s l → T (is s 52 l)

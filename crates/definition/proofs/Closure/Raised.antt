@@ -228,6 +228,7 @@ module _ {O : Outside} {s : Sheet} (ok : Fits O s) {out : List Row} (claim : Dem
         own-around = f .own-around;
         follows = follows-raised s out n (f .follows);
         tells = told-raised n (f .end) ∙ ap (raisedValues n) (f .tells) ∙ sym (declared-raised s out n O d);
+        far = kept-word n (f .row) 5 (λ e. omega arith) (λ e. omega arith) ∙ f .far;
         is-open = f .is-open;
         alone = λ e i c. f .alone e i (three-same n (shape m q e i) (shape m q d mine) (ap (take 3) (sym (declared-raised s out n O e)) ∙ c ∙ ap (take 3) (declared-raised s out n O d)));
       }

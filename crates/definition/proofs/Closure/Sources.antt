@@ -11,10 +11,10 @@ use Rattle.definition.specs.Sheet.{Sheet, child, rows, is, holder, funct
 use Rattle.definition.specs.Outside.{Outside}
 use Rattle.definition.specs.Meaning.{rowOf, ownerOf, isVariable}
 use Rattle.definition.specs.Scope.{history}
-use Rattle.definition.specs.Capture.{Use, uses, captures, isOuter, beyond, seenFrom}
-use Rattle.definition.specs.Answer.{eight, answers}
+use Rattle.definition.specs.Capture.{Use, uses, distance, captures, isOuter, beyond, seenFrom}
+use Rattle.definition.specs.Answer.{eight, withFourth, answers}
 use Rattle.definition.specs.Claims.{Row, rowsFor, between, Follows}
-use Rattle.definition.proofs.Lists.Tests.{and-left}
+use Rattle.definition.proofs.Lists.Tests.{and-left, if-true}
 use Rattle.definition.proofs.Lists.Members.{drop-mem, getD-drop-is, empty-of, drop-map}
 use Rattle.definition.proofs.Format.Links.{child-held}
 use Rattle.definition.proofs.Walk.Fits.{Fits}
@@ -22,6 +22,7 @@ use Rattle.definition.proofs.Walk.Rows.{kind-not-zero}
 use Rattle.definition.proofs.Walk.Whole.{statement-walked}
 use Rattle.definition.proofs.Walk.Around.{Walks, around-walks, around-rest, Literal}
 use Rattle.definition.proofs.Closure.Captured.{captured-use, use-captured}
+use Rattle.definition.proofs.Closure.Values.{seen-short, fourth-follows}
 use Rattle.definition.proofs.Closure.Following.{Tells, Located, located, identifier-rows, literal-rows, outer-around, around-outer, around-trans, use-literal, follow}
 
 module _ {O : Outside} {s : Sheet} (ok : Fits O s) where
@@ -64,14 +65,32 @@ module _ {O : Outside} {s : Sheet} (ok : Fits O s) where
       let a-u = outer-around ok g u x (c .1) in
       use-literal ok g u x (a-u .0) (a-u .1)
 
+  -- the functions between an identifier and its declaration, counted by the definition and by the rows of the sheet
+  distance-is : (u : Use) → Located O s u → T (isVariable (u .means)) → distance u ≡ between s (u .row) (rowOf (u .means))
+  distance-is u x v =
+      if-true (isVariable (u .means)) (place (eqb (ownerOf (u .means))) (u .funs)) 0 v
+      ∙ ap (place (eqb (ownerOf (u .means)))) (x .funs-is) ∙ ap (λ (k : ℕ). place (eqb k) (functionsOf s (u .row))) (owner-function u x)
+
   pub identifiers : (u : Use) → Mem u (uses s (history O s)) → T (isVariable (u .means))
       → (x : Row) × (rowsFor (answers O s (history O s)) (u .row) ≡ x ∷ []) × Mem (functionOf s (rowOf (u .means))) (functionsOf s (u .row))
       × (y : Row) × Follows s (answers O s (history O s)) x (between s (u .row) (rowOf (u .means))) y × Tells O s y u
+      × (getD x 5 0 ≡ between s (u .row) (rowOf (u .means)))
   identifiers u q v =
       let x : Located O s u = located ok u q v in
-      let o : Mem (ownerOf (u .means)) (functionsOf s (u .row)) = subst (λ (l : List ℕ). Mem (ownerOf (u .means)) l) (x .funs-is) (x .owner-around) in
-      let t = follow-from (u .row) u q v (λ k m. subst (λ (l : List ℕ). Mem k l) (sym (x .funs-is)) m) (x .walks) o in
-      (eight (u .row ∷ seenFrom s (history O s) (functionOf s (u .row)) u), identifier-rows ok u x v, subst (λ (k : ℕ). Mem k (functionsOf s (u .row))) (owner-function u x) o, t .0, t .1, t .2)
+      let r : ℕ = u .row in
+      let seen : List ℕ = seenFrom s (history O s) (functionOf s r) u in
+      let n : distance u ≡ between s r (rowOf (u .means)) = distance-is u x v in
+      let o : Mem (ownerOf (u .means)) (functionsOf s r) = subst (λ (l : List ℕ). Mem (ownerOf (u .means)) l) (x .funs-is) (x .owner-around) in
+      let t = follow-from r u q v (λ k m. subst (λ (l : List ℕ). Mem k l) (sym (x .funs-is)) m) (x .walks) o in (
+        eight (r ∷ withFourth (distance u) seen),
+        identifier-rows ok u x v,
+        subst (λ (k : ℕ). Mem k (functionsOf s r)) (owner-function u x) o,
+        t .0,
+        subst (λ (k : ℕ). Follows s (answers O s (history O s)) (eight (r ∷ withFourth k seen)) (between s r (rowOf (u .means))) (t .0)) (sym n)
+            (fourth-follows r (between s r (rowOf (u .means))) seen (seen-short s (history O s) (functionOf s r) u) (t .1)),
+        t .2,
+        n,
+      )
 
   -- the literal of a function that captures
   own-literal : (l : ℕ) → l < rows s → (L : Literal s (child s l)) → (child s l ≡ 0 → ⊥) → L .literal ≡ l

@@ -1,6 +1,6 @@
 use borrow.Author.Tests.{eq-eqb, ne-eqb}
 use Rattle.machine.specs.Machine.{openFunctions}
-use Rattle.store.proofs.CodeLaws.{other-tag}
+use Rattle.symbols.proofs.DeclLaws.{no-variable}
 use borrow.Author.Needs.{needs}
 use Rattle.idents.proofs.capture.Statement.{statement}
 use Rattle.idents.proofs.capture.Tie as tie
@@ -8,7 +8,7 @@ use Rattle.idents.proofs.capture.Tie as tie
 returns : tie.Need-returns
 returns c =
     let start = c .before .before .before .before .before .before in
-    rw (other-tag (start .args .d .tag) (start .args .d .first) (start .args .d .second) (c .if1 .taken))
+    rw (no-variable (start .args .d .tag) (start .args .d .first) (start .args .d .second) (c .if1 .taken))
 
 returns-2 : tie.Need-returns-2
 returns-2 c =
