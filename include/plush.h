@@ -148,7 +148,12 @@ enum {
     PLUSH_NAME_LAST_FIXED = 24
 };
 
-/* The codes of answer rows: word 1. Word 0 is the sheet row; the values follow from word 2 on. */
+/* The codes of answer rows: word 1. Word 0 is the sheet row; the values follow from word 2 on, then zeros.
+ *
+ * In the row of an identifier the fourth value, word 5, is its distance: how many function boundaries lie between it and the
+ * declaration that it means. That is 0 in the same function, and for globals, functions and classes, so it is above 0 exactly
+ * where the code is PLUSH_CODE_CAPTURED. In a literal's source rows it is 0, also with that code.
+ */
 enum {
     PLUSH_CODE_NOTHING = 0,
     PLUSH_CODE_FUN = 1, /* function */
@@ -156,7 +161,7 @@ enum {
     PLUSH_CODE_GLOBAL = 3, /* index, 0, mutable */
     PLUSH_CODE_ARG = 4, /* index, function */
     PLUSH_CODE_LOCAL = 5, /* slot, function, mutable */
-    PLUSH_CODE_CAPTURED = 6, /* index, 0, mutable */
+    PLUSH_CODE_CAPTURED = 6, /* index, 0, mutable, distance */
     PLUSH_CODE_TRUE = 7,
     PLUSH_CODE_FALSE = 8,
     PLUSH_CODE_FUNCTION_COUNTS = 20, /* local count, captures, escapes */

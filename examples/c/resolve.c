@@ -64,6 +64,13 @@ static void print_name(uint32_t number, const char *names) {
     printf("%.*s", (int)strcspn(names, "\n"), names);
 }
 
+/* How many functions out a captured name is declared: 0, and not printed, for what a literal hands on. */
+static void print_distance(uint32_t distance) {
+    if (distance > 0) {
+        printf(", %" PRIu32 " %s out", distance, distance == 1 ? "function" : "functions");
+    }
+}
+
 static void print_answer(const uint32_t *row, const char *names) {
     const char *mutable = row[4] == 1 ? "mutable " : "";
     switch (row[1]) {
@@ -73,7 +80,10 @@ static void print_answer(const uint32_t *row, const char *names) {
     case PLUSH_CODE_GLOBAL: printf("%sglobal %" PRIu32, mutable, row[2]); break;
     case PLUSH_CODE_ARG: printf("argument %" PRIu32 " of function %" PRIu32, row[2], row[3]); break;
     case PLUSH_CODE_LOCAL: printf("%slocal %" PRIu32 " of function %" PRIu32, mutable, row[2], row[3]); break;
-    case PLUSH_CODE_CAPTURED: printf("%scapture %" PRIu32 " of its function", mutable, row[2]); break;
+    case PLUSH_CODE_CAPTURED:
+        printf("%scapture %" PRIu32 " of its function", mutable, row[2]);
+        print_distance(row[5]);
+        break;
     case PLUSH_CODE_TRUE: printf("true"); break;
     case PLUSH_CODE_FALSE: printf("false"); break;
     case PLUSH_CODE_FUNCTION_COUNTS:

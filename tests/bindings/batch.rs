@@ -1,6 +1,7 @@
 //! batch: as batch.c, through the Rust binding, in two threads. Each answer row is read as an `AnswerRow` and written back, and each
-//! sheet stored by column and taken back.
-use plush::{find_name, from_columns, resolve, resolve_to_vec, to_columns, Position, Question, ANSWER_WORDS};
+//! sheet stored by column and taken back. What is captured must have a distance in an identifier's row, and none in a literal's.
+use plush::{columns, find_name, from_columns, resolve, resolve_to_vec, to_columns};
+use plush::{Answer, AnswerRow, Kind, Position, Question, ANSWER_WORDS, ROW_WORDS};
 use std::io::{Read, Write};
 
 fn numbers(bytes: &[u8]) -> Vec<u32> {
@@ -17,11 +18,19 @@ fn line(words: [u32; 8]) -> String {
     words.iter().map(|word| format!("{word:10}")).collect::<String>() + "\n"
 }
 
+fn check_distance(sheet: &[u32], found: AnswerRow) {
+    if let Answer::Captured { distance, .. } = found.answer {
+        let kind = sheet[ROW_WORDS * found.row as usize + columns::KIND];
+        assert_eq!(distance > 0, kind == Kind::Identifier as u32, "{found:?}");
+    }
+}
+
 fn report(sheet: &[u32], names: &[u8], answer: &mut [u32]) -> String {
     match resolve(sheet, names, answer) {
         Ok(resolved) => {
             let rows: Vec<_> = resolved.rows().collect();
             assert_eq!(rows.len() * 8, resolved.words().len(), "every row is read");
+            rows.iter().for_each(|&row| check_distance(sheet, row));
             assert_eq!(resolve_to_vec(sheet, names), Ok((rows.clone(), resolved.globals())));
             let first = line([0, 0, 0, 0, 0, rows.len() as u32, resolved.globals(), 0]);
             first + &rows.into_iter().map(|row| line(row.to_words())).collect::<String>()

@@ -3,7 +3,8 @@
 Resolves COUNT random sheets through the C routine, through the Rust binding and over the pipe (plush_serve), and compares the three
 reports word by word. One sheet in ten is damaged, so that most often questions 1 to 4 refuse it; the first is the one that takes
 the most stack of those known. Each program has 2 MiB of it, which plush.h says is enough. With ORACLE, the Rust of Plush
-behind the sheet format (tests/oracle/build.sh), also with its answers. Exit status 1 if a case differs.
+behind the sheet format (tests/oracle/build.sh), also with its answers; the fourth value of an identifier's row, which the Rust
+does not say, is then compared with tests/oracle/distance.py. Exit status 1 if a case differs.
 """
 import random
 import subprocess
@@ -88,6 +89,8 @@ def main():
         words_compared += sum(8 * len(report) // LINE for report in expected)
     print("by question:", ", ".join(f"{number}: {questions[number]}" for number in sorted(questions)))
     print(f"{sum(questions.values())} sheets, {words_compared} words, {differing} differences")
+    if oracle:
+        print("compared with the Rust, but for the fourth value of identifiers, which distance.py says")
     sys.exit(1 if differing else 0)
 
 

@@ -3,7 +3,8 @@
 # Tests of include/plush.h and bindings/rust, built in OUT. Needs rt, gcc, g++, cargo and Python 3, and no network.
 # --clone: builds the library from a clone of the repository, in which nothing is proved yet, and so measures the time from a clone to
 # a linked C program. Else crates that were proved before in target/ are not proved again.
-# --count N: random sheets to compare (10,000). --oracle PLUSH: compares also with the Rust, whose src/symbols.rs is in PLUSH.
+# --count N: random sheets to compare (10,000). --oracle PLUSH: compares also with the Rust, whose src/symbols.rs is in PLUSH; the
+# distances of identifiers, which the Rust does not say, with tests/oracle/distance.py.
 set -e
 out=${1:?folder to build in}
 shift
@@ -48,7 +49,31 @@ export PLUSH_LIB_DIR="$library" CARGO_TARGET_DIR="$out/cargo"
 cargo build --offline --quiet --release --example resolve --manifest-path "$top/bindings/rust/Cargo.toml"
 "$out/resolve_c" "$data/sheet.txt" "$data/names.txt" | cmp - "$out/expected"
 "$out/cargo/release/examples/resolve" "$data/sheet.txt" "$data/names.txt" | cmp - "$out/expected"
-echo "examples: C and Rust say of the sample what they must"
+# and on S5 of document 01, whose innermost function uses a name of the outermost
+python3 - "$here/../oracle" "$out" <<'END'
+import sys
+from pathlib import Path
+sys.path.insert(0, sys.argv[1])
+from serve_cases import samples
+s5 = next(case for case in samples() if case.what == "sample S5")
+for name, data in (("s5_sheet.txt", s5.text), ("s5_names.txt", s5.names)):
+    Path(sys.argv[2], name).write_bytes(data)
+END
+cat > "$out/expected_s5" <<'END'
+row 2: the function has 0 locals, 0 captures, 0 escapes
+row 4: f is function 6
+row 6: the function has 0 locals, 0 captures, 0 escapes
+row 9: the literal hands on argument 0 of function 6
+row 10: the function has 0 locals, 1 captures, 0 escapes
+row 10: its capture or escape is argument 0 of function 6
+row 12: the literal hands on capture 0 of its function
+row 13: the function has 0 locals, 1 captures, 0 escapes
+row 13: its capture or escape is argument 0 of function 6
+row 15: p is capture 0 of its function, 2 functions out
+END
+"$out/resolve_c" "$out/s5_sheet.txt" "$out/s5_names.txt" | cmp - "$out/expected_s5"
+"$out/cargo/release/examples/resolve" "$out/s5_sheet.txt" "$out/s5_names.txt" | cmp - "$out/expected_s5"
+echo "examples: C and Rust say of the sample and of S5 what they must"
 
 # the routine at the edges of what it is lent; the header as C++
 gcc $flags "$here/edges.c" "$library/libplush.a" -o "$out/edges"

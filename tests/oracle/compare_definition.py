@@ -2,6 +2,7 @@
 compare_definition.py ORACLE DEFINITION damage [SEED]
 compare_definition.py ORACLE DEFINITION directed
 compare_definition.py ORACLE DEFINITION later
+compare_definition.py ORACLE DEFINITION distances
 compare_definition.py ORACLE DEFINITION limits
 
 Compares the definition, a crate whose folder is DEFINITION, with the oracle, and questions 1 to 4 of it with
@@ -10,9 +11,12 @@ buffers also one of `buffer`; small sheets also one of `printed`, with their tex
 at a time, into a Rattle repository in a temporary folder. Of very many answer rows only the first line is claimed. Prints
 the counts of the cases by question, and every claim that does not hold, with its case.
 
+The fourth value of an identifier's row is not compared with the Rust, which does not say it, but with distance.py; all other
+words are the Rust's (expected.py).
+
 With the word `damage` the cases are each way to break questions 1 to 4, twice; with `directed` the small programs of
-directed.py, with `later` those that were added to it; with `limits` those at the limits of document 01, which take long. The
-command `rt` must be on the path.
+directed.py, with `later` those that were added to it, with `distances` those for that fourth value; with `limits` those at the
+limits of document 01, which take long. The command `rt` must be on the path.
 """
 import random
 import re
@@ -25,7 +29,8 @@ from pathlib import Path
 
 import directed
 from damage import WAYS, damaged, damaged_text
-from expected import LENT, all_printed, buffer
+from distance import distances
+from expected import LENT, all_printed, buffer, split
 from format_check import words_of_text
 from limits import limits
 from sheets import Sheet, generate
@@ -154,11 +159,9 @@ def limit_cases(oracle):
     return cases
 
 
-def later_cases(oracle):
-    """Each later program with its rows in the recorded order."""
-    cases = []
-    for what, sheet in directed.later_sheets():
-        cases.append(Case(what, sheet.words, sheet.names, sheet.preorder))
+def recorded_cases(oracle, sheets):
+    """Each program with its rows in the recorded order."""
+    cases = [Case(what, sheet.words, sheet.names, sheet.preorder) for what, sheet in sheets]
     expect(oracle, cases)
     return cases
 
@@ -301,7 +304,9 @@ def cases_of(oracle, what, seed):
     if what == "directed":
         return directed_cases(oracle)
     if what == "later":
-        return later_cases(oracle)
+        return recorded_cases(oracle, directed.later_sheets())
+    if what == "distances":
+        return recorded_cases(oracle, directed.distance_sheets())
     if what == "limits":
         return limit_cases(oracle)
     return make_cases(oracle, int(what), seed) + text_cases(oracle, random.Random(seed), int(what) // 12)
@@ -316,6 +321,9 @@ def summary(cases):
     print(f"{sum(case.text is not None for case in cases)} given as text;",
           f"{len(good)} pass questions 1 to 4, with {rows // max(1, len(good))} rows on average,",
           f"{sum(not case.preorder for case in good)} of them not in pre-order")
+    far = [each for case in cases if case.question == 0 for each in distances(split(case.words), case.expected)]
+    print(f"the fourth value of {len(far)} identifiers is held to distance.py, not to the Rust:",
+          f"{sum(each > 0 for each in far)} are above 0, the largest {max(far, default=0)}")
 
 
 def main():

@@ -19,7 +19,7 @@ def features(reader, out):
     for row, code, v, w, x, y, _, _ in out[1:]:
         kind = reader.kind(row)
         if code == 6:
-            found |= capture_features(kind, x)
+            found |= capture_features(kind, x, y)
         if code == 20:
             found |= function_features(v, w, x)
         if code == 22:
@@ -34,10 +34,11 @@ def features(reader, out):
     return found
 
 
-def capture_features(kind, mutable):
-    """A literal whose source is captured in turn reaches two functions out, or more."""
+def capture_features(kind, mutable, distance):
+    """A literal whose source is captured in turn reaches two functions out, or more. An identifier's distance is by distance.py."""
     found = {"captured identifier": kind == 50, "capture two or more functions deep": kind == 52,
-             "mutable capture two or more functions deep": kind == 52 and mutable}
+             "mutable capture two or more functions deep": kind == 52 and mutable,
+             "identifier three or more functions out": distance >= 3, "identifier six or more functions out": distance >= 6}
     return {name for name, fact in found.items() if fact}
 
 

@@ -2,6 +2,7 @@
 
 `programs()` gives what each shows, and its tree. The oracle says what comes of them. `later_programs()` gives those that
 were added for faults of planted.py, with pairs of nodes: the row of the first must stand before that of the second.
+`distance_programs()`, with such pairs too, are for F-6 of document 02: how many functions lie between a use and its declaration.
 """
 import random
 
@@ -515,6 +516,151 @@ def later_programs():
 
 def later_sheets():
     """What each later program shows, and its sheet, with rows in one order."""
-    for i, (what, root, earlier) in enumerate(later_programs()):
+    return in_one_order(later_programs())
+
+
+def in_one_order(programs):
+    for i, (what, root, earlier) in enumerate(programs):
         order = "breadth" if earlier else ("preorder", "random", "runs")[i % 3]
         yield what, Sheet(root, NAMES, random.Random(i), order, earlier)
+
+
+# programs for distances
+
+def nested(count, inner):
+    """A return of a literal, whose body is the same again, and so on; the body of the last one is `inner`."""
+    for _ in range(count):
+        inner = give(lit([], inner))
+    return inner
+
+
+def counted_functions():
+    yield "three functions", in_function(nested(2, give(use(p))), params=[p]), []
+    yield "four functions, a mutable local", in_function(var(a), nested(3, give(use(a)))), []
+    yield "blocks around the use", in_function(let(a), do(lit([], block(block(block(do(use(a))))))), do(use(a))), []
+    yield "blocks around the literal", in_function(let(a), block(block(do(lit([], give(use(a))))), do(use(a)))), []
+    yield "the declaration in a block", in_function(block(block(var(a), do(lit([], give(use(a)))), block(do(use(a)))))), []
+    yield "a parameter and blocks", in_function(block(do(use(p)), block(do(lit([], block(do(use(p))))))), params=[p]), []
+    yield "loops around the use", in_function(
+        var(a), do(lit([], loop(do(use(a)), use(a), put(use(a), nil()), loop(do(nil()), nil(), do(nil()), do(use(a))))))), []
+    yield "loops around the literal", in_function(
+        let(a), loop(do(nil()), use(a), do(use(a)), loop(do(nil()), nil(), do(nil()), do(lit([], give(use(a))))))), []
+    yield "the declaration in a loop", in_function(
+        loop(var(a), lit([], give(use(a))), do(lit([], give(use(a)))), block(do(use(a)), do(lit([], block(do(use(a)))))))), []
+    yield "branches", in_function(
+        let(a), when(use(a), when(nil(), do(use(a)), do(lit([], when(use(a), do(use(a)), block(do(use(a))))))))), []
+    yield "functions that have ended", in_function(
+        let(a), do(lit([], nested(2, nil_body()))), let(b, lit([], nil_body())), do(lit([], give(use(a)))), do(use(a))), []
+    yield "functions that begin later", in_function(
+        let(a), do(lit([], give(use(a)))), do(lit([], nil_body())), do(use(a)), nested(3, nil_body())), []
+    used = record(A, 0, (), [method(m, nested(1, nil_body()))])
+    later = unit(declare(used), let(f, lit([p], nested(1, give(use(p))))), classes=[used], declared=False)
+    yield "functions of a class and of an earlier unit", sheet(unit(let(g, lit([], nested(2, nil_body())))), later), []
+    yield "literals with parameters and with locals", in_function(
+        let(a), give(lit([q], block(let(b), give(lit([], give(lit([c], give(array(use(a), use(q), use(b), use(c))))))))))), []
+    yield "literals with a name", in_function(
+        var(a), give(lit([], give(lit([q], give(array(use(a), use(p), use(q))), name=g)), name=p)), params=[p]), []
+    held = record(A)
+    yield "literals with a class", sheet(unit(let(f, lit([p], block(
+        var(a), give(lit([], give(lit([], put(member(use(p), m), use(a)), held)), held))), held)), classes=[held])), []
+    held = record(A, 0, (), [method(m, var(a), do(array(use(p), use(a))), nested(1, block(
+        do(array(use(a), use(p))), give(lit([q], give(array(use(q), use(p), use(a))))))), params=[n, p])])
+    yield "in a method", sheet(unit(classes=[held])), []
+    held = record(A, 0, (), [method(m, loop(var(a), use(a), put(use(a), nil()), nested(1, give(use(a)))))])
+    yield "in a method declared in a block", sheet(
+        unit(var(a), block(var(b), declare(held)), classes=[held], declared=False)), []
+    yield "fixed names", in_function(var(STRING), nested(2, block(
+        put(use(STRING), use(NULL)), do(lit([INIT], give(array(use(INIT), use(NULL), use(MAIN_UNIT))))))),
+        params=[NULL, MAIN_UNIT]), []
+
+
+def each_use_by_itself():
+    yield "used again", in_function(
+        var(a), nested(1, block(do(use(a)), do(array(use(a), use(a))), nested(1, give(array(use(a), use(a)))), do(use(a))))), []
+    further = nested(1, block(do(use(p)), nested(1, give(use(p)))))
+    yield "used again further in", in_function(
+        do(lit([], give(use(p)))), nested(1, block(do(use(p)), further)), params=[p]), []
+    yield "used by outer functions afterwards", in_function(
+        let(a), nested(1, block(nested(1, block(nested(1, give(use(a))), do(use(a)))), do(use(a)))), do(use(a))), []
+    yield "used by an inner function of one that does not use it", in_function(
+        var(a), nested(2, give(use(a))), nested(1, give(use(a))), do(use(a))), []
+    inner, outer = use(a), use(a)
+    yield "the outer use has the lower row", in_function(
+        let(a), nested(1, block(nested(2, give(inner)), do(outer)))), [(outer, inner)]
+    inner, outer = use(a), use(a)
+    yield "the outer use has the higher row", in_function(
+        let(a), nested(1, block(do(outer), nested(2, give(inner))))), [(inner, outer)]
+    yield "several at different distances", in_function(
+        let(a), give(lit([q], block(var(b), give(lit([], give(array(use(b), use(p), use(q), use(a), use(b)))))))), params=[p]), []
+    yield "several, the farthest first", in_function(
+        var(a), give(lit([q], give(lit([c], give(lit([], give(array(use(p), use(a), use(q), use(c))))))))), params=[p]), []
+    yield "mutable siblings on one slot", in_function(
+        block(var(a), do(lit([], give(use(a))))), block(var(b), nested(3, give(use(b))), do(use(b)))), []
+    yield "a name at two distances", in_function(var(a), give(lit([], block(
+        do(use(a)), block(let(a), do(use(a)), nested(1, give(use(a)))), nested(1, give(use(a))))))), []
+    yield "a name hidden by a parameter", in_function(
+        do(lit([], give(lit([p], block(do(use(p)), nested(1, give(use(p)))))))), nested(2, give(use(p))), params=[p]), []
+    yield "a parameter hidden by a local of its function", in_function(
+        let(p), do(use(p)), nested(2, block(do(use(p)), let(p), do(use(p)), nested(1, give(use(p))))), params=[p]), []
+    yield "assigned", in_function(var(a), nested(1, block(
+        put(use(a), use(a)), nested(1, put(use(a), call(use(a)))), do(lit([], put(use(a), nil())))))), []
+    yield "in all places of expressions", in_function(var(a), nested(2, block(
+        do(call(use(a), use(a))), do(call(member(use(a), m), use(a))), put(member(use(a), m), use(a)), do(is_a(use(a), STRING)),
+        put(Node(53, kids=[use(a), use(a)]), Node(48, kids=[Node(49, kids=[use(a)])])), Node(28, kids=[Node(56, kids=[use(a)])]),
+        let(b, Node(58, kids=[use(a), Node(57, kids=[use(a), use(b)]), use(a)])))), params=[b]), []
+    yield "a hoisted literal in itself", in_function(let(g, lit([], give(use(g)))), do(use(g))), []
+    yield "a hoisted literal in itself, further in", in_function(
+        var(g, lit([p], block(do(use(g)), nested(1, give(array(use(g), use(p)))))))), []
+    yield "hoisted literals in each other", in_function(
+        do(use(b)), let(a, lit([], give(use(b)))), let(b, lit([], nested(1, give(array(use(a), use(b))))))), []
+
+
+def nothing_captured():
+    def uses(*names):
+        """All the names here, one function in, and three."""
+        here, near, far = (array(*map(use, names)) for _ in range(3))
+        return block(do(here), nested(1, block(do(near), nested(2, give(far)))))
+
+    inner = block(let(c), let(f, lit([], uses(a, b, c))), put(use(b), use(c)))
+    yield "globals", sheet(unit(let(a), var(b), inner, uses(a, b))), []
+    inner = block(let(a, lit([], uses(a))), do(array(use(a), use(f))), uses(f))
+    yield "functions", sheet(unit(let(f, lit([], uses(f, g))), var(g, lit([], uses(g))), inner)), []
+    held = record(A, 0, (), [method(m, uses(A, STRING, UI_EVENT))])
+    yield "classes", sheet(unit(uses(A, STRING, UI_EVENT), classes=[held])), []
+    yield "constants", in_function(let(a, nil(), 4), uses(a), nested(2, block(let(b, nil(), 2), uses(a, b)))), []
+    far = unit(let(f, lit([], nil_body())), classes=[record(B)], consts=[Node(8, g, 2)])
+    far.kids[:0] = [Node(7, f, far.kids[-1])]
+    yield "imports", sheet(
+        unit(uses(f, B, g), let(a, lit([], uses(f, B, g))), imports=[bring(far, f, B), bring(far, g)]), far), []
+    yield "its own locals and arguments", in_function(
+        let(a), block(let(b), loop(var(c), array(use(c), use(p)), do(use(a)), block(do(array(use(a), use(b), use(c), use(p)))))),
+        params=[p]), []
+    yield "own ones of an inner function", in_function(nested(2, give(lit([p], block(let(a), loop(
+        var(b), use(b), do(use(p)), block(do(array(use(a), use(b), use(p)))))))))), []
+    told = record(A, 0, (), [method(m)])
+    yield "other rows", sheet(unit(let(f, lit([p], block(var(a), nested(2, block(
+        let(b), var(c), let(q, nil(), 2), let(g, lit([], nil_body())), do(is_a(use(a), A)), do(host(MAIN_UNIT)), do(static(A, m)),
+        loop(let(n, lit([], nil_body())), nil(), do(nil()), do(nil())), do(use(p))))))), classes=[told])), []
+
+
+def farthest():
+    """The depth of 64 lets a method's parameter be used 19 literals in, and a literal's 18."""
+    for count in (18, 19, 20):
+        held = record(A, 0, (), [fun(m, [p], nested(count, give(use(p))))])
+        yield f"a method's parameter, {count} literals in", sheet(unit(classes=[held])), []
+    for count in (17, 18, 19):
+        yield f"a literal's parameter, {count} literals in", sheet(unit(do(lit([p], nested(count, give(use(p))))))), []
+    each = give(use(p))
+    for _ in range(13):
+        each = give(array(use(p), lit([], each), use(p)))
+    yield "a parameter at every distance up to 13", sheet(unit(do(lit([p], each)))), []
+
+
+def distance_programs():
+    for group in (counted_functions, each_use_by_itself, nothing_captured, farthest):
+        for what, root, earlier in group():
+            yield f"{group.__name__}: {what}", root, earlier
+
+
+def distance_sheets():
+    return in_one_order(distance_programs())

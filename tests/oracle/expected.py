@@ -2,11 +2,15 @@
 
 The oracle's errors name the question by their text. Two questions are panics in the Rust, which give no position: 16,
 whose place is then found by going through the scopes in the order of the walk, and 19, found by climbing the parents.
+
+The fourth value of an identifier's row, how far out its declaration lies, is not the Rust's, which has 0 there: distance.py
+says it. All other words of answer rows are the Rust's; `completed` makes sure that they stay so.
 """
 import re
 import subprocess
 import tempfile
 
+from distance import distances, source_steps, with_distances, without_distances
 from format_check import FIXED, first_no, listed
 from tree import A, B, KIND, kids_of, text_of, words_of
 
@@ -207,22 +211,45 @@ def of_answer(sheet, answer):
     return [[int(x) for x in line.split()] for line in answer.splitlines()]
 
 
-def printed(rows, names, answer, lent=LENT):
-    """The rows that the program prints of a sheet that passes questions 1 to 4, with `lent` words lent."""
+def of_rust(rows, names, answer, lent=LENT):
+    """What the Rust says of a sheet that passes questions 1 to 4, as the program prints it, with `lent` words lent."""
     out = of_answer(Reader(rows, names), answer)
     return out if 8 * (len(out) - 1) <= lent else refused(22)
 
 
-def all_printed(oracle, cases):
-    """The printed rows of (words, names, lent) cases, also of those that questions 1 to 4 refuse."""
+def completed(rows, rust):
+    """The rows that the program prints: the Rust's, and in those of identifiers the distance."""
+    if len(rust) == 1:
+        return rust
+    out = with_distances(rows, rust)
+    assert without_distances(rows, out) == rust
+    assert distances(rows, out) == source_steps(rows, out)
+    return out
+
+
+def printed(rows, names, answer, lent=LENT):
+    """The same out of the oracle's answer."""
+    return completed(rows, of_rust(rows, names, answer, lent))
+
+
+def split(words):
+    return [words[i:i + 8] for i in range(0, len(words), 8)]
+
+
+def all_of_rust(oracle, cases):
+    """What the Rust says of (words, names, lent) cases, and format_check.py of those that questions 1 to 4 refuse."""
     questions = [first_no(words, names) for words, names, _ in cases]
     good = [i for i, question in enumerate(questions) if question == 0]
-    split = {i: [cases[i][0][j:j + 8] for j in range(0, len(cases[i][0]), 8)] for i in good}
-    answers = dict(zip(good, run_oracle(oracle, [(split[i], cases[i][1]) for i in good])))
+    answers = dict(zip(good, run_oracle(oracle, [(split(cases[i][0]), cases[i][1]) for i in good])))
     out = []
-    for i, (_, names, lent) in enumerate(cases):
-        out.append(printed(split[i], names, answers[i], lent) if i in answers else refused(questions[i]))
+    for i, (words, names, lent) in enumerate(cases):
+        out.append(of_rust(split(words), names, answers[i], lent) if i in answers else refused(questions[i]))
     return out
+
+
+def all_printed(oracle, cases):
+    """The printed rows of the same cases."""
+    return [completed(split(words), rust) for (words, _, _), rust in zip(cases, all_of_rust(oracle, cases))]
 
 
 def buffer(lent, out):

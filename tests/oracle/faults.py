@@ -1,9 +1,8 @@
 """Faults to plant: what each is, then pairs of a text that occurs once in the file and what stands in its place.
 
-RESOLVER is of second.py, FORMAT and TEXT of format_check.py, COLUMNS, COLUMN_REPLIES and COLUMN_SIZES of columns_cases.py, FINDING
-of find_cases.py. `format_faults(source)` adds to FORMAT those that can be "
-     "listed by
-rule: each demand left out, each child list a little too wide or too narrow, kinds taken for statements or expressions.
+RESOLVER is of second.py, FORMAT and TEXT of format_check.py, COLUMNS, COLUMN_REPLIES and COLUMN_SIZES of columns_cases.py,
+FINDING of find_cases.py. `format_faults(source)` adds to FORMAT those that can be listed by rule: each demand left out, each
+child list a little too wide or too narrow, kinds taken for statements or expressions.
 """
 import re
 
@@ -610,8 +609,201 @@ ROOM_FAULTS = [
     ("22 has the globals", "[[22, 0, 0, 0, 0, 0, 0, 0]]", "[[22, 0, 0, 0, 0, 0, resolver.globals, 0]]"),
 ]
 
+DISTANCE = "self.distances[row] = self.distance(decl)"
+ANSWER = "        self.capture(self.function, decl, row)\n        self.answer(row, decl)\n"
+PUT_DISTANCE = "rows.append([row, *self.seen(*self.answers[row]), self.distances.get(row, 0)])"
+NO_FUNCTION = "        if decl.function == 0:\n            return 0\n"
+SET_ANSWER = "self.answers[row] = (decl, self.function)"
+SOURCES = "[[row, *self.seen(decl, outer)] for decl in self.captures(inner)]"
+FAR_SOURCES = "[[row, *self.seen(decl, outer), far] for decl, far in zip(self.captures(inner), self.far[row])]"
+SET_SOURCES = "self.literals[row] = (inner, self.function)"
+CAPTURED_ROWS = "[[row, *decl] for decl in self.captures(function)]"
+FAR_ROWS = "[[row, *decl, function.far[decl]] for decl in self.captures(function)]"
+ESCAPE_ROWS = "[[row, *decl] for decl in escaping]"
+COUNTS = "counts = [row, 20, function.locals, len(function.captured), len(escaping)]"
+END_FUNCTION = "        self.open_functions.pop()\n"
+EACH_KID = "            for kid in kids:\n                self.expression(kid)\n"
+# expressions in `identifier`
+HOW_DEEP = "len(self.open_functions) - 1"
+SCOPES_INSIDE = "len(self.scopes) - 1 - max(i for i, scope in enumerate(self.scopes) if name in scope)"
+WALKED_SINCE = "len(self.functions) - 1 - list(self.functions).index(decl.function)"
+ROWS_SINCE = "sum(decl.function < each and self.kind(each) == 6 for each in range(row))"
+FUNCTIONS_OUT = "enumerate(reversed(self.open_functions))"
+FIRST_USE = "self.__dict__.setdefault('met', {}).setdefault"
+OPEN_IN = "any(open.function == each.row for scope in self.scopes for open in scope.values())"
+HOISTED_HERE = "self.__dict__.get('inner', {})"
+IN_HOISTED = f"({HOISTED_HERE}.get(decl) in [each.row for each in self.open_functions])"
+# changes that others need
+FAR = END_FUNCTION, "        function.far = {decl: self.distance(decl) for decl in function.captured}\n" + END_FUNCTION
+ABOVE = "    def distance(self, decl):\n", (
+    "    def inside(self, row, decl):\n        found = []\n        while row != decl.function:\n            row = " + above("row")
+    + "\n            found.append(row)\n        return found\n\n    def distance(self, decl):\n")
+HOISTED = "            decl = self.declare_let(row)\n        self.answer(row, decl)\n", (
+    "            decl = self.declare_let(row)\n        self.answer(row, decl)\n"
+    f"        self.inner = {{**{HOISTED_HERE}, decl: self.kids[literal][0]}}\n")
+
+
+def told(value):
+    """A change: the distance of an identifier is another value, in which `far` is the right one."""
+    return DISTANCE, f"far = self.distance(decl)\n        self.distances[row] = {value}"
+
+
+def counting_kinds(kind, test="far"):
+    """A change: rows of a kind count besides the functions, those inside the declaring one, if the test holds."""
+    return *ABOVE, *told(f"sum(self.kind(each) in (6, {kind}) for each in self.inside(row, decl)[:-1]) if {test} else 0")
+
+
+def counting(test):
+    """A change: of the functions inside the declaring one, `each`, only some count."""
+    return told(f"sum(bool({test}) for each in self.open_functions[len(self.open_functions) - far:])")
+
+
+def shared(value):
+    """A change: a captured identifier has another value, out of those of `of`, its function."""
+    return PUT_DISTANCE, ("decl, of = self.answers[row]\n                far = self.distances.get(row, 0)\n"
+                          f"                rows.append([row, *self.seen(decl, of), far and {value}])")
+
+
+def placed(*values):
+    """A change: the values of a captured identifier's row, out of `index`, `mutable` and `far`."""
+    return PUT_DISTANCE, ("(code, index, function, mutable), far = self.seen(*self.answers[row]), self.distances.get(row, 0)\n"
+                          "                here = code == CAPTURED and row in self.distances\n"
+                          f"                values = [{', '.join(values)}] if here else [index, function, mutable]\n"
+                          "                rows.append([row, code, *values])")
+
+
+DISTANCE_FAULTS = [
+    *[(f"{what} count as functions{where}", *counting_kinds(kind, test))
+      for what, kind in (("blocks", 25), ("loops", 27), ("branches", 26), ("expression statements", 20), ("returns", 22))
+      for where, test in (("", "far"), (", also in the function itself", "decl.function"))],
+    ("a literal counts besides its function", *counting_kinds(52)),
+    ("all rows above count", *ABOVE, *told("len(self.inside(row, decl)) if far else 0")),
+    ("scopes count", *told(f"{SCOPES_INSIDE} if far else 0")),
+    ("scopes count, also in the function itself", *told(f"{SCOPES_INSIDE} if decl.function else 0")),
+    ("scopes count for every name", *told(SCOPES_INSIDE)),
+    ("functions that have ended count", *told(f"{WALKED_SINCE} if far else 0")),
+    ("functions that have ended count, also in the function itself", *told(f"{WALKED_SINCE} if decl.function else 0")),
+    ("functions are counted by their rows", *told(f"{ROWS_SINCE} if far else 0")),
+    ("functions are counted by their rows, also in the function itself", *told(f"{ROWS_SINCE} if decl.function else 0")),
+    ("functions without parameters do not count", *counting("self.of_kind(each.row, 11)")),
+    ("functions with parameters do not count", *counting("not self.of_kind(each.row, 11)")),
+    ("functions without locals do not count", *counting("each.locals")),
+    ("functions without open declarations do not count", *counting(OPEN_IN)),
+    ("functions without open declarations do not count, but the innermost", *counting("each is self.function or " + OPEN_IN)),
+    ("functions with a class do not count", *counting("not each.record")),
+    ("functions with a name do not count", *counting("not self.a(each.row)")),
+    ("functions whose body is no block do not count", *counting("self.kind(self.kids[each.row][-1]) == 25")),
+    ("functions whose body is a block do not count", *counting("self.kind(self.kids[each.row][-1]) != 25")),
+    ("functions that have captured nothing do not count", *counting("each.captured")),
+    ("functions that have not yet captured it do not count", *counting("decl in each.captured")),
+    ("counted up to the nearest function that has captured it", ANSWER, "        near = next("
+     f"(i for i, each in {FUNCTIONS_OUT} if decl in each.captured or each.row == decl.function), 0)\n" + ANSWER, *told("near")),
+    ("counted up to the nearest function around that has captured it",
+     *told(f"next((i for i, each in {FUNCTIONS_OUT} if i and decl in each.captured or each.row == decl.function), 0)")),
+    ("counted up to the outermost function", *told(f"{HOW_DEEP} if far else 0")),
+    ("counted up to the outermost function but the unit's", *told(f"{HOW_DEEP} - 1 if far else 0")),
+    ("counted from the unit's function to the declaration's", *told(f"{HOW_DEEP} - far if far else 0")),
+    ("counted up to the outermost declaration of the name",
+     *told("self.distance(next(scope[name] for scope in self.scopes if name in scope)) if far else 0")),
+    ("in a method one more", *told("far + any(each.record for each in self.open_functions[1:2]) if far else 0")),
+    ("in a literal with a class one more", *told("far + bool(self.function.record) if far else 0")),
+    ("one less", *told("max(0, far - 1)")),
+    ("one more", *told("far + (far > 0)")),
+    ("one more for locals and arguments", *told("far + (decl.function > 0)")),
+    ("one more for every name", *told("far + 1")),
+    ("one more for arguments", *told("far + (decl.code == ARGUMENT)")),
+    ("one more for captured arguments", *told("far + (far > 0 and decl.code == ARGUMENT)")),
+    ("one more for captured locals", *told("far + (far > 0 and decl.code == LOCAL)")),
+    ("none for captured arguments", *told("far * (decl.code == LOCAL)")),
+    ("none for captured locals", *told("far * (decl.code == ARGUMENT)")),
+    ("none for mutable ones", *told("far * (not decl.mutable)")),
+    ("none for immutable ones", *told("far * decl.mutable")),
+    ("none for fixed names", *told("far * (name > 24)")),
+    ("none in a loop", *told("far * (self.loops == 0)")),
+    ("none in a method", *told("far * (not any(each.record for each in self.open_functions[1:2]))")),
+    ("none but for capture 0", *told("far * (far > 0 and list(self.function.captured)[0] == decl)")),
+    *[(f"at most {most}", *told(f"min(far, {most})")) for most in (1, 2, 3, 7, 12, 15, 16, 17, 18)],
+    ("cut to 3 bits", *told("far % 8")),
+    ("cut to 4 bits", *told("far % 16")),
+    ("at a function's first use alone", *told("far * (self.function.captured.get(decl) == row)")),
+    ("at a declaration's first captured use alone", *told(f"far and far * ({FIRST_USE}(decl, row) == row)")),
+    ("not at a function's first use", *told("far * (self.function.captured.get(decl) != row)")),
+    ("the first captured use's for all", *told(f"far and {FIRST_USE}(decl, far)")),
+    ("the first use's in a function, or in one further in, for the function's others",
+     *told("far and self.distances.get(self.function.captured[decl], far)")),
+    ("the first use's of a name for all", *told(f"far and {FIRST_USE}(name, far)")),
+    ("the last captured use's for all",
+     *told("far\n        if far:\n            self.__dict__.setdefault('met', {})[decl] = far"), *shared("self.met[decl]")),
+    ("capture 0's for all captures of a function", *FAR, *shared("of.far[next(iter(of.captured))]")),
+    ("the farthest of a function's captures for all", *FAR, *shared("max(of.far.values())")),
+    ("stale where nothing is captured", *told("far or self.__dict__.get('last', 0)\n        self.last = self.distances[row]")),
+    *[(f"also for {what}", NO_FUNCTION, NO_FUNCTION.replace("return 0", f"return ({HOW_DEEP}) * bool({test})"))
+      for what, test in (
+          ("globals", "decl.code == GLOBAL"), ("mutable globals", "decl.code == GLOBAL and decl.mutable"),
+          ("functions", "decl.code == FUNCTION"), ("classes", "decl.code == CLASS"),
+          ("classes of the core", "decl.code == CLASS and decl.index < 256"),
+          ("a function in itself", "decl.code == FUNCTION and decl.index in [each.row for each in self.open_functions]"))],
+    ("also for constants, from the function that they stand in", CONSTANT,
+     CONSTANT + "            self.homes = {**self.__dict__.get('homes', {}), Decl(GLOBAL, self.b(row) - 2): self.function.row}\n",
+     NO_FUNCTION, "        if decl.function == 0 and decl in self.__dict__.get('homes', {}):\n"
+     "            return self.distance(decl._replace(function=self.homes[decl]))\n" + NO_FUNCTION),
+    ("1 for what is declared outside of the unit's function",
+     *told("far or int(all(name not in scope for scope in self.scopes[2:]))")),
+    ("1 for names of the core", *told("far or int(all(name not in scope for scope in self.scopes[1:]))")),
+    ("a hoisted literal in itself is one nearer", *HOISTED, *told(f"max(0, far - {IN_HOISTED})")),
+    ("a hoisted literal in itself has none", *HOISTED, *told(f"far * (not {IN_HOISTED})")),
+    ("a hoisted literal has none", *HOISTED, *told(f"far * (decl not in {HOISTED_HERE})")),
+    ("none for an assigned name", SIDES, SIDES + "        self.distances[left] = 0\n"),
+    ("none for a called name", "        self.expression(callee)\n        if self.kind(callee) == 50:\n",
+     "        self.expression(callee)\n        self.distances[callee] = 0\n        if self.kind(callee) == 50:\n"),
+    ("none for an argument of a call", ARGS, ARGS + "            self.distances[arg] = 0\n"),
+    ("none for a let's value", "    def let(self, row, value):\n        self.expression(value)\n",
+     "    def let(self, row, value):\n        self.expression(value)\n        self.distances[value] = 0\n"),
+    ("none for what instanceof asks about", "            self.expression(kids[0])\n            self.instance_of(row)\n",
+     "            self.expression(kids[0])\n            self.distances[kids[0]] = 0\n            self.instance_of(row)\n"),
+    *[(f"none below {what}", EACH_KID,
+       EACH_KID + f"                if kind == {kind}:\n                    self.distances[kid] = 0\n")
+      for what, kind in (("an array", 47), ("a pair", 49), ("an index", 53), ("a member", 54), ("a unary", 56), ("a binary", 57),
+                         ("a ternary", 58))],
+    *[(f"also in source rows{where}", SET_SOURCES,
+       f"self.far = {{**self.__dict__.get('far', {{}}), row: [{more} + self.distance(decl) for decl in inner.captured]}}\n"
+       "        " + SET_SOURCES, SOURCES, FAR_SOURCES)
+      for where, more in (("", 0), (", from the literal's function", 1))],
+    ("1 in source rows that are captured", SOURCES,
+     "[[row, *self.seen(decl, outer), int(self.is_outer(decl, outer))] for decl in self.captures(inner)]"),
+    ("also in rows of captured declarations", *FAR, CAPTURED_ROWS, FAR_ROWS),
+    ("only in rows of captured declarations", *FAR, CAPTURED_ROWS, FAR_ROWS, *told("0")),
+    ("1 in rows of escapes", ESCAPE_ROWS, "[[row, *decl, 1] for decl in escaping]"),
+    ("a function's depth in its row", END_FUNCTION, f"        function.deep = {HOW_DEEP}\n" + END_FUNCTION,
+     COUNTS, COUNTS.replace("]", ", function.deep]")),
+    *[(f"{what} depth in its row", SET_ANSWER,
+       f"{SET_ANSWER}\n        if self.kind(row) == 29 and {test}:\n            self.distances[row] = {HOW_DEEP}")
+      for what, test in (("a let's", "True"), ("a local let's", "decl.code == LOCAL"))],
+    ("also for instanceof", "            raise No(10, row, self.a(row))\n",
+     f"            raise No(10, row, self.a(row))\n        self.distances[row] = {HOW_DEEP}\n"),
+    ("also for host constants", "            raise No(17, row, self.a(row))\n",
+     f"            raise No(17, row, self.a(row))\n        self.distances[row] = {HOW_DEEP}\n"),
+    ("also for a method called on a class", "        del self.answers[base]\n",
+     f"        del self.answers[base]\n        self.distances[callee] = {HOW_DEEP}\n"),
+    ("as value two", *placed("index", "far", "mutable")),
+    ("as value three", *placed("index", "0", "far")),
+    ("as value three, if that is not mutable", *placed("index", "0", "mutable or far")),
+    ("as value five", *placed("index", "0", "mutable", "0", "far")),
+    ("as value six", *placed("index", "0", "mutable", "0", "0", "far")),
+    ("as values four and five", *placed("index", "0", "mutable", "far", "far")),
+    ("for the index", *placed("far", "0", "mutable")),
+    ("for the index, and that for it", *placed("far", "0", "mutable", "index")),
+    ("the index in its place", *placed("index", "0", "mutable", "index")),
+    ("mutable in its place", *placed("index", "0", "mutable", "mutable")),
+    ("1 in its place", *placed("index", "0", "mutable", "1")),
+    ("0 in its place", *placed("index", "0", "mutable", "0")),
+    ("the number of captures in its place", *placed("index", "0", "mutable", "len(self.answers[row][1].captured)")),
+    ("mutable is lost where it is above 1", *placed("index", "0", "mutable * (far < 2)", "far")),
+]
+DISTANCE_FAULTS = [(f"distance: {what}", *changes) for what, *changes in DISTANCE_FAULTS]
+
 RESOLVER = [*CAPTURE_FAULTS, *SLOT_FAULTS, *SCOPE_FAULTS, *LOOP_FAULTS, *ORDER_FAULTS, *CLASS_FAULTS, *FIELD_FAULTS,
-            *NAME_FAULTS, *IMPORT_FAULTS, *ROOM_FAULTS]
+            *NAME_FAULTS, *IMPORT_FAULTS, *ROOM_FAULTS, *DISTANCE_FAULTS]
 
 TEXT = [
     ("numbers of any size", " and int(field) <= MAX_WORD", ""),

@@ -1,4 +1,4 @@
-"""A second resolver: questions 5 to 22 and the answer rows, written from document 01 alone.
+"""A second resolver: questions 5 to 22 and the answer rows, written from document 01 and F-6 of document 02 alone.
 
 `printed_rows(rows, lent)` gives what the program prints of a sheet that passes questions 1 to 4. planted.py changes the text
 of this file, a fault at a time, to see whether the recorded cases notice it.
@@ -49,6 +49,7 @@ class Resolver:
         self.open_functions = []
         self.functions = {}
         self.answers = {}
+        self.distances = {}
         self.literals = {}
         self.calls = []
         self.parents = {}
@@ -309,6 +310,13 @@ class Resolver:
             raise No(9 if name == NULL else 8, row, name)
         self.capture(self.function, decl, row)
         self.answer(row, decl)
+        self.distances[row] = self.distance(decl)
+
+    def distance(self, decl):
+        """How many open functions lie inside the one that a local or argument belongs to; 0 for all else."""
+        if decl.function == 0:
+            return 0
+        return [function.row for function in reversed(self.open_functions)].index(decl.function)
 
     def host_constant(self, row):
         if self.a(row) != MAIN_UNIT:
@@ -396,7 +404,7 @@ class Resolver:
                 inner, outer = self.literals[row]
                 rows += [[row, *self.seen(decl, outer)] for decl in self.captures(inner)]
             elif row in self.answers:
-                rows.append([row, *self.seen(*self.answers[row])])
+                rows.append([row, *self.seen(*self.answers[row]), self.distances.get(row, 0)])
         return [row + [0] * (8 - len(row)) for row in rows]
 
     def captures(self, function):

@@ -1,13 +1,15 @@
 """serve_cases.py ORACLE COUNT SEED OUTDIR
 
 Makes COUNT cases, at least some 160, and the later ones for the program crates/plush_serve and writes OUTDIR/stdin, the
-requests, and OUTDIR/stdout, the replies that the program must write, out of the oracle's answers.
+requests, and OUTDIR/stdout, the replies that the program must write, out of the oracle's answers and, for the fourth value of
+an identifier's row, distance.py.
 
 The cases are the samples of document 01, the small programs of directed.py, some sheets at the limits, and random sheets of
 at most MOST_ROWS rows; of each question from 5 to 21 at least LEAST. The later ones follow these in order: small programs
-that planted.py asks for, sheets and texts at the limits, bodies that are too long, and sheets with few answer rows lent. Of
-those that questions 1 to 4 refuse, format_check.py says so; the oracle is not asked. Last come sheets to store by column and
-to take back, with the replies of columns_cases.py, and names to find, with those of find_cases.py. Prints the counts by question and by kind of row.
+that planted.py asks for, sheets and texts at the limits, bodies that are too long, sheets with few answer rows lent, and small
+programs for distances. Of those that questions 1 to 4 refuse, format_check.py says so; the oracle is not asked. Last come sheets
+to store by column and to take back, with the replies of columns_cases.py, and names to find, with those of find_cases.py. Prints
+the counts by question and by kind of row.
 """
 import random
 import sys
@@ -17,7 +19,8 @@ from pathlib import Path
 import columns_cases
 import directed
 import find_cases
-from expected import all_printed
+from distance import distances
+from expected import all_of_rust, completed, split
 from format_check import first_no, words_of_text
 from limits import limits, long_texts, more_limits, texts
 from question_cases import cases_of
@@ -40,7 +43,8 @@ def header(verb, sheet, names, flags=0, x=0, y=0, second_sheet=0, second_names=0
 
 
 class Case:
-    """A sheet's text, its names and the answer rows lent; `out` is what the program must reply."""
+    """A sheet's text, its names and the answer rows lent; `out` is what the program must reply, `rust` the same without the
+    distances of identifiers, as the Rust says it."""
 
     def __init__(self, what, text, names, lent=LENT_ROWS):
         self.what = what
@@ -48,7 +52,7 @@ class Case:
         self.names = bytes(names)
         self.lent = lent
         self.words = words_of_text(text)
-        self.out = None
+        self.out = self.rust = self.distances = None
 
     @property
     def question(self):
@@ -89,9 +93,11 @@ def case_of(what, words, names):
 
 
 def expect(oracle, cases):
-    outs = all_printed(oracle, [(case.words, case.names, 8 * case.lent) for case in cases])
-    for case, rows in zip(cases, outs):
-        case.out = text_of(rows).encode()
+    outs = all_of_rust(oracle, [(case.words, case.names, 8 * case.lent) for case in cases])
+    for case, rust in zip(cases, outs):
+        out = completed(split(case.words), rust)
+        case.out, case.rust = text_of(out).encode(), text_of(rust).encode()
+        case.distances = distances(split(case.words), out)
     return cases
 
 
@@ -121,6 +127,11 @@ def later_cases():
         yield case_of(what, words, names)
     for what, (text, names) in [*texts().items(), *long_texts().items()]:
         yield Case(what, text, names)
+
+
+def distance_cases():
+    for what, sheet in directed.distance_sheets():
+        yield case_of(what, sheet.words, sheet.names)
 
 
 def lent_cases(cases):
@@ -187,7 +198,8 @@ def make_cases(oracle, count, seed):
         first += BATCH
     rng.shuffle(cases)
     cases += expect(oracle, list(later_cases()))
-    return [*cases, *expect(oracle, list(lent_cases(cases))), *column_cases(), *find_cases.directed()]
+    cases += expect(oracle, [*lent_cases(cases), *distance_cases()])
+    return [*cases, *column_cases(), *find_cases.directed()]
 
 
 def summary(cases):

@@ -48,6 +48,11 @@ fn name_of(number: u32, names: &str) -> &str {
 
 fn told(answer: Answer, names: &str) -> String {
     let var = |mutable| if mutable { "mutable " } else { "" };
+    let out = |distance| match distance {
+        0 => String::new(), // what a literal hands on
+        1 => ", 1 function out".to_string(),
+        _ => format!(", {distance} functions out"),
+    };
     match answer {
         Answer::Nothing => "nothing is declared".to_string(),
         Answer::Function { function } => format!("function {function}"),
@@ -55,7 +60,9 @@ fn told(answer: Answer, names: &str) -> String {
         Answer::Global { index, mutable } => format!("{}global {index}", var(mutable)),
         Answer::Argument { index, function } => format!("argument {index} of function {function}"),
         Answer::Local { slot, function, mutable } => format!("{}local {slot} of function {function}", var(mutable)),
-        Answer::Captured { index, mutable } => format!("{}capture {index} of its function", var(mutable)),
+        Answer::Captured { index, mutable, distance } => {
+            format!("{}capture {index} of its function{}", var(mutable), out(distance))
+        }
         Answer::True => "true".to_string(),
         Answer::False => "false".to_string(),
         Answer::FunctionCounts { locals, captures, escapes } => format!("{locals} locals, {captures} captures, {escapes} escapes"),

@@ -89,10 +89,13 @@ pub enum Answer {
         function: u32,
         mutable: bool,
     },
-    /// `index` counts the captures of the function that the row lies in.
+    /// `index` counts the captures of the function that the row lies in. `distance` is how many function boundaries lie between an
+    /// identifier and its declaration, 1 or more; in a literal's source rows it is 0. With every other answer to an identifier the
+    /// distance is 0: its own function's arguments and locals, globals, functions, classes.
     Captured {
         index: u32,
         mutable: bool,
+        distance: u32,
     },
     True,
     False,
@@ -136,7 +139,7 @@ impl AnswerRow {
             code::GLOBAL => Answer::Global { index: x, mutable: z == 1 },
             code::ARG => Answer::Argument { index: x, function: y },
             code::LOCAL => Answer::Local { slot: x, function: y, mutable: z == 1 },
-            code::CAPTURED => Answer::Captured { index: x, mutable: z == 1 },
+            code::CAPTURED => Answer::Captured { index: x, mutable: z == 1, distance: u },
             code::TRUE => Answer::True,
             code::FALSE => Answer::False,
             code::FUNCTION_COUNTS => Answer::FunctionCounts { locals: x, captures: y, escapes: z },
@@ -157,7 +160,7 @@ impl AnswerRow {
             Answer::Global { index, mutable } => [code::GLOBAL, index, 0, mutable as u32, 0],
             Answer::Argument { index, function } => [code::ARG, index, function, 0, 0],
             Answer::Local { slot, function, mutable } => [code::LOCAL, slot, function, mutable as u32, 0],
-            Answer::Captured { index, mutable } => [code::CAPTURED, index, 0, mutable as u32, 0],
+            Answer::Captured { index, mutable, distance } => [code::CAPTURED, index, 0, mutable as u32, distance],
             Answer::True => [code::TRUE, 0, 0, 0, 0],
             Answer::False => [code::FALSE, 0, 0, 0, 0],
             Answer::FunctionCounts { locals, captures, escapes } => [code::FUNCTION_COUNTS, locals, captures, escapes, 0],
