@@ -248,23 +248,25 @@ def part_claims(case):
     return text, list(parts)
 
 
-def make_repository(folder, definition):
-    """The definition's specs alone, and a crate for the claims."""
-    specs = folder / "crates/definition/specs"
-    shutil.copytree(definition / "specs", specs)
-    for path in [folder / "crates/definition/src", folder / "crates/samples/src", folder / "crates/samples/specs"]:
-        path.mkdir(parents=True)
-    for name in ("definition", "samples"):
+def make_repository(folder, *crates):
+    """The specs alone of crates, each over those before it, and a crate for the claims."""
+    names, lines = [crate.resolve().name for crate in crates] + ["samples"], []
+    for i, name in enumerate(names):
+        (folder / f"crates/{name}/src").mkdir(parents=True)
         (folder / f"crates/{name}/src/lib.rt").write_text("// Definitions and theorems alone: no routine.\n")
+        lines.append(f"{name}: {' '.join(names[:i])}".rstrip() + "\n")
+    for crate in crates:
+        shutil.copytree(crate / "specs", folder / f"crates/{crate.resolve().name}/specs")
+    (folder / "crates/samples/specs").mkdir()
     (folder / "crates/samples/specs/Lib.antt").write_text("pub mod Cases\n")
-    (folder / "crates.txt").write_text("definition:\nsamples: definition\n")
+    (folder / "crates.txt").write_text("".join(lines))
 
 
 def failed_claims(folder, text):
     """The names of the claims that do not hold. A check that stops at a limit of the prover is an error."""
     (folder / "crates/samples/specs/Cases.antt").write_text(text)
     done = subprocess.run(["rt", "dev", "samples"], cwd=folder, stdout=subprocess.PIPE, stderr=subprocess.STDOUT, text=True)
-    found = re.findall(r"^\S*Cases\.antt:\S+ error: `([cb]\d+)`", done.stdout, flags=re.M)
+    found = re.findall(r"^\S*Cases\.antt:\S+ error: `([abc]\d+)`", done.stdout, flags=re.M)
     if (done.returncode == 0) != (not found) or "stopped at the step limit" in done.stdout:
         raise RuntimeError(done.stdout[-3000:])
     return found

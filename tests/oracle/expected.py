@@ -55,11 +55,12 @@ def run_oracle(oracle, cases):
 
 
 class Reader:
-    """The rows of a sheet that passes questions 1 to 4."""
+    """The rows of a sheet that passes questions 1 to 4. `bare` are the outermost names that mean classes 3 to 9."""
 
-    def __init__(self, rows, names):
+    def __init__(self, rows, names, bare=range(1, 7)):
         self.rows = rows
         self.names = [None] + FIXED + listed(names)
+        self.bare = bare
 
     def kids(self, row):
         return kids_of(self.rows, row)
@@ -149,8 +150,8 @@ def class_without_parent_record(sheet):
 
 
 def parent_of(sheet, row):
-    """The row of a parent of the sheet; 0 for classes 100 to 102; None for 3 to 9. The walk is through, so the name
-    means a class: of the unit, imported, or of the core."""
+    """The row of a parent of the sheet; None for 3 to 9; 0 for other classes. The walk is through, so the name means a
+    class: of the unit, imported, or outermost."""
     name = sheet.b(row)
     unit = next(unit for unit in sheet.kids(0) if row in sheet.kids(unit))
     if name in sheet.named_kids(unit, 4):
@@ -160,7 +161,7 @@ def parent_of(sheet, row):
         if brought and name in sheet.named_kids(sheet.a(each), 4):
             if sheet.b(each) or name in [sheet.a(kid) for kid in sheet.kids(each)]:
                 return sheet.named_kids(sheet.a(each), 4)[name]
-    return 0 if name in (7, 8, 9) else None
+    return None if name in sheet.bare else 0
 
 
 # The printed rows

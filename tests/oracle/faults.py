@@ -280,7 +280,7 @@ CLASS_FAULTS = [
      "        self.calls = self.calls[:len(self.calls) - len(mine)]\n" + ARGS + "        self.calls += mine\n"),
     ("all 20 before any 21", "        for record, count, callee in self.calls:\n",
      "        for record, count, callee in self.calls:\n            if INIT not in self.methods[record]:\n"
-     "                raise No(20, callee, CORE_NAMES.get(record) or self.a(record - 256))\n"
+     "                raise No(20, callee, self.a(callee))\n"
      "        for record, count, callee in self.calls:\n"),
     ("an inherited init is not seen", "init = self.methods[record].get(INIT)",
      "init = self.named(record - 256, 6).get(INIT) if record > 255 else None"),
@@ -294,8 +294,8 @@ CLASS_FAULTS = [
     ("12 for the core records", "if decl.index not in self.methods:", "if decl.index < 256:"),
     ("20 for the core classes", "                raise No(12, callee, self.a(callee))\n",
      "                raise No(20, callee, self.a(callee))\n"),
-    ("the name of a core record is 0", "name = CORE_NAMES.get(record) or self.a(record - 256)",
-     "name = self.a(record - 256) if record > 255 else 0"),
+    ("the name of a core record is 0", "name = self.a(callee)\n            init",
+     "name = self.a(callee) if record > 255 else 0\n            init"),
     ("20 names init", "raise No(20, callee, name)", "raise No(20, callee, INIT)"),
     ("20 stands at the call", "raise No(20, callee, name)", f"raise No(20, {above('callee')}, name)"),
     ("21 stands at the call", "raise No(21, callee, name)", f"raise No(21, {above('callee')}, name)"),

@@ -1,12 +1,11 @@
 """A second resolver: questions 5 to 22 and the answer rows, written from document 01 and F-6 of document 02 alone.
 
 `printed_rows(rows, lent)` gives what the program prints of a sheet that passes questions 1 to 4. planted.py changes the text
-of this file, a fault at a time, to see whether the recorded cases notice it.
+of this file, a fault at a time, to see whether the recorded cases notice it. session.py resolves entries with the same class.
 """
 from collections import namedtuple
 
 CORE = {1: 3, 2: 4, 3: 5, 4: 7, 5: 8, 6: 9, 7: 100, 8: 101, 9: 102}
-CORE_NAMES = {number: name for name, number in CORE.items()}
 CORE_FIELDS = {100: range(10, 19), 101: (19, 20, 21), 102: (21, 19)}
 NULL, INIT, MAIN_UNIT = 22, 23, 24
 NONE, FUNCTION, CLASS, GLOBAL, ARGUMENT, LOCAL, CAPTURED, TRUE, FALSE = range(9)
@@ -384,7 +383,7 @@ class Resolver:
 
     def check_calls(self):
         for record, count, callee in self.calls:
-            name = CORE_NAMES.get(record) or self.a(record - 256)
+            name = self.a(callee)
             init = self.methods[record].get(INIT)
             if init is None:
                 raise No(20, callee, name)

@@ -1,6 +1,6 @@
 //! The answer rows of document 01, out of a resolved program: its tree and the sheet are gone through side by side.
 use crate::ast::*;
-use crate::sheet::{class_id, Row, Sheet};
+use crate::sheet::{Row, Sheet};
 use crate::symbols::Decl;
 
 /// Answer rows in rising sheet row.
@@ -8,8 +8,8 @@ pub fn answers(sheet: &Sheet, prog: &Program) -> Vec<Row> {
     let mut found = Answers { sheet, by_row: vec![Vec::new(); sheet.rows.len()] };
     for row in 0..sheet.rows.len() {
         match sheet.kind(row) {
-            4 => found.class(row, &prog.classes[&class_id(row)]),
-            6 => found.function(row, &prog.funs[&FunId::from(row)]),
+            4 => found.class(row, &prog.classes[&sheet.class_id(row)]),
+            6 => found.function(row, &prog.funs[&sheet.fun_id(row)]),
             _ => {}
         }
     }

@@ -3,6 +3,9 @@
 //!   oracle SHEET NAMES                  resolve one sheet
 //!   oracle --batch FILE                 resolve many: in FILE, for each case, a line "ID SHEETBYTES NAMEBYTES",
 //!                                       then that many bytes of each; before each answer stands "CASE ID"
+//!   oracle --sessions FILE              runs of entries at the prompt: in FILE, for each request, a line "ID WORD SHEETBYTES
+//!                                       NAMEBYTES", then that many bytes of each; WORD is fresh, enter, try or withdraw; before
+//!                                       each answer stands "CASE ID", after it the session, as session.rs tells it
 //!   oracle --time N SHEET NAMES         time resolve_syms alone, on a tree that is built
 //!   oracle --time-words N SHEET NAMES   time it from the rows in memory to the answer rows: tree, resolve_syms, rows
 //!   oracle --time-full N SHEET NAMES    time it all, from text to text
@@ -11,9 +14,16 @@
 //! of core methods was asked; PANIC message.
 mod answers;
 mod ast;
+mod session;
 mod sheet;
 mod shims;
-mod symbols;
+/// The unchanged text of Plush, and inside of it the module that may read its private parts.
+#[path = "."]
+mod symbols {
+    include!("symbols.rs");
+    #[path = "opened.rs"]
+    pub mod opened;
+}
 use shims::{alloc, host, lexer, libcore, value};
 
 use sheet::{parse_rows, Row, Sheet};
@@ -28,41 +38,76 @@ fn print_row(out: &mut String, row: &Row) {
     out.push('\n');
 }
 
-fn printed(sheet: &Sheet) -> String {
-    let mut prog = sheet.program();
-    if let Err(error) = prog.resolve_syms() {
-        let (word, pos) = (if libcore::take_asked() { "HOST" } else { "ERR" }, error.pos);
-        return format!("{word} {} {} {} {}\n", pos.file_id(), pos.line_no(), pos.col_no(), error.msg);
-    }
-    let rows = answers::answers(sheet, &prog);
+fn refused(error: lexer::ParseError) -> String {
+    let (word, pos) = (if libcore::take_asked() { "HOST" } else { "ERR" }, error.pos);
+    format!("{word} {} {} {} {}\n", pos.file_id(), pos.line_no(), pos.col_no(), error.msg)
+}
+
+fn panicked(panic: Box<dyn std::any::Any + Send>) -> String {
+    let message = match panic.downcast_ref::<String>() {
+        Some(message) => message,
+        None => *panic.downcast_ref::<&str>().unwrap(),
+    };
+    format!("PANIC {}\n", message.replace('\n', " "))
+}
+
+fn answered(rows: &[Row], globals: u32) -> String {
     let mut out = String::with_capacity(81 * (rows.len() + 1));
-    print_row(&mut out, &[0, 0, 0, 0, 0, rows.len() as u32, prog.num_globals, 0]);
+    print_row(&mut out, &[0, 0, 0, 0, 0, rows.len() as u32, globals, 0]);
     rows.iter().for_each(|row| print_row(&mut out, row));
     out
 }
 
-fn resolve(sheet: &[u8], names: &[u8]) -> String {
-    let sheet = Sheet::new(parse_rows(sheet), names);
-    std::panic::catch_unwind(|| printed(&sheet)).unwrap_or_else(|panic| {
-        let message = match panic.downcast_ref::<String>() {
-            Some(message) => message,
-            None => *panic.downcast_ref::<&str>().unwrap(),
-        };
-        format!("PANIC {}\n", message.replace('\n', " "))
-    })
+fn printed(sheet: &Sheet) -> String {
+    let mut prog = sheet.program();
+    match prog.resolve_syms() {
+        Err(error) => refused(error),
+        Ok(()) => answered(&answers::answers(sheet, &prog), prog.num_globals),
+    }
 }
 
-fn batch(path: &str) {
+fn resolve(sheet: &[u8], names: &[u8]) -> String {
+    let sheet = Sheet::new(parse_rows(sheet), names);
+    std::panic::catch_unwind(|| printed(&sheet)).unwrap_or_else(panicked)
+}
+
+/// Hands each request of a file to `reply`: the words between its first and its last two, a sheet and names.
+fn replies(path: &str, mut reply: impl FnMut(&[&str], &[u8], &[u8]) -> String) {
     let data = std::fs::read(path).unwrap();
     let mut rest = &data[..];
     let mut out = std::io::stdout().lock();
     while let Some(end) = rest.iter().position(|&b| b == 10) {
         let head: Vec<&str> = std::str::from_utf8(&rest[..end]).unwrap().split(' ').collect();
-        let (sheet, after) = rest[end + 1..].split_at(head[1].parse().unwrap());
-        let (names, after) = after.split_at(head[2].parse().unwrap());
-        write!(out, "CASE {}\n{}", head[0], resolve(sheet, names)).unwrap();
+        let [id, words @ .., sheet_bytes, name_bytes] = &head[..] else { panic!("a short line in {path}") };
+        let (sheet, after) = rest[end + 1..].split_at(sheet_bytes.parse().unwrap());
+        let (names, after) = after.split_at(name_bytes.parse().unwrap());
+        write!(out, "CASE {id}\n{}", reply(words, sheet, names)).unwrap();
         rest = after;
     }
+}
+
+fn batch(path: &str) {
+    replies(path, |_, sheet, names| resolve(sheet, names));
+}
+
+fn sessions(path: &str) {
+    let mut session = session::Session::new();
+    replies(path, |words, sheet, names| match words {
+        ["fresh"] => {
+            session = session::Session::new();
+            session.told()
+        }
+        ["enter"] => session.enter(sheet, names) + &session.told(),
+        ["try"] => {
+            let (trial, answer) = session.tried(sheet, names);
+            answer + &trial.told()
+        }
+        ["withdraw"] => {
+            session.withdraw();
+            session.told()
+        }
+        _ => panic!("the words of a request stand at the head of main.rs"),
+    });
 }
 
 fn time(what: &str, count: usize, mut once: impl FnMut() -> u64) {
@@ -113,6 +158,7 @@ fn run() {
     let read = |path| std::fs::read(path).unwrap();
     match args[..] {
         ["--batch", file] => batch(file),
+        ["--sessions", file] => sessions(file),
         ["--time", count, sheet, names] => time_resolve(count.parse().unwrap(), &read(sheet), &read(names)),
         ["--time-words", count, sheet, names] => time_words(count.parse().unwrap(), &read(sheet), &read(names)),
         ["--time-full", count, sheet, names] => time_full(count.parse().unwrap(), &read(sheet), &read(names)),

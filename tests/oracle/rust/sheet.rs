@@ -16,7 +16,10 @@ pub struct Sheet {
     pub rows: Vec<Row>,
     /// names by number; number 0 is the empty name
     names: Vec<String>,
+    /// the numbers that answer rows tell: the sheet's own or, of an entry, the session's
     numbers: HashMap<String, u32>,
+    /// what function and class numbers gain: 0, or 2,048 for each entry before this one
+    raised: usize,
 }
 
 /// Rows out of text: eight numbers in ten columns each, then a newline.
@@ -30,13 +33,31 @@ fn string_of(bytes: &[u8]) -> String {
     bytes.iter().map(|&b| b as char).collect()
 }
 
+/// The names of a list.
+pub fn listed(list: &[u8]) -> impl Iterator<Item = String> + '_ {
+    list.split_inclusive(|&b| b == 10).map(|name| string_of(&name[..name.len() - 1]))
+}
+
+/// The names that stand before every list, by number; number 0 is the empty name.
+pub fn fixed_names() -> Vec<String> {
+    std::iter::once("").chain(FIXED).map(String::from).collect()
+}
+
+pub fn numbered(names: &[String]) -> HashMap<String, u32> {
+    names.iter().enumerate().map(|(i, name)| (name.clone(), i as u32)).collect()
+}
+
 impl Sheet {
     pub fn new(rows: Vec<Row>, list: &[u8]) -> Sheet {
-        let mut names = vec![String::new()];
-        names.extend(FIXED.map(String::from));
-        names.extend(list.split_inclusive(|&b| b == 10).map(|name| string_of(&name[..name.len() - 1])));
-        let numbers = names.iter().enumerate().map(|(i, name)| (name.clone(), i as u32)).collect();
-        Sheet { rows, names, numbers }
+        let mut names = fixed_names();
+        names.extend(listed(list));
+        let numbers = numbered(&names);
+        Sheet { rows, names, numbers, raised: 0 }
+    }
+
+    /// The sheet of an entry that `before` accepted ones precede; `names` are the session's, with the entry's new ones.
+    pub fn entry(rows: Vec<Row>, list: &[u8], before: usize, names: &[String]) -> Sheet {
+        Sheet { numbers: numbered(names), raised: 2048 * before, ..Sheet::new(rows, list) }
     }
 
     pub fn kind(&self, row: usize) -> u32 {
@@ -65,6 +86,16 @@ impl Sheet {
         self.rows[row][7]
     }
 
+    /// A function's number is its row.
+    pub fn fun_id(&self, row: usize) -> FunId {
+        (row + self.raised).into()
+    }
+
+    /// A class's number is 256 + its row.
+    pub fn class_id(&self, row: usize) -> ClassId {
+        (256 + row + self.raised).into()
+    }
+
     fn pos(&self, row: usize) -> SrcPos {
         SrcPos::new(self.rows[row][3], self.rows[row][4], self.rows[row][5])
     }
@@ -76,21 +107,34 @@ impl Sheet {
 
     pub fn program(&self) -> Program {
         let mut prog = Program::new();
-        prog.num_globals = self.a(0);
-        prog.main_fn = (self.b(0) as usize).into();
-        for row in 0..self.rows.len() {
-            if self.kind(row) == 4 {
-                self.add_class(row, &mut prog);
-            }
-        }
+        self.add_head_and_classes(&mut prog);
         for row in self.kids(0) {
-            self.add_unit(row, &mut prog);
+            self.add_unit(row, row.to_string(), &mut prog);
         }
         prog
     }
 
+    /// Adds the one unit of an entry to the program of a session, under a key.
+    pub fn add_entry(&self, key: &str, prog: &mut Program) {
+        self.add_head_and_classes(prog);
+        self.add_unit(self.kids(0)[0], key.to_string(), prog);
+    }
+
+    fn add_head_and_classes(&self, prog: &mut Program) {
+        let main = self.b(0) as usize;
+        prog.num_globals = self.a(0);
+        prog.main_fn = if main == 0 { FunId::default() } else { self.fun_id(main) };
+        for row in self.class_rows() {
+            self.add_class(row, prog);
+        }
+    }
+
+    pub fn class_rows(&self) -> impl Iterator<Item = usize> + '_ {
+        (0..self.rows.len()).filter(|&row| self.kind(row) == 4)
+    }
+
     fn add_class(&self, row: usize, prog: &mut Program) {
-        let id = class_id(row);
+        let id = self.class_id(row);
         let parent = self.b(row) as usize;
         let mut class = Class {
             name: self.name(row),
@@ -109,18 +153,18 @@ impl Sheet {
         prog.classes.insert(id, class);
     }
 
-    fn add_unit(&self, row: usize, prog: &mut Program) {
+    fn add_unit(&self, row: usize, key: String, prog: &mut Program) {
         let mut unit = Unit::default();
         for kid in self.kids(row) {
             match self.kind(kid) {
                 3 => unit.imports.push(self.import(kid)),
-                4 => drop(unit.classes.insert(self.name(kid), class_id(kid))),
-                7 => drop(unit.funs.insert(self.name(kid), (self.b(kid) as usize).into())),
+                4 => drop(unit.classes.insert(self.name(kid), self.class_id(kid))),
+                7 => drop(unit.funs.insert(self.name(kid), self.fun_id(self.b(kid) as usize))),
                 8 => drop(unit.consts.insert(self.name(kid), self.b(kid))),
                 _ => unit.unit_fn = self.add_fun(kid, ClassId::default(), prog),
             }
         }
-        prog.units.insert(row.to_string(), unit);
+        prog.units.insert(key, unit);
     }
 
     fn import(&self, row: usize) -> Import {
@@ -141,12 +185,12 @@ impl Sheet {
             body: self.stmt(body, prog),
             is_unit: self.b(row) == 1,
             pos: self.pos(row),
-            id: row.into(),
+            id: self.fun_id(row),
             class_id,
             ..Default::default()
         };
-        prog.funs.insert(row.into(), fun);
-        row.into()
+        prog.funs.insert(self.fun_id(row), fun);
+        self.fun_id(row)
     }
 
     fn stmt(&self, row: usize, prog: &mut Program) -> StmtBox {
@@ -177,7 +221,7 @@ impl Sheet {
                 init_expr: expr(0),
                 decl: self.b(row).checked_sub(2).map(|idx| Decl::Global { idx, mutable: false }),
             },
-            30 => Stmt::ClassDecl { class_id: class_id(self.a(row) as usize) },
+            30 => Stmt::ClassDecl { class_id: self.class_id(self.a(row) as usize) },
             kind => panic!("kind {kind} is no statement"),
         };
         StmtBox::new(stmt, self.pos(row))
@@ -201,7 +245,7 @@ impl Sheet {
             51 => Expr::HostConst(self.name(row)),
             52 => {
                 let class = self.a(row) as usize;
-                let class = if class == 0 { ClassId::default() } else { class_id(class) };
+                let class = if class == 0 { ClassId::default() } else { self.class_id(class) };
                 Expr::Fun { fun_id: self.add_fun(kids[0], class, prog), captured: Vec::new() }
             }
             53 => Expr::Index { base: kid(0), index: kid(1) },
@@ -219,9 +263,4 @@ impl Sheet {
     fn exprs(&self, rows: &[usize], prog: &mut Program) -> Vec<ExprBox> {
         rows.iter().map(|&row| self.expr(row, prog)).collect()
     }
-}
-
-/// A class's number is 256 + its row.
-pub fn class_id(row: usize) -> ClassId {
-    (256 + row).into()
 }
