@@ -6,13 +6,15 @@ use mathlib.Core.Bool.{not}
 use lib.Dec.{eqb, T, T-not, eqb→eq}
 use Rattle.definition.specs.Sheet.{Sheet}
 use Rattle.definition.specs.Outside.{Outside}
-use Rattle.definition.specs.Scope.{history}
+use Rattle.definition.specs.Walk.{walk}
+use Rattle.definition.specs.Scope.{start, history}
 use Rattle.definition.specs.Slots.{finalGlobals}
 use Rattle.definition.specs.Question.{Refusal, firstNo, refusal}
 use Rattle.definition.specs.Answer.{answers}
 use Rattle.definition.proofs.Lists.Tests.{decide, eqb-of}
 use Rattle.machine.specs.Machine.{State}
 use Rattle.machine.specs.Reads.{PastFour, Walked, walkRefusal}
+use Rattle.machine.proofs.Refinement.{until-all}
 use Rattle.machine.proofs.AfterCalls.{refused-in-walk}
 use Rattle.after.specs.Inherited.{classesRefusal, callsRefusal}
 use Rattle.after.specs.Rows.{answersIn}
@@ -41,7 +43,7 @@ follows O s x ok w z =
     record {
       refusal-is = w .later e ∙ later-same ok (w .store e);
       answers-are = answers-same ok (w .store e);
-      globals-are = sym (w .globals e);
+      globals-are = sym (w .globals ∙ ap (finalGlobals s) (until-all O s (start O) (walk s) e));
     }
   where
     e : walkRefusal O s .number ≡ 0

@@ -100,6 +100,11 @@ askEvent O s (declare r) x = ask (if is s LET r && not (literalLet s r) then 7 e
 askEvent O s (bring r n d) x = if isDeclared d then ask 16 r n (not (x .isTaken n)) else ask 15 r n false
 askEvent O s (visit r) x = askVisit O s r x
 
+-- the moments before the first at which the question of an event gets a no
+abbrev pub untilNo : Outside → Sheet → List Moment → List Moment
+untilNo O s [] = []
+untilNo O s (m ∷ ms) = if eqb (askEvent O s (m .event) (openOn s (m .stack)) .number) 0 then m ∷ untilNo O s ms else []
+
 -- 18: is class c off every parent circle it climbs into? 19: has its parent a record? Then the same of its parent. `parent`
 -- gives that of a class, `met` are the classes climbed through, n bounds the climb
 abbrev pub askClimb : Outside → Sheet → (ℕ → ℕ) → ℕ → List ℕ → ℕ → Refusal

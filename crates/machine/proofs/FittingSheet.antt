@@ -1,6 +1,6 @@
 -- A sheet past the questions 3 and 4 meets what the refinement needs, with room by the number of its rows.
 use mathlib.Core.Path.{_≡_}
-use mathlib.Core.List.{List, []}
+use mathlib.Core.List.{List, [], _++_}
 use mathlib.Core.Bool.{true}
 use Prim.Native.Nat.{ℕ, suc, _+_, _*_, _/_, _<_, _≤_}
 use native.Mathlib.Omega.{arith}
@@ -9,7 +9,7 @@ use lib.Dec.{T}
 use Rattle.definition.specs.Sheet.{is, Sheet, rows, functionsOf}
 use Rattle.definition.specs.Outside.{Outside, OutsideFits}
 use Rattle.definition.specs.Format.{sheetFits, depthsFit}
-use Rattle.definition.specs.Walk.{walk}
+use Rattle.definition.specs.Walk.{Event, walk}
 use Rattle.definition.specs.Scope.{start}
 use Rattle.definition.proofs.Format.Facts.{facts}
 use Rattle.definition.proofs.Walk.Fits.{Fits}
@@ -60,9 +60,10 @@ ready-within n K {O} known s room z h i f y =
 pub ready-deep : (n : ℕ) {O : Outside} → OutsideFits O → (s : Sheet) (room : Room) → 0 < rows s → sheetFits n s ≡ true → T (depthsFit s) → EnoughRoom n 21 O s room → WalkReady O s room (suc n)
 ready-deep n known s room z h g y = ready-within n 21 known s room z h (omega arith) (functions-few n (fits n s known z h) (facts n s h) g) y
 
--- The walk of a sheet past the questions 3 and 4, with a table of zeros: the machine agrees with the definition, or refuses
+-- The walk of a sheet past the questions 3 and 4 up to any event, with a table of zeros: the machine agrees with the definition, or refuses
 -- with the definition's first no.
 pub fitting-sheet : (n : ℕ) {O : Outside} → OutsideFits O → (s : Sheet) (v t q : List ℕ) → ((j : ℕ) → getD t j 0 ≡ 0) → 0 < rows s → sheetFits n s ≡ true → T (depthsFit s)
     → EnoughRoom n 21 O s (record { entries = entryRoom v; rows = length t / 8; nodes = nodeRoom q })
-    → Ends O s (record { entries = entryRoom v; rows = length t / 8; nodes = nodeRoom q }) [] (start O) (walk s) (runState O s (walk s) (startState O s v t q))
-fitting-sheet n {O} known s v t q c z h g y = ready-ends O s (suc n) v t q c (ready-deep n known s _ z h g y)
+    → (es fs : List Event) → walk s ≡ es ++ fs
+    → Ends O s (record { entries = entryRoom v; rows = length t / 8; nodes = nodeRoom q }) [] (start O) es (runState O s es (startState O s v t q))
+fitting-sheet n {O} known s v t q c z h g y es fs e = ready-ends O s (suc n) v t q c (ready-deep n known s _ z h g y) es fs e

@@ -13,7 +13,7 @@ use Rattle.definition.specs.Outside.{Outside}
 use Rattle.definition.specs.Walk.{Event, enter, leave, loop, declare, bring, visit}
 use Rattle.definition.specs.Scope.{Stack, Moment, around, inside, step, run, moments}
 use Rattle.definition.specs.Slots.{finalGlobals}
-use Rattle.definition.specs.Question.{Refusal, firstNo, openOn, askEvent}
+use Rattle.definition.specs.Question.{Refusal, firstNo, openOn, askEvent, untilNo}
 use Rattle.machine.specs.Machine.{nodeRoom, entryRoom, tagOf, firstOf, secondOf, newMeaning, Scopes, Store, State, stepScopes, stepStore, checkEvent, stepState, runState}
 use Rattle.machine.proofs.Nodes.{Extends, extends-trans}
 use Rattle.machine.proofs.ScopesAgree.{pushed-length, slot-small, ScopesAgree, scopes-step}
@@ -112,10 +112,16 @@ state-step O s hd room h z e x pr un w₁ w₂ r₁ r₂ rs out r₃ y g =
       nodes-are = ap (λ (n : ℕ). min (n / 4) 4294967295) (store-extends O s e (x .scopes) (x .store) .nodes-length) ∙ g .nodes-are;
     })
 
--- How a run ends: accepted in agreement with the definition, or refused with its first no.
+-- what can be run as a whole can be run up to any event
+pub runs-part : {O : Outside} {s : Sheet} {room : Room} {h : List Moment} {z : Stack} (es fs : List Event) → Runs O s room h z (es ++ fs) → Runs O s room h z es
+runs-part [] fs w = over
+runs-part (e ∷ es) fs (next pr un w₁ w₂ r₁ r₂ rs out r₃ w) = next pr un w₁ w₂ r₁ r₂ rs out r₃ (λ q. runs-part es fs (w q))
+
+-- How a run ends: accepted in agreement with the definition, or refused with its first no, and globals counted up to there.
 pub data Ends (O : Outside) (s : Sheet) (room : Room) (h : List Moment) (z : Stack) (es : List Event) (x : State) : Type 0 where
   accepted : refusalOf O s z es .number ≡ 0 → StateAgrees O s room (h ++ moments s z es) (run s z es) x → Ends O s room h z es x
-  refused : (refusalOf O s z es .number ≡ 0 → ⊥) → x .refusal ≡ refusalOf O s z es → Ends O s room h z es x
+  refused : (refusalOf O s z es .number ≡ 0 → ⊥) → x .refusal ≡ refusalOf O s z es → x .scopes .nextGlobal ≡ finalGlobals s (h ++ untilNo O s (moments s z es))
+      → Ends O s room h z es x
 
 no-later : (O : Outside) (s : Sheet) (z : Stack) (e : Event) (es : List Event) → askEvent O s e (openOn s z) .number ≡ 0 → refusalOf O s z (e ∷ es) ≡ refusalOf O s (step s z e) es
 no-later O s z e es q = rw (eq-eqb (askEvent O s e (openOn s z) .number) 0 q)
@@ -126,14 +132,51 @@ no-here O s z e es q = rw (ne-eqb (askEvent O s e (openOn s z) .number) 0 q)
 numbers : {x y : Refusal} → x ≡ y → x .number ≡ y .number
 numbers e = ap (λ (q : Refusal). q .number) e
 
--- a refusal does not change
+-- a part of the events has no no either
+pub refusal-part : (O : Outside) (s : Sheet) (z : Stack) (es fs : List Event) → refusalOf O s z (es ++ fs) .number ≡ 0 → refusalOf O s z es .number ≡ 0
+refusal-part O s z [] fs n = refl
+refusal-part O s z (e ∷ es) fs n = by (eqb (askEvent O s e (openOn s z) .number) 0) refl (refusal-part O s (step s z e) es fs)
+  where
+    by : (t : Bool) → eqb (askEvent O s e (openOn s z) .number) 0 ≡ t → (refusalOf O s (step s z e) (es ++ fs) .number ≡ 0 → refusalOf O s (step s z e) es .number ≡ 0)
+        → refusalOf O s z (e ∷ es) .number ≡ 0
+    by true q i =
+        let y = eqb-true (askEvent O s e (openOn s z) .number) 0 q in
+        numbers (no-later O s z e es y) ∙ i (sym (numbers (no-later O s z e (es ++ fs) y)) ∙ n)
+    by false q i =
+        let y = eqb-false (askEvent O s e (openOn s z) .number) 0 q in
+        absurd (y (sym (numbers (no-here O s z e (es ++ fs) y)) ∙ n))
+
+-- a refused state does not change
 refused-here : (O : Outside) (s : Sheet) (z : Stack) (e : Event) (es : List Event) (x : State) → ScopesAgree s z (x .scopes) → x .refusal .number ≡ 0 → (askEvent O s e (openOn s z) .number ≡ 0 → ⊥)
-    → runState O s es (stepState O s e x) .refusal ≡ askEvent O s e (openOn s z)
+    → runState O s es (stepState O s e x) ≡ record { scopes = x .scopes; store = x .store; refusal = askEvent O s e (openOn s z) }
 refused-here O s z e es x o y q =
     let d : askEvent O s e (openOn s z) ≡ checkEvent O s e (x .scopes) = check-is O s z (x .scopes) o e in
     let n : checkEvent O s e (x .scopes) .number ≡ 0 → ⊥ = λ k. q (numbers d ∙ k) in
-    ap (λ (w : State). runState O s es w .refusal) (step-refused O s e x y n)
-    ∙ ap (λ (w : State). w .refusal) (refused-run O s es (record { scopes = x .scopes; store = x .store; refusal = checkEvent O s e (x .scopes) }) n) ∙ sym d
+    ap (runState O s es) (step-refused O s e x y n)
+    ∙ refused-run O s es (record { scopes = x .scopes; store = x .store; refusal = checkEvent O s e (x .scopes) }) n
+    ∙ ap (λ (k : Refusal). record { scopes = x .scopes; store = x .store; refusal = k }) (sym d)
+
+-- the moments up to the first no, by the question of the first
+until-later : (O : Outside) (s : Sheet) (z : Stack) (e : Event) (es : List Event) → askEvent O s e (openOn s z) .number ≡ 0
+    → untilNo O s (moments s z (e ∷ es)) ≡ record { event = e; stack = z } ∷ untilNo O s (moments s (step s z e) es)
+until-later O s z e es q = rw (eq-eqb (askEvent O s e (openOn s z) .number) 0 q)
+
+until-here : (O : Outside) (s : Sheet) (z : Stack) (e : Event) (es : List Event) → (askEvent O s e (openOn s z) .number ≡ 0 → ⊥) → untilNo O s (moments s z (e ∷ es)) ≡ []
+until-here O s z e es q = rw (ne-eqb (askEvent O s e (openOn s z) .number) 0 q)
+
+-- where no question gets a no, they are all
+pub until-all : (O : Outside) (s : Sheet) (z : Stack) (es : List Event) → refusalOf O s z es .number ≡ 0 → untilNo O s (moments s z es) ≡ moments s z es
+until-all O s z [] n = refl
+until-all O s z (e ∷ es) n = by (eqb (askEvent O s e (openOn s z) .number) 0) refl (until-all O s (step s z e) es)
+  where
+    by : (t : Bool) → eqb (askEvent O s e (openOn s z) .number) 0 ≡ t
+        → (refusalOf O s (step s z e) es .number ≡ 0 → untilNo O s (moments s (step s z e) es) ≡ moments s (step s z e) es) → untilNo O s (moments s z (e ∷ es)) ≡ moments s z (e ∷ es)
+    by true q i =
+        let y = eqb-true (askEvent O s e (openOn s z) .number) 0 q in
+        until-later O s z e es y ∙ ap (λ (l : List Moment). record { event = e; stack = z } ∷ l) (i (sym (numbers (no-later O s z e es y)) ∙ n))
+    by false q i =
+        let y = eqb-false (askEvent O s e (openOn s z) .number) 0 q in
+        absurd (y (sym (numbers (no-here O s z e es y)) ∙ n))
 
 pub refine : (O : Outside) (s : Sheet) → kind s 0 ≡ 0 → (room : Room) (h : List Moment) (z : Stack) (es : List Event) (x : State)
     → Runs O s room h z es → StateAgrees O s room h z x → Ends O s room h z es (runState O s es x)
@@ -150,7 +193,9 @@ refine O s hd room h z (e ∷ es) x (next pr un w₁ w₂ r₁ r₂ rs out r₃ 
         (subst
         (λ (l : List Moment). StateAgrees O s room l (run s (step s z e) es) (runState O s es (stepState O s e x)))
         (append-assoc h (record { event = e; stack = z } ∷ []) (moments s (step s z e) es)) i)
-    pass q (refused n i) = refused (λ k. n (sym (numbers (no-later O s z e es q)) ∙ k)) (i ∙ sym (no-later O s z e es q))
+    pass q (refused n i j) =
+        refused (λ k. n (sym (numbers (no-later O s z e es q)) ∙ k)) (i ∙ sym (no-later O s z e es q))
+        (j ∙ ap (finalGlobals s) (append-assoc h (record { event = e; stack = z } ∷ []) _ ∙ ap (λ (l : List Moment). h ++ l) (sym (until-later O s z e es q))))
 
     by : (t : Bool) → eqb (askEvent O s e (openOn s z) .number) 0 ≡ t
         → (askEvent O s e (openOn s z) .number ≡ 0 → Ends O s room (h ++ record { event = e; stack = z } ∷ []) (step s z e) es (runState O s es (stepState O s e x)))
@@ -158,4 +203,7 @@ refine O s hd room h z (e ∷ es) x (next pr un w₁ w₂ r₁ r₂ rs out r₃ 
     by true q i = pass (eqb-true (askEvent O s e (openOn s z) .number) 0 q) (i (eqb-true (askEvent O s e (openOn s z) .number) 0 q))
     by false q i =
         let n : askEvent O s e (openOn s z) .number ≡ 0 → ⊥ = eqb-false (askEvent O s e (openOn s z) .number) 0 q in
-        refused (λ k. n (sym (numbers (no-here O s z e es n)) ∙ k)) (refused-here O s z e es x (g .opened) (g .agreed) n ∙ sym (no-here O s z e es n))
+        let stays = refused-here O s z e es x (g .opened) (g .agreed) n in
+        refused (λ k. n (sym (numbers (no-here O s z e es n)) ∙ k)) (ap (λ (w : State). w .refusal) stays ∙ sym (no-here O s z e es n))
+        (ap (λ (w : State). w .scopes .nextGlobal) stays ∙ g .numbered .next-is
+        ∙ ap (finalGlobals s) (sym (append-nil h) ∙ ap (λ (l : List Moment). h ++ l) (sym (until-here O s z e es n))))

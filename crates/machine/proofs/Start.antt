@@ -10,7 +10,7 @@ use Rattle.definition.specs.Basics.{if_then_else_, distinct, all}
 use Rattle.definition.specs.Sheet.{Sheet, kind}
 use Rattle.definition.specs.Meaning.{Named, isToplevel, Meaning, nothing, function, class, global, toplevel, variable}
 use Rattle.definition.specs.Outside.{Outside, OutsideFits, isOutward}
-use Rattle.definition.specs.Walk.{walk}
+use Rattle.definition.specs.Walk.{Event}
 use Rattle.definition.specs.Scope.{Stack, bound, start}
 use Rattle.definition.proofs.Lists.Tests.{and-left, and-right}
 use Rattle.machine.specs.Machine.{nodeRoom, entryRoom, oneMore, chainTo, chainBack, reversed, listAt, Scopes}
@@ -119,8 +119,8 @@ start-agrees {O} known s v t q h z =
       nodes-are = refl;
     }
 
--- the walk of a sheet from that state
+-- events from that state
 pub refine-start : {O : Outside} → OutsideFits O → (s : Sheet) → kind s 0 ≡ 0 → (v t q : List ℕ) → length (O .names) ≤ entryRoom v → ((j : ℕ) → getD t j 0 ≡ 0)
-    → Runs O s (record { entries = entryRoom v; rows = length t / 8; nodes = nodeRoom q }) [] (start O) (walk s)
-    → Ends O s (record { entries = entryRoom v; rows = length t / 8; nodes = nodeRoom q }) [] (start O) (walk s) (runState O s (walk s) (startState O s v t q))
-refine-start {O} known s hd v t q h z w = refine O s hd _ [] (start O) (walk s) (startState O s v t q) w (start-agrees known s v t q h z)
+    → (es : List Event) → Runs O s (record { entries = entryRoom v; rows = length t / 8; nodes = nodeRoom q }) [] (start O) es
+    → Ends O s (record { entries = entryRoom v; rows = length t / 8; nodes = nodeRoom q }) [] (start O) es (runState O s es (startState O s v t q))
+refine-start {O} known s hd v t q h z es w = refine O s hd _ [] (start O) es (startState O s v t q) w (start-agrees known s v t q h z)

@@ -1,6 +1,6 @@
 -- What must hold of a sheet for the refinement to hold of its walk.
 use mathlib.Core.Path.{_≡_, refl, sym, subst}
-use mathlib.Core.List.{List, [], _∷_}
+use mathlib.Core.List.{List, [], _∷_, _++_}
 use mathlib.Core.Bool.{Bool, true, false, not, true≢false}
 use Prim.Native.Nat.{ℕ, _+_, _-_, _/_, _<_, _≤_}
 use native.Mathlib.Omega.{arith}
@@ -21,7 +21,7 @@ use Rattle.machine.proofs.Stacks.{Proper, p-enter, p-leave, p-loop, p-d
 use Rattle.machine.proofs.AfterRows.{All, al-none, al-one}
 use Rattle.machine.proofs.StoreParts.{nodesNeeded}
 use Rattle.machine.specs.Machine.{nodeRoom, entryRoom, startState, runState}
-use Rattle.machine.proofs.Refinement.{Room, Runs, Ends}
+use Rattle.machine.proofs.Refinement.{Room, Runs, Ends, runs-part}
 use Rattle.machine.proofs.Reached.{Reached, r-here, r-later, AllOutward, runs-reached, functionsEntered, enters-fresh}
 use Rattle.machine.proofs.EntryBound.{ImportShallow, entriesPushed, walk-bound, entriesBelow}
 use Rattle.machine.proofs.ImportedMeanings.{NoLet, trace-fixed}
@@ -139,8 +139,10 @@ ready-runs O s room n y =
     none-around : All (λ r. ltb r (room .rows)) (around s (start O))
     none-around = subst (All (λ r. ltb r (room .rows))) (sym (around-names s (O .names))) al-none
 
--- the walk of such a sheet, with a table of zeros
+-- the walk of such a sheet up to any event, with a table of zeros
 pub ready-ends : (O : Outside) (s : Sheet) (n : ℕ) (v t q : List ℕ) → ((j : ℕ) → getD t j 0 ≡ 0)
     → WalkReady O s (record { entries = entryRoom v; rows = length t / 8; nodes = nodeRoom q }) n
-    → Ends O s (record { entries = entryRoom v; rows = length t / 8; nodes = nodeRoom q }) [] (start O) (walk s) (runState O s (walk s) (startState O s v t q))
-ready-ends O s n v t q z y = refine-start (y .known) s (y .header) v t q (omega (arith, y .enough-entries)) z (ready-runs O s _ n y)
+    → (es fs : List Event) → walk s ≡ es ++ fs
+    → Ends O s (record { entries = entryRoom v; rows = length t / 8; nodes = nodeRoom q }) [] (start O) es (runState O s es (startState O s v t q))
+ready-ends O s n v t q z y es fs e =
+    refine-start (y .known) s (y .header) v t q (omega (arith, y .enough-entries)) z es (runs-part es fs (subst (Runs O s _ [] (start O)) e (ready-runs O s _ n y)))

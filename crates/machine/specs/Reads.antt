@@ -12,7 +12,7 @@ use Rattle.definition.specs.Outside.{Outside, OutsideFits}
 use Rattle.definition.specs.Scope.{Moment, visited, visits, history}
 use Rattle.definition.specs.Slots.{isMutable, finalGlobals}
 use Rattle.definition.specs.Classes.{ownFields, parentOf, methods}
-use Rattle.definition.specs.Question.{Refusal, firstNo, openOn, constructed, askEvent, askClimb, firstOfClasses, askInit, refusal}
+use Rattle.definition.specs.Question.{Refusal, firstNo, openOn, constructed, askEvent, untilNo, askClimb, firstOfClasses, askInit, refusal}
 use Rattle.definition.specs.Format.{sheetFits, depthsFit}
 use Rattle.definition.specs.Outcome.{rowsFit}
 use Rattle.definition.specs.Answer.{eight, letRow, identifierRow, hostRow, instanceRow, memberRow, literalRows, functionRows}
@@ -84,11 +84,11 @@ pub record StoreReads (O : Outside) (s : Sheet) (o : Store) : Type 0 where
   -- and the constructor calls are stored in the walk's order.
   pub calls : chainTo (o .nodes) (o .calls) ≡ map (callNode s) (callsOf s (history O s))
 
--- A sheet past questions 1, 3 and 4, with a number of names that question 2 allows, and what stands outside it.
+-- A sheet past questions 1, 3 and 4, and what stands outside it; it has no more names than the 24 fixed ones, a list and a session's may be.
 pub record PastFour (O : Outside) (s : Sheet) : Type 0 where
   pub outside : OutsideFits O
   pub names : ℕ
-  pub few : names ≤ 1048
+  pub few : names ≤ 2072
   pub whole : T (rowsFit s)
   pub fitting : T (sheetFits names s)
   pub shallow : T (depthsFit s)
@@ -113,9 +113,9 @@ laterRefusal O s o =
 pub record Walked (O : Outside) (s : Sheet) (x : State) : Type 0 where
   -- a no of the walk is the definition's first no, and the machine's refusal;
   pub refused : (walkRefusal O s .number ≡ 0 → ⊥) → x .refusal ≡ refusal O s (history O s)
-  -- otherwise there is no refusal, the globals are counted, the store holds what the answer rows say, and the definition's first no is the
-  -- first no after the walk.
+  -- globals are counted up to it;
+  pub globals : x .scopes .nextGlobal ≡ finalGlobals s (untilNo O s (history O s))
+  -- otherwise there is no refusal, the store holds what the answer rows say, and the definition's first no is the first no after the walk.
   pub accepted : walkRefusal O s .number ≡ 0 → x .refusal .number ≡ 0
-  pub globals : walkRefusal O s .number ≡ 0 → x .scopes .nextGlobal ≡ finalGlobals s (history O s)
   pub store : walkRefusal O s .number ≡ 0 → StoreReads O s (x .store)
   pub later : walkRefusal O s .number ≡ 0 → refusal O s (history O s) ≡ laterRefusal O s (x .store)

@@ -166,7 +166,7 @@ pub fn enter_listed(index: &mut [u32], names: &[u8], table: &[u32]) -> bool
 
 // Question 2, and of a list that passes it the index and the starts of its names. Answers how many starts there are, one for each
 // name and the place past the last; 0 if the list is refused.
-fn index_names(names: &[u8], table: &mut [u32], index: &mut [u32]) -> usize
+pub fn index_names(names: &[u8], table: &mut [u32], index: &mut [u32]) -> usize
     requires { ⌜ (length (now table) ≡ 1025) × (now index ≡ replicate 2048 0) ⌝ }
     ensures { λ r. ⌜ Indexed (now (names .entry)) r (now (table .exit)) (now (index .exit)) ⌝ }
 {

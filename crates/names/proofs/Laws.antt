@@ -97,7 +97,7 @@ sized n = leb 1 (length n) && leb (length n) 255
 
 -- The name that starts at place `at` of w, and ends at e.
 module _ {w : List ℕ} {at e : ℕ} (n : Ends w at e) where
-  next-size : length (take (e - at) (drop at w)) ≡ e - at
+  pub next-size : length (take (e - at) (drop at w)) ≡ e - at
   next-size = length-take-le (e - at) (drop at w) (omega (arith, length-drop at w))
 
   pub next-name : listed (drop at w) ≡ take (e - at) (drop at w) ∷ listed (drop (e + 1) w)

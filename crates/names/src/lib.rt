@@ -16,7 +16,7 @@ const END: u8 = 10;
 const FIRST_LISTED: u32 = 25;
 
 // The fixed names as a list of their own, in the order of their numbers 1 to 24.
-const FIXED: [u8; 168] =
+pub const FIXED: [u8; 168] =
     *b"Int64\nFloat64\nString\nArray\nByteArray\nDict\nUIEvent\nAudioNeeded\nAudioData\nkind\nwindow_id\nkey\nbutton\nx\ny\ndx\ndy\ntext\nnum_samples\nnum_channels\ndevice_id\nnull\ninit\nMAIN_UNIT\n";
 
 // Where each of them starts, and the place past the last.
@@ -66,7 +66,7 @@ pub fn same_name(a: &[u8], b: &[u8]) -> bool
 }
 
 // Where the name that starts at `at` ends: at its end byte, or with the list.
-fn name_end(names: &[u8], at: usize) -> usize
+pub fn name_end(names: &[u8], at: usize) -> usize
     requires { ⌜ at < length (now names) ⌝ }
     ensures { λ r. ⌜ Ends (now (names .entry)) at r ⌝ }
 {

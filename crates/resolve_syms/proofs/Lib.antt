@@ -1,2 +1,2 @@
 mod WalkLaws
-mod StartLaws
+pub mod StartLaws

@@ -18,7 +18,7 @@ use Rattle.definition.proofs.Walk.Fitting.{fits}
 use Rattle.machine.specs.Machine.{State, Scopes, openNames, noScopes, startState, runState}
 use Rattle.machine.specs.Reads.{PastFour, Walked}
 use Rattle.machine.proofs.Theorems.{rows-few, walk-refines}
-use Rattle.row_events.specs.Prepared.{Lent}
+use Rattle.row_events.specs.Prepared.{Ready}
 use Rattle.resolve_syms.specs.Walked.{walked, partsWalked}
 use Rattle.resolve_syms.proofs.WalkLaws.{walk-by}
 use Rattle.row_events.proofs.RowLaws.{runs-none}
@@ -38,13 +38,14 @@ walk-header O s x {y} ok h =
     header = fits (ok .names) s (ok .outside) (some-row s (ok .whole)) (true-of (sheetFits (ok .names) s) (ok .fitting)) .header
 
 -- the whole walk, from the outermost scope and a clear table
-pub units-walked : (O : Outside) (s : Sheet) (cs v t q : List ℕ) (p : Scopes) (y : State) → PastFour O s → Lent O s cs v t q → p ≡ openNames s (O .names) (noScopes s v)
+pub units-walked : (O : Outside) (s : Sheet) (cs v t q : List ℕ) (p : Scopes) (y : State) → Ready O s cs v t q → p ≡ openNames s (O .names) (noScopes s v)
     → y ≡ partsWalked O (rows s - 1) s 0 (record { scopes = p; store = record { used = 0; calls = 0; table = t; nodes = q }; refusal = none }) → Walked O s y
 unfolding walked startState
-units-walked O s cs v t q p y ok lent e h = subst (Walked O s) (sym run) (walk-refines s v t q ok (lent .clear-rows .zeros) (omega (arith, lent .for-entries)) (lent .for-rows) (lent .for-nodes))
+units-walked O s cs v t q p y r e h =
+    subst (Walked O s) (sym run) (walk-refines s v t q (r .past) (r .lent .clear-rows .zeros) (r .lent .for-entries) (r .lent .for-rows) (r .lent .for-nodes))
   where
     run : y ≡ runState O s (walk s) (startState O s v t q)
-    run = walk-header O s _ ok h ∙ ap (λ (u : Scopes). runState O s (walk s) (record { scopes = u; store = record { used = 0; calls = 0; table = t; nodes = q }; refusal = none })) e
+    run = walk-header O s _ (r .past) h ∙ ap (λ (u : Scopes). runState O s (walk s) (record { scopes = u; store = record { used = 0; calls = 0; table = t; nodes = q }; refusal = none })) e
 
 -- a sheet past question 1 is small
 pub sheet-small : (O : Outside) (s : Sheet) → PastFour O s → length s ≤ 16384

@@ -1,10 +1,10 @@
 // The walk over a sheet past the first four questions.
-ghost use Rattle.machine.specs.Reads.{PastFour, Walked};
+ghost use Rattle.machine.specs.Reads.{Walked};
 ghost use Rattle.outside.specs.Words.{over};
 ghost use Rattle.walk.specs.WalkState.{stateOf};
-ghost use Rattle.row_events.specs.Prepared.{Lent};
+ghost use Rattle.row_events.specs.Prepared.{Ready};
 
-mod cycle;
+pub mod cycle;
 
 use crate::cycle::resolve_parts;
 use classes::class_table;
@@ -22,8 +22,7 @@ pub fn resolve_units(
     results: &mut [u32],
     nodes: &mut [u32],
 ) -> Walk
-    requires { ⌜ (PastFour (over (now outside)) (now sheet))
-        × (Lent (over (now outside)) (now sheet) (now classes) (now entries) (now results) (now nodes)) ⌝ }
+    requires { ⌜ Ready (over (now outside)) (now sheet) (now classes) (now entries) (now results) (now nodes) ⌝ }
     ensures { λ x. ⌜ Walked (over (now (outside .entry))) (now (sheet .entry))
         (stateOf x (now (entries .exit)) (now (results .exit)) (now (nodes .exit))) ⌝ }
 {

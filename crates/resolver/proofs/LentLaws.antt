@@ -7,10 +7,10 @@ use Rattle.definition.specs.Outside.{Outside}
 use Rattle.row_events.specs.Prepared.{Lent}
 use Rattle.answer_rows.proofs.ScratchLaws.{clear-zeros, zeros-long}
 
--- room for a sheet of at most m rows, with nine names outside it
-pub lent-zeros : (O : Outside) (s : Sheet) (m a b c d : ℕ) → length (O .names) ≤ 9 → rows s ≤ m
-    → m ≤ a → 1059 + 3 * m < b / 5 → m ≤ c / 8 → 21 * m ≤ d / 4 → Lent O s (replicate a 0) (replicate b 0) (replicate c 0) (replicate d 0)
-lent-zeros O s m a b c d nine few la lb lc ld = record {
+-- room for a sheet of at most m rows, whose last name is n
+pub lent-zeros : (n : ℕ) (O : Outside) (s : Sheet) (m a b c d : ℕ) → rows s ≤ m → m ≤ a → n + 2 + length (O .names) + 3 * m < b / 5 → m ≤ c / 8 → 21 * m ≤ d / 4
+    → Lent n O s (replicate a 0) (replicate b 0) (replicate c 0) (replicate d 0)
+lent-zeros n O s m a b c d few la lb lc ld = record {
   for-classes = omega (arith, zeros-long a);
   for-entries = rw (zeros-long b) (omega arith);
   for-rows = rw (zeros-long c) (omega arith);

@@ -1,2 +1,2 @@
 mod OutcomeLaws
-mod LentLaws
+pub mod LentLaws

@@ -1,9 +1,9 @@
 // The public routine: a sheet and its names, resolved into the lent answer words, or refused.
 ghost use Prim.Native.Nat.{_≤_};
 ghost use lib.ListN.{length};
-ghost use Rattle.machine.specs.Reads.{PastFour};
-ghost use Rattle.row_events.specs.Prepared.{Lent};
+ghost use Rattle.row_events.specs.Prepared.{Ready};
 ghost use Rattle.finish.specs.Settled.{Settled};
+ghost use Rattle.resolver.specs.Plain.{Plain};
 ghost use Rattle.resolver.specs.Answered.{Answered};
 ghost use Rattle.definition.specs.Outside.{core};
 ghost use Rattle.outside.specs.Words.{over};
@@ -25,8 +25,7 @@ fn resolve_in(
     nodes: &mut [u32],
     out: &mut [u32],
 ) -> Answer
-    requires { ⌜ (PastFour (over (now outside)) (now sheet))
-        × (Lent (over (now outside)) (now sheet) (now classes) (now entries) (now results) (now nodes)) ⌝ }
+    requires { ⌜ Ready (over (now outside)) (now sheet) (now classes) (now entries) (now results) (now nodes) ⌝ }
     ensures { λ x. ⌜ Settled (over (now (outside .entry))) (now (sheet .entry)) (length (now (out .entry))) x (now (out .exit)) ⌝ }
 {
     let walk = resolve_units(sheet, outside, classes, entries, results, nodes);
@@ -39,7 +38,7 @@ fn resolve_in(
 // The walk's scratch space for up to 2,048 rows and nine names from outside: a class for each row, 7,204 open entries of five words, a table of
 // eight words a row, 43,008 nodes of four.
 fn resolve_large(sheet: &[u32], outside: &[u32], out: &mut [u32]) -> Answer
-    requires { ⌜ (PastFour (over (now outside)) (now sheet)) × (length (over (now outside) .names) ≤ 9) ⌝ }
+    requires { ⌜ Plain (over (now outside)) (now sheet) ⌝ }
     ensures { λ x. ⌜ Settled (over (now (outside .entry))) (now (sheet .entry)) (length (now (out .entry))) x (now (out .exit)) ⌝ }
 {
     let mut classes = [0u32; 2048];
@@ -59,7 +58,7 @@ fn resolve_large(sheet: &[u32], outside: &[u32], out: &mut [u32]) -> Answer
 
 // The same for up to 320 rows, which would spend a quarter of their time on clearing 906 KB.
 fn resolve_small(sheet: &[u32], outside: &[u32], out: &mut [u32]) -> Answer
-    requires { ⌜ (PastFour (over (now outside)) (now sheet)) × (length (over (now outside) .names) ≤ 9) × (length (now sheet) ≤ 2560) ⌝ }
+    requires { ⌜ Plain (over (now outside)) (now sheet) × (length (now sheet) ≤ 2560) ⌝ }
     ensures { λ x. ⌜ Settled (over (now (outside .entry))) (now (sheet .entry)) (length (now (out .entry))) x (now (out .exit)) ⌝ }
 {
     let mut classes = [0u32; 320];
@@ -79,7 +78,7 @@ fn resolve_small(sheet: &[u32], outside: &[u32], out: &mut [u32]) -> Answer
 
 // A sheet past the first four questions, by its size.
 fn resolve_sized(sheet: &[u32], outside: &[u32], out: &mut [u32]) -> Answer
-    requires { ⌜ (PastFour (over (now outside)) (now sheet)) × (length (over (now outside) .names) ≤ 9) ⌝ }
+    requires { ⌜ Plain (over (now outside)) (now sheet) ⌝ }
     ensures { λ x. ⌜ Settled (over (now (outside .entry))) (now (sheet .entry)) (length (now (out .entry))) x (now (out .exit)) ⌝ }
 {
     if sheet.len() <= 2560 {
@@ -90,7 +89,7 @@ fn resolve_sized(sheet: &[u32], outside: &[u32], out: &mut [u32]) -> Answer
 
 // A plain sheet past the first four questions.
 fn resolve_plain(sheet: &[u32], out: &mut [u32]) -> Answer
-    requires { ⌜ PastFour core (now sheet) ⌝ }
+    requires { ⌜ Plain core (now sheet) ⌝ }
     ensures { λ x. ⌜ Settled core (now (sheet .entry)) (length (now (out .entry))) x (now (out .exit)) ⌝ }
 {
     let outside = core_words();

@@ -39,8 +39,27 @@ pub fn first_named(sheet: &[u32], row: u32, kind: u32, n: u32) -> u32
     0
 }
 
+// The first child of `row` that is of a kind, or 0.
+pub fn first_of(sheet: &[u32], row: u32, kind: u32) -> u32
+    ensures { λ x. ⌜ x ≡ head (kidsOf (now (sheet .entry)) kind row) ⌝ }
+{
+    let mut left = sheet.len() / 8;
+    let mut k = word(sheet, row, column::CHILD);
+    while 0 < left {
+        if k == 0 {
+            return 0;
+        }
+        if word(sheet, k, column::KIND) == kind {
+            return k;
+        }
+        k = word(sheet, k, column::NEXT);
+        left -= 1;
+    }
+    0
+}
+
 // How many children of `row` are of a kind.
-fn count_kind(sheet: &[u32], row: u32, kind: u32) -> usize
+pub fn count_kind(sheet: &[u32], row: u32, kind: u32) -> usize
     ensures { λ x. ⌜ x ≡ length (kidsOf (now (sheet .entry)) kind row) ⌝ }
 {
     let mut left = sheet.len() / 8;
@@ -67,7 +86,7 @@ pub fn arity(sheet: &[u32], f: FunId) -> usize
 }
 
 // How many children `row` has.
-fn count_kids(sheet: &[u32], row: u32) -> usize
+pub fn count_kids(sheet: &[u32], row: u32) -> usize
     ensures { λ x. ⌜ x ≡ length (kids (now (sheet .entry)) row) ⌝ }
 {
     let mut left = sheet.len() / 8;

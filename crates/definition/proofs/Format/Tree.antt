@@ -109,19 +109,19 @@ module _ (s : Sheet) (wide : List ℕ) where
   abbrev pub Ends : List ℕ → Type 0
   Ends rs = (xs : List ℕ) × (f : ℕ) × (rs ≡ xs ++ f ∷ []) × T (is s 6 f) × T (all (λ r. kind s r ∈? wide) xs)
 
-  only-kind : (r k : ℕ) → T (kind s r ∈? only k) → T (is s k r)
+  pub only-kind : (r k : ℕ) → T (kind s r ∈? only k) → T (is s k r)
   only-kind r k h = go (in-cases (kind s r) k [] h)
     where
       go : (kind s r ≡ k) ⊎ T (kind s r ∈? []) → T (is s k r)
       go (inl e) = eqb-of (kind s r) k e
       go (inr x) = absurd x
 
-  end-one : (rs : List ℕ) → T (fits (one (only 6) ∷ []) (map (kind s) rs)) → Ends rs
+  pub end-one : (rs : List ℕ) → T (fits (one (only 6) ∷ []) (map (kind s) rs)) → Ends rs
   end-one rs h =
       let o = one-child (kind s) (only 6) [] rs h in
       ([], o .0, o .2 ∙ ap (λ (zs : List ℕ). o .0 ∷ zs) (no-children (kind s) (o .1) (o .4)), only-kind (o .0) 6 (o .3), tt)
 
-  end-many : (k : ℕ) (ps : List Part) → T (k ∈? wide) → ((zs : List ℕ) → T (fits ps (map (kind s) zs)) → Ends zs)
+  pub end-many : (k : ℕ) (ps : List Part) → T (k ∈? wide) → ((zs : List ℕ) → T (fits ps (map (kind s) zs)) → Ends zs)
       → (rs : List ℕ) → T (fits (many (only k) ∷ ps) (map (kind s) rs)) → Ends rs
   end-many k ps w f rs h =
       let m = many-children (kind s) (only k) ps rs h in

@@ -13,7 +13,7 @@ use Rattle.outermost.proofs.open_names.Reads as open-names-reads
 class-table-requires : tie.Need-class-table-requires
 class-table-requires c κs =
     let start = c .before .before .before .before .before .before .before in
-    ((over (start .args .outside .now), start .pre .0), start .pre .1 .for-classes, start .pre .1 .clear-classes)
+    ((over (start .args .outside .now), start .pre .past), start .pre .lent .for-classes, start .pre .lent .clear-classes)
 
 open-names-requires : tie.Need-open-names-requires
 open-names-requires c κs = search needs
@@ -23,7 +23,7 @@ sub-resolve-parts c =
     let start =
     c .before .before .before .before .before .before .before .before .before .before .before .before .before
     .before .before in
-    omega (arith, some-rows (over (start .args .outside .now)) (start .args .sheet .now) (start .pre .0))
+    omega (arith, some-rows (over (start .args .outside .now)) (start .args .sheet .now) (start .pre .past))
 
 resolve-parts-requires : tie.Need-resolve-parts-requires
 resolve-parts-requires c κs =
@@ -31,7 +31,7 @@ resolve-parts-requires c κs =
     let start = at-class-table .before .before .before .before .before .before .before .before in
     let class-table = at-class-table .class-table in
     record {
-      small = sheet-small (over (start .args .outside .now)) (start .args .sheet .now) (start .pre .0);
+      small = sheet-small (over (start .args .outside .now)) (start .args .sheet .now) (start .pre .past);
       classes = class-table .ensures;
     }
 
@@ -55,8 +55,7 @@ returns c =
     let open-names = at-open-names .open-names in
     let resolve-parts = at-resolve-parts .resolve-parts in
     units-walked (over (start .args .outside .now)) (start .args .sheet .now) (start .args .classes .now)
-    (start .args .entries .now) (start .args .results .now) (start .args .nodes .now) _ _ (start .pre .0)
-    (start .pre .1) (open-names .ensures) (resolve-parts .ensures)
+    (start .args .entries .now) (start .args .results .now) (start .args .nodes .now) _ _ (start .pre) (open-names .ensures) (resolve-parts .ensures)
 
 pub resolve-units-spec : {M : Type 1} → statement M
 resolve-units-spec =

@@ -13,7 +13,7 @@ refuse-at-requires : tie.Need-refuse-at-requires
 refuse-at-requires c κs =
     let midway = c .before .before .before .before .before .before .before .before .before .before .before .before in
     let start = midway .before .before .before .before .before .before .before .before .before .before .before in
-    files-small (start .args .sheet .now) _ (start .pre .0)
+    files-small (start .args .sheet .now) _ (start .pre .past)
 
 same-length : tie.Need-same-length
 same-length c = search needs
@@ -51,7 +51,7 @@ finish-requires c κs =
     at-resolve-units .before .before .before .before .before .before .before .before .before .before .before
     .before in
     let resolve-units = at-resolve-units .resolve-units in
-    (start .pre .0, any-entries _ _ _ (resolve-units .ensures), c .before .before .before .if1 .left)
+    (start .pre .past, any-entries _ _ _ (resolve-units .ensures), c .before .before .before .if1 .left)
 
 same-length-6 : tie.Need-same-length-6
 same-length-6 c = search needs

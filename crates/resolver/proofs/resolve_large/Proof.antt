@@ -19,11 +19,12 @@ slice-aggregate-resolve-in-4 c = search needs
 
 resolve-in-requires : tie.Need-resolve-in-requires
 resolve-in-requires c κs =
-    let start = c .before .before .before .before .before .before .before .before in (
-      start .pre .0,
-      lent-zeros _ _ 2048 2048 36020 16384 172032 (start .pre .1) (rows-most _ (start .pre .0)) (omega arith)
-          (omega arith) (omega arith) (omega arith),
-    )
+    let start = c .before .before .before .before .before .before .before .before in
+    record {
+      past = start .pre .past;
+      lent = lent-zeros _ _ _ 2048 2048 36020 16384 172032 (rows-most _ (start .pre .past)) (omega arith)
+          (omega (arith, start .pre .listed, start .pre .nine)) (omega arith) (omega arith);
+    }
 
 same-length : tie.Need-same-length
 same-length c = search needs

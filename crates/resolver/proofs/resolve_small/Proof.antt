@@ -18,11 +18,12 @@ slice-aggregate-resolve-in-4 c = search needs
 
 resolve-in-requires : tie.Need-resolve-in-requires
 resolve-in-requires c κs =
-    let start = c .before .before .before .before .before .before .before .before in (
-      start .pre .0,
-      lent-zeros _ _ 320 320 10100 2560 26880 (start .pre .1) (rows-small (start .args .sheet .now) (start .pre .2))
-          (omega arith) (omega arith) (omega arith) (omega arith),
-    )
+    let start = c .before .before .before .before .before .before .before .before in
+    record {
+      past = start .pre .0 .past;
+      lent = lent-zeros _ _ _ 320 320 10100 2560 26880 (rows-small (start .args .sheet .now) (start .pre .1))
+          (omega arith) (omega (arith, start .pre .0 .listed, start .pre .0 .nine)) (omega arith) (omega arith);
+    }
 
 same-length : tie.Need-same-length
 same-length c = search needs
