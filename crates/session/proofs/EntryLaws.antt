@@ -11,7 +11,7 @@ use lib.Dec.{eqb, leb, ltb}
 use borrow.Author.Tests.{eq-eqb, eqb-true, le-leb, ltb-true, ltb-false}
 use Rattle.definition.specs.Basics.{if_then_else_, any, filter, unlike, place, from, concatMap}
 use Rattle.definition.specs.Names.{Name, fixed, listed, sameName, nameCount, namesFit}
-use Rattle.definition.specs.Sheet.{Sheet, word, kind, column, a, b, rows}
+use Rattle.definition.specs.Sheet.{Sheet, word, kind, a, b, rows}
 use Rattle.definition.specs.Shape.{shapeOf}
 use Rattle.definition.specs.Outcome.{rowsFit}
 use Rattle.session.specs.Session.{Session, allNames}
@@ -21,7 +21,7 @@ use Rattle.session.proofs.RowLaws.{word-past, whole-rows, whole-some, w
 use Rattle.session.proofs.Renaming.{Renamed}
 
 -- names with the same bytes are one
-same-is : (x y : Name) → sameName x y ≡ true → x ≡ y
+pub same-is : (x y : Name) → sameName x y ≡ true → x ≡ y
 same-is [] [] e = refl
 same-is [] (d ∷ y) e = absurd (true≢false (sym e))
 same-is (c ∷ x) [] e = absurd (true≢false (sym e))
@@ -33,7 +33,7 @@ same-is (c ∷ x) (d ∷ y) e = go (eqb c d) refl e (same-is x y)
 
 -- a test that some element passes
 module _ (p : Name → Bool) where
-  some-left : (xs ys : List Name) → any p xs ≡ true → any p (xs ++ ys) ≡ true
+  pub some-left : (xs ys : List Name) → any p xs ≡ true → any p (xs ++ ys) ≡ true
   some-left [] ys e = absurd (true≢false (sym e))
   some-left (x ∷ xs) ys e = go (p x) (some-left xs ys) e
     where
@@ -41,7 +41,7 @@ module _ (p : Name → Bool) where
       go true f e = refl
       go false f e = f e
 
-  some-right : (xs ys : List Name) → any p ys ≡ true → any p (xs ++ ys) ≡ true
+  pub some-right : (xs ys : List Name) → any p ys ≡ true → any p (xs ++ ys) ≡ true
   some-right [] ys e = e
   some-right (x ∷ xs) ys e = go (p x) (some-right xs ys e)
     where
@@ -49,7 +49,7 @@ module _ (p : Name → Bool) where
       go true f = refl
       go false f = f
 
-  some-at : (xs : List Name) (i : ℕ) → i < length xs → p (getD xs i []) ≡ true → any p xs ≡ true
+  pub some-at : (xs : List Name) (i : ℕ) → i < length xs → p (getD xs i []) ≡ true → any p xs ≡ true
   some-at [] i l e = absurd (omega arith)
   some-at (x ∷ xs) zero l e = ap (λ (t : Bool). t || any p xs) e
   some-at (x ∷ xs) (suc i) l e = go (p x) (some-at xs i (omega arith) e)
@@ -58,7 +58,7 @@ module _ (p : Name → Bool) where
       go true f = refl
       go false f = f
 
-  place-below : (xs : List Name) → any p xs ≡ true → (place p xs < length xs) × (p (getD xs (place p xs) []) ≡ true)
+  pub place-below : (xs : List Name) → any p xs ≡ true → (place p xs < length xs) × (p (getD xs (place p xs) []) ≡ true)
   place-below [] e = absurd (true≢false (sym e))
   place-below (x ∷ xs) e = go (p x) refl e (place-below xs)
     where
@@ -85,14 +85,14 @@ module _ (p : Name → Bool) where
           by false = g
       go false g = g
 
-getD-right : (xs ys : List Name) (i : ℕ) → length xs ≤ i → getD (xs ++ ys) i [] ≡ getD ys (i - length xs) []
+pub getD-right : (xs ys : List Name) (i : ℕ) → length xs ≤ i → getD (xs ++ ys) i [] ≡ getD ys (i - length xs) []
 getD-right [] ys i l = ap (λ (j : ℕ). getD ys j []) (omega arith)
 getD-right (x ∷ xs) ys zero l = absurd (omega arith)
 getD-right (x ∷ xs) ys (suc i) l = getD-right xs ys i (omega arith) ∙ ap (λ (j : ℕ). getD ys j []) (omega arith)
 
 module _ (S : Session) (ns : List ℕ) where
   -- every name of the entry is among the session's and the new ones
-  own-there : (i : ℕ) → i < length (ownNames ns) → any (sameName (getD (ownNames ns) i [])) (namesWith S ns) ≡ true
+  pub own-there : (i : ℕ) → i < length (ownNames ns) → any (sameName (getD (ownNames ns) i [])) (namesWith S ns) ≡ true
   own-there i l = go (ltb i (length fixed)) refl
     where
       x : Name
@@ -119,7 +119,7 @@ module _ (S : Session) (ns : List ℕ) where
               (ap (sameName x) (sym at) ∙ same-itself x) (ap (λ (y : Name). not (any (sameName y) (allNames S))) (sym at) ∙ ap not f))
 
   -- a name's number in the session
-  number-is : (x : ℕ) → 1 ≤ x → x ≤ length (ownNames ns) → toSession S ns x ≡ suc (place (sameName (getD (ownNames ns) (x - 1) [])) (namesWith S ns))
+  pub number-is : (x : ℕ) → 1 ≤ x → x ≤ length (ownNames ns) → toSession S ns x ≡ suc (place (sameName (getD (ownNames ns) (x - 1) [])) (namesWith S ns))
   number-is x l h = ap (λ (t : Bool). if t && leb x (length (ownNames ns)) then suc (place (sameName (getD (ownNames ns) (x - 1) [])) (namesWith S ns)) else x) (le-leb 1 x l)
       ∙ ap (λ (t : Bool). if t then suc (place (sameName (getD (ownNames ns) (x - 1) [])) (namesWith S ns)) else x) (le-leb x (length (ownNames ns)) h)
 
@@ -148,7 +148,7 @@ module _ (S : Session) (ns : List ℕ) where
         omega (arith, place-own own u (suc x - 1) (omega arith), place-own own u (suc y - 1) (omega arith), ap (λ (z : Name). place (sameName z) own) same)
 
   -- the words of its sheet
-  entry-word : (s : Sheet) (i n r c : ℕ) → c < 8 → r < n → getD (concatMap (entryRow S ns s) (from i n)) (8 * r + c) 0 ≡ getD (entryRow S ns s (i + r)) c 0
+  pub entry-word : (s : Sheet) (i n r c : ℕ) → c < 8 → r < n → getD (concatMap (entryRow S ns s) (from i n)) (8 * r + c) 0 ≡ getD (entryRow S ns s (i + r)) c 0
   entry-word s i zero r c l h = absurd (omega arith)
   entry-word s i (suc n) zero c l h =
       let p : 8 * 0 + c ≡ c = omega arith in
@@ -161,7 +161,7 @@ module _ (S : Session) (ns : List ℕ) where
       word-past _ _ _ _ _ _ _ _ (concatMap (entryRow S ns s) (from (suc i) n)) r c
       ∙ entry-word s (suc i) n r c l (omega arith) ∙ ap (λ (j : ℕ). getD (entryRow S ns s j) c 0) q
 
-  entry-size : (s : Sheet) (i n : ℕ) → length (concatMap (entryRow S ns s) (from i n)) ≡ 8 * n
+  pub entry-size : (s : Sheet) (i n : ℕ) → length (concatMap (entryRow S ns s) (from i n)) ≡ 8 * n
   entry-size s i zero = omega arith
   entry-size s i (suc n) = omega (arith, entry-size s (suc i) n)
 

@@ -1,4 +1,4 @@
--- Theorems on sessions. A reader who trusts the check needs Theorems alone.
+-- Theorems on sessions. A reader who trusts the check needs Theorems and Kept alone.
 pub mod Theorems
 pub mod NameLaws
 pub mod RowLaws
@@ -6,3 +6,29 @@ pub mod Renaming
 pub mod EntryLaws
 pub mod OutsideLaws
 pub mod SessionLaws
+pub mod HeldRuns
+pub mod CountLaws
+pub mod Asked
+-- Entering leaves a good session good: the words after it,
+pub mod Kept
+pub mod Extended
+pub mod Globals
+pub mod GlobalKept
+pub mod AfterRefusal
+pub mod Stored
+pub mod NewWords
+pub mod Added
+pub mod ListedNames
+pub mod ReadBack
+pub mod Follows
+pub mod NewNames
+pub mod AfterAccepted
+-- and what an accepted entry declares.
+pub mod EarlierClasses
+pub mod NewMembers
+pub mod NewClasses
+pub mod UnitRows
+pub mod UnitEvents
+pub mod UnitStack
+pub mod Pushed
+pub mod NewLaid

@@ -24,31 +24,31 @@ pub same-itself : (x : Name) → sameName x x ≡ true
 same-itself [] = refl
 same-itself (c ∷ x) = rw (eq-eqb c c refl) (same-itself x)
 
-same-turned : (x y : Name) → sameName x y ≡ sameName y x
+pub same-turned : (x y : Name) → sameName x y ≡ sameName y x
 same-turned [] [] = refl
 same-turned [] (d ∷ y) = refl
 same-turned (c ∷ x) [] = refl
 same-turned (c ∷ x) (d ∷ y) = ap (λ (t : Bool). t && sameName x y) (eqb-turned c d) ∙ ap (λ (t : Bool). eqb d c && t) (same-turned x y)
 
 -- a test that no element passes
-none-here : (p : Name → Bool) (x : Name) (xs : List Name) → any p (x ∷ xs) ≡ false → (p x ≡ false) × (any p xs ≡ false)
+pub none-here : (p : Name → Bool) (x : Name) (xs : List Name) → any p (x ∷ xs) ≡ false → (p x ≡ false) × (any p xs ≡ false)
 none-here p x xs = go (p x)
   where
     go : (t : Bool) → (t || any p xs) ≡ false → (t ≡ false) × (any p xs ≡ false)
     go true e = absurd (true≢false e)
     go false e = (refl, e)
 
-none-at : (p : Name → Bool) (xs : List Name) (i : ℕ) → i < length xs → any p xs ≡ false → p (getD xs i []) ≡ false
+pub none-at : (p : Name → Bool) (xs : List Name) (i : ℕ) → i < length xs → any p xs ≡ false → p (getD xs i []) ≡ false
 none-at p [] i l e = absurd (omega arith)
 none-at p (x ∷ xs) zero l e = none-here p x xs e .0
 none-at p (x ∷ xs) (suc i) l e = none-at p xs i (omega arith) (none-here p x xs e .1)
 
-none-right : (p : Name → Bool) (xs ys : List Name) → any p (xs ++ ys) ≡ false → any p ys ≡ false
+pub none-right : (p : Name → Bool) (xs ys : List Name) → any p (xs ++ ys) ≡ false → any p ys ≡ false
 none-right p [] ys e = e
 none-right p (x ∷ xs) ys e = none-right p xs ys (none-here p x (xs ++ ys) e .1)
 
 -- a list without repeats
-apart-here : (x : Name) (xs : List Name) → unlike sameName (x ∷ xs) ≡ true → (any (sameName x) xs ≡ false) × (unlike sameName xs ≡ true)
+pub apart-here : (x : Name) (xs : List Name) → unlike sameName (x ∷ xs) ≡ true → (any (sameName x) xs ≡ false) × (unlike sameName xs ≡ true)
 apart-here x xs = go (any (sameName x) xs)
   where
     go : (t : Bool) → (not t && unlike sameName xs) ≡ true → (t ≡ false) × (unlike sameName xs ≡ true)
@@ -76,7 +76,7 @@ renumbered-same l u n = go (leb 1 n) refl (leb n (length l)) refl
     go false e v f = refl
 
 -- names that a list does not have are all of those beside it
-none-in : (k l : List Name) → unlike sameName (k ++ l) ≡ true → (i : ℕ) → i < length l → any (sameName (getD l i [])) k ≡ false
+pub none-in : (k l : List Name) → unlike sameName (k ++ l) ≡ true → (i : ℕ) → i < length l → any (sameName (getD l i [])) k ≡ false
 none-in [] l u i h = refl
 none-in (x ∷ k) l u i h =
     let a = apart-here x (k ++ l) u in

@@ -2,7 +2,7 @@
 use mathlib.Core.Path.{_≡_, refl, sym, ap, _∙_, subst}
 use mathlib.Core.Bool.{Bool, true, false, not, _&&_, _||_}
 use mathlib.Core.List.{List, [], _∷_, _++_, map}
-use Prim.Native.Nat.{ℕ, suc, _+_, _≤_}
+use Prim.Native.Nat.{ℕ, suc, _≤_}
 use native.Mathlib.Omega.{arith}
 use lib.ListN.{length, length-append, length-map}
 use lib.Dec.{eqb, leb, T}
@@ -31,7 +31,7 @@ module _ {A : Type 0} where
   all-backward p [] h = tt
   all-backward p (x ∷ xs) h = all-append p (backward xs) (x ∷ []) (all-backward p xs (and-right (p x) (all p xs) h)) (and-both (p x) true (and-left (p x) (all p xs) h) tt)
 
-  all-filter : (p q : A → Bool) (xs : List A) → T (all p xs) → T (all p (filter q xs))
+  pub all-filter : (p q : A → Bool) (xs : List A) → T (all p xs) → T (all p (filter q xs))
   all-filter p q [] h = tt
   all-filter p q (x ∷ xs) h = go (q x) (all-filter p q xs (and-right (p x) (all p xs) h))
     where
@@ -45,7 +45,7 @@ module _ {A : Type 0} where
       and-both (p x) (all p (filter (λ y. not (same x y)) (distinct same xs))) (and-left (p x) (all p xs) h)
       (all-filter p (λ y. not (same x y)) (distinct same xs) (all-distinct p same xs (and-right (p x) (all p xs) h)))
 
-  filter-shorter : (q : A → Bool) (xs : List A) → length (filter q xs) ≤ length xs
+  pub filter-shorter : (q : A → Bool) (xs : List A) → length (filter q xs) ≤ length xs
   filter-shorter q [] = omega arith
   filter-shorter q (x ∷ xs) = go (q x) (filter-shorter q xs)
     where
@@ -53,16 +53,34 @@ module _ {A : Type 0} where
       go true h = omega arith
       go false h = omega arith
 
-  distinct-shorter : (same : A → A → Bool) (xs : List A) → length (distinct same xs) ≤ length xs
+  pub distinct-shorter : (same : A → A → Bool) (xs : List A) → length (distinct same xs) ≤ length xs
   distinct-shorter same [] = omega arith
   distinct-shorter same (x ∷ xs) = omega (arith, filter-shorter (λ y. not (same x y)) (distinct same xs), distinct-shorter same xs)
 
-  backward-length : (xs : List A) → length (backward xs) ≡ length xs
+  pub backward-length : (xs : List A) → length (backward xs) ≡ length xs
   backward-length [] = refl
   backward-length (x ∷ xs) = omega (arith, length-append (backward xs) (x ∷ []), backward-length xs)
 
+  -- a list without repeats stays so
+  fewer : (p q : A → Bool) (xs : List A) → T (not (any p xs)) → T (not (any p (filter q xs)))
+  fewer p q [] h = tt
+  fewer p q (x ∷ xs) h = go (q x) (p x) refl h (fewer p q xs)
+    where
+      go : (t u : Bool) → p x ≡ u → T (not (u || any p xs)) → (T (not (any p xs)) → T (not (any p (filter q xs)))) → T (not (any p (if t then x ∷ filter q xs else filter q xs)))
+      go t true e h f = absurd h
+      go true false e h f = subst (λ (u : Bool). T (not (u || any p (filter q xs)))) (sym e) (f h)
+      go false false e h f = f h
+
+  pub apart-filter : (same : A → A → Bool) (q : A → Bool) (xs : List A) → T (unlike same xs) → T (unlike same (filter q xs))
+  apart-filter same q [] h = tt
+  apart-filter same q (x ∷ xs) h = go (q x) (apart-filter same q xs (and-right (not (any (same x) xs)) (unlike same xs) h))
+    where
+      go : (t : Bool) → T (unlike same (filter q xs)) → T (unlike same (if t then x ∷ filter q xs else filter q xs))
+      go true k = and-both (not (any (same x) (filter q xs))) (unlike same (filter q xs)) (fewer (same x) q xs (and-left (not (any (same x) xs)) (unlike same xs) h)) k
+      go false k = k
+
 module _ {A B : Type 0} where
-  all-map : (f : A → B) (p : B → Bool) (q : A → Bool) → ((x : A) → T (q x) → T (p (f x))) → (xs : List A) → T (all q xs) → T (all p (map f xs))
+  pub all-map : (f : A → B) (p : B → Bool) (q : A → Bool) → ((x : A) → T (q x) → T (p (f x))) → (xs : List A) → T (all q xs) → T (all p (map f xs))
   all-map f p q k [] h = tt
   all-map f p q k (x ∷ xs) h = and-both (p (f x)) (all p (map f xs)) (k x (and-left (q x) (all q xs) h)) (all-map f p q k xs (and-right (q x) (all q xs) h))
 
@@ -82,28 +100,11 @@ none-left x (y ∷ xs) = go (eqb (x .name) (y .name)) refl (none-left x xs)
     go true q h = h
     go false q h = subst (λ (u : Bool). T (not (u || any (turned x) (filter (λ y. not (sameNamed x y)) xs)))) (sym (eqb-turned (y .name) (x .name) ∙ q)) h
 
-fewer : (p q : Named → Bool) (ys : List Named) → T (not (any p ys)) → T (not (any p (filter q ys)))
-fewer p q [] k = tt
-fewer p q (y ∷ ys) k = go (q y) (p y) refl k (fewer p q ys)
-  where
-    go : (t u : Bool) → p y ≡ u → T (not (u || any p ys)) → (T (not (any p ys)) → T (not (any p (filter q ys)))) → T (not (any p (if t then y ∷ filter q ys else filter q ys)))
-    go t true e k f = absurd k
-    go true false e k f = subst (λ (u : Bool). T (not (u || any p (filter q ys)))) (sym e) (f k)
-    go false false e k f = f k
-
-apart-filter : (q : Named → Bool) (xs : List Named) → T (unlike turned xs) → T (unlike turned (filter q xs))
-apart-filter q [] h = tt
-apart-filter q (x ∷ xs) h = go (q x) (apart-filter q xs (and-right (not (any (turned x) xs)) (unlike turned xs) h))
-  where
-    go : (t : Bool) → T (unlike turned (filter q xs)) → T (unlike turned (if t then x ∷ filter q xs else filter q xs))
-    go true k = and-both (not (any (turned x) (filter q xs))) (unlike turned (filter q xs)) (fewer (turned x) q xs (and-left (not (any (turned x) xs)) (unlike turned xs) h)) k
-    go false k = k
-
 distinct-apart : (xs : List Named) → T (unlike turned (distinct sameNamed xs))
 distinct-apart [] = tt
 distinct-apart (x ∷ xs) =
     and-both (not (any (turned x) (filter (λ y. not (sameNamed x y)) (distinct sameNamed xs)))) (unlike turned (filter (λ y. not (sameNamed x y)) (distinct sameNamed xs)))
-    (none-left x (distinct sameNamed xs)) (apart-filter (λ y. not (sameNamed x y)) (distinct sameNamed xs) (distinct-apart xs))
+    (none-left x (distinct sameNamed xs)) (apart-filter turned (λ y. not (sameNamed x y)) (distinct sameNamed xs) (distinct-apart xs))
 
 -- the same names with what they mean in the walk
 abbrev seen : Named → Named

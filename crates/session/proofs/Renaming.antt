@@ -22,15 +22,15 @@ use Rattle.definition.proofs.Lists.Counts.{all-below}
 use Rattle.session.specs.Entry.{holdsName}
 
 -- tests that all pass, one by one
-data AllPass : List Bool → Type 0 where
+pub data AllPass : List Bool → Type 0 where
   all-none : AllPass []
   all-some : (x : Bool) {xs : List Bool} → T x → AllPass xs → AllPass (x ∷ xs)
 
-every-passes : {xs : List Bool} → AllPass xs → T (every xs)
+pub every-passes : {xs : List Bool} → AllPass xs → T (every xs)
 every-passes all-none = tt
 every-passes (all-some x {xs} h p) = and-both x (every xs) h (every-passes p)
 
-all-from : (p : ℕ → Bool) (i k : ℕ) → ((r : ℕ) → r < i + k → T (p r)) → T (all p (from i k))
+pub all-from : (p : ℕ → Bool) (i k : ℕ) → ((r : ℕ) → r < i + k → T (p r)) → T (all p (from i k))
 all-from p i zero h = tt
 all-from p i (suc k) h = and-both (p i) (all p (from (suc i) k)) (h i (omega arith)) (all-from p (suc i) k (λ r l. h r (omega arith)))
 
@@ -50,10 +50,10 @@ pub record Renamed (ρ : ℕ → ℕ) (n m : ℕ) (s t : Sheet) : Type 0 where
   pub apart : (x y : ℕ) → x ≤ n → y ≤ n → ρ x ≡ ρ y → x ≡ y
 
 module _ {ρ : ℕ → ℕ} {n m : ℕ} {s t : Sheet} (e : Renamed ρ n m s t) where
-  is-same : (k r : ℕ) → is t k r ≡ is s k r
+  pub is-same : (k r : ℕ) → is t k r ≡ is s k r
   is-same k r = ap (λ (j : ℕ). eqb j k) (e .kinds r)
 
-  a-plain : (k r : ℕ) → kind s r ≡ k → holdsName (shapeOf k .a) ≡ false → a t r ≡ a s r
+  pub a-plain : (k r : ℕ) → kind s r ≡ k → holdsName (shapeOf k .a) ≡ false → a t r ≡ a s r
   a-plain k r q f = e .as-are r ∙ ap (λ (j : ℕ). if holdsName (shapeOf j .a) then ρ (a s r) else a s r) q ∙ ap (λ (u : Bool). if u then ρ (a s r) else a s r) f
 
   b-plain : (k r : ℕ) → kind s r ≡ k → holdsName (shapeOf k .b) ≡ false → b t r ≡ b s r
@@ -68,10 +68,10 @@ module _ {ρ : ℕ → ℕ} {n m : ℕ} {s t : Sheet} (e : Renamed ρ n m s t) w
   chain-same (suc i) zero = refl
   chain-same (suc i) (suc r) = ap (λ (l : List ℕ). suc r ∷ l) (ap (chain i t) (e .nexts (suc r)) ∙ chain-same i (next s (suc r)))
 
-  kids-same : (r : ℕ) → kids t r ≡ kids s r
+  pub kids-same : (r : ℕ) → kids t r ≡ kids s r
   kids-same r = ap (λ (i : ℕ). chain i t (child t r)) (e .size) ∙ ap (chain (rows s) t) (e .childs r) ∙ chain-same (rows s) (child s r)
 
-  kidsOf-same : (k r : ℕ) → kidsOf t k r ≡ kidsOf s k r
+  pub kidsOf-same : (k r : ℕ) → kidsOf t k r ≡ kidsOf s k r
   kidsOf-same k r = ap (λ (p : ℕ → Bool). filter p (kids t r)) (fun-ext (is-same k)) ∙ ap (filter (is s k)) (kids-same r)
 
   holder-same : (r : ℕ) → holder t r ≡ holder s r

@@ -8,7 +8,7 @@ use native.Mathlib.Omega.{arith}
 use lib.ListN.{length, getD, length-append, length-map}
 use lib.Dec.{eqb, leb, T, eqb→eq}
 use borrow.Author.Tests.{le-leb, leb-true}
-use Rattle.definition.specs.Basics.{if_then_else_, all, every, unlike, from, concatMap, total}
+use Rattle.definition.specs.Basics.{if_then_else_, all, unlike, from, concatMap, total}
 use Rattle.definition.specs.Meaning.{Named, function, class, global}
 use Rattle.definition.specs.Outside.{isOutward}
 use Rattle.definition.proofs.Lists.Tests.{and-both, and-left, and-right, T-true, true-of, pick, ℕ-trichotomy}
@@ -19,7 +19,7 @@ use Rattle.session.specs.Words.{Room, fixedBytes, laidPlace, memberPlace
 use Rattle.session.specs.Words.{countsFit, sessionNamesFit, bytesOf, rowFits, laidFits, classTests, classFits, entryNumbersFit, numbersFit, sessionFits}
 use Rattle.session.proofs.OutsideLaws.{Orderly, all-append}
 
-from-length : (i k : ℕ) → length (from i k) ≡ k
+pub from-length : (i k : ℕ) → length (from i k) ≡ k
 from-length i zero = refl
 from-length i (suc k) = ap suc (from-length (suc i) k)
 
@@ -29,20 +29,20 @@ module _ {A : Type 0} where
   all-each p f [] h = tt
   all-each p f (x ∷ xs) h = and-both (p (f x)) (all p (map f xs)) (h x (here refl)) (all-each p f xs (λ y q. h y (there q)))
 
+  pub all-mem : (p : A → Bool) (xs : List A) (x : A) → T (all p xs) → Mem x xs → T (p x)
+  all-mem p (y ∷ ys) x h (here q) = subst (λ (z : A). T (p z)) (sym q) (and-left (p y) (all p ys) h)
+  all-mem p (y ∷ ys) x h (there q) = all-mem p ys x (and-right (p y) (all p ys) h) q
+
   all-joined : (p : A → Bool) (f : ℕ → List A) (i k : ℕ) → ((x : ℕ) → x < i + k → T (all p (f x))) → T (all p (concatMap f (from i k)))
   all-joined p f i zero h = tt
   all-joined p f i (suc k) h = all-append p (f i) (concatMap f (from (suc i) k)) (h i (omega arith)) (all-joined p f (suc i) k (λ x l. h x (omega arith)))
 
-  joined-map : {B : Type 0} (f : B → List A) (g : ℕ → B) (xs : List ℕ) → concatMap f (map g xs) ≡ concatMap (λ x. f (g x)) xs
+  pub joined-map : {B : Type 0} (f : B → List A) (g : ℕ → B) (xs : List ℕ) → concatMap f (map g xs) ≡ concatMap (λ x. f (g x)) xs
   joined-map f g [] = refl
   joined-map f g (x ∷ xs) = ap (λ (l : List A). f (g x) ++ l) (joined-map f g xs)
 
-all-mem : (p : ℕ → Bool) (xs : List ℕ) (x : ℕ) → T (all p xs) → Mem x xs → T (p x)
-all-mem p (y ∷ ys) x h (here q) = subst (λ (z : ℕ). T (p z)) (sym q) (and-left (p y) (all p ys) h)
-all-mem p (y ∷ ys) x h (there q) = all-mem p ys x (and-right (p y) (all p ys) h) q
-
 -- a sum over more numbers
-sum-more : (f : ℕ → ℕ) (j i k : ℕ) → total f (from j i) ≤ total f (from j (i + k))
+pub sum-more : (f : ℕ → ℕ) (j i k : ℕ) → total f (from j i) ≤ total f (from j (i + k))
 sum-more f j zero k = omega arith
 sum-more f j (suc i) k =
     let q : suc i + k ≡ suc (i + k) = omega arith in
@@ -60,29 +60,29 @@ sum-part f j (suc k) i l h = go (ℕ-trichotomy j i) (λ q. sum-part f (suc j) k
 
 module _ (R : Room) (w n : List ℕ) (fit : T (sessionFits R w n)) where
   -- how many entries there are, and count c after the first e of them
-  abbrev E : ℕ
+  abbrev pub E : ℕ
   E = getD w 1 0
 
-  abbrev after : ℕ → ℕ → ℕ
+  abbrev pub after : ℕ → ℕ → ℕ
   after e c = countAfter R w n e c
 
-  clauses : (i : ℕ) → T (getD (countsFit R w n ∷ sessionNamesFit R w n ∷ numbersFit R w n ∷ []) i true)
+  pub clauses : (i : ℕ) → T (getD (countsFit R w n ∷ sessionNamesFit R w n ∷ numbersFit R w n ∷ []) i true)
   clauses i = pick (countsFit R w n ∷ sessionNamesFit R w n ∷ numbersFit R w n ∷ []) fit i
 
   abbrev lastRow : Bool
   lastRow = all (λ c. eqb (after E c) (getD w (3 + c) 0)) (from 0 5)
 
-  last-are : (c : ℕ) → c < 5 → after E c ≡ getD w (3 + c) 0
+  pub last-are : (c : ℕ) → c < 5 → after E c ≡ getD w (3 + c) 0
   last-are c h = eqb→eq (after E c) (getD w (3 + c) 0) (all-below (λ c. eqb (after E c) (getD w (3 + c) 0)) 5 (and-right (all (entryNumbersFit R w n) (from 0 E)) lastRow (clauses 2)) c h)
 
-  abbrev tests : ℕ → List Bool
+  abbrev pub tests : ℕ → List Bool
   tests e = rowFits R w n e ∷ all (laidFits R w n e) (partOf R w n e 2) ∷ all (classFits R w n e) (partOf R w n e 3) ∷ eqb (membersBefore R w n (after (suc e) 3)) (after (suc e) 4) ∷ []
 
-  entry-tests : (e : ℕ) → e < E → (i : ℕ) → T (getD (tests e) i true)
+  pub entry-tests : (e : ℕ) → e < E → (i : ℕ) → T (getD (tests e) i true)
   entry-tests e l i = pick (tests e) (all-below (entryNumbersFit R w n) E (and-left (all (entryNumbersFit R w n) (from 0 E)) lastRow (clauses 2)) e l) i
 
   -- no count falls, and none is past the session's
-  rises : (e c : ℕ) → e < E → c < 5 → (after e c ≤ after (suc e) c) × (after (suc e) c ≤ getD w (3 + c) 0)
+  pub rises : (e c : ℕ) → e < E → c < 5 → (after e c ≤ after (suc e) c) × (after (suc e) c ≤ getD w (3 + c) 0)
   rises e c l h =
       let x : Bool = leb (after e c) (after (suc e) c) in
       let y : Bool = leb (after (suc e) c) (getD w (3 + c) 0) in
@@ -106,7 +106,7 @@ module _ (R : Room) (w n : List ℕ) (fit : T (sessionFits R w n)) where
       )
 
   -- a test of every class of the session, by its entry and its place
-  each-class : (p : Class → Bool) → ((e i : ℕ) → e < E → i < after (suc e) 3 → T (classFits R w n e i) → T (p (classIn R w n i))) → T (all p (allClasses (sessionIn R w n)))
+  pub each-class : (p : Class → Bool) → ((e i : ℕ) → e < E → i < after (suc e) 3 → T (classFits R w n e i) → T (p (classIn R w n i))) → T (all p (allClasses (sessionIn R w n)))
   each-class p h =
       subst (λ (l : List Class). T (all p l)) (sym (joined-map (λ x. x .classes) (entryIn R w n) (from 0 E)))
       (all-joined p (λ e. map (classIn R w n) (partOf R w n e 3)) 0 E
@@ -115,15 +115,15 @@ module _ (R : Room) (w n : List ℕ) (fit : T (sessionFits R w n)) where
       h e i (omega (arith, l)) (omega (arith, m .1, rises e 3 (omega (arith, l)) (omega arith) .0))
       (all-mem (classFits R w n e) (partOf R w n e 3) i (entry-tests e (omega (arith, l)) 2) q))))
 
-  abbrev limits : List Bool
+  abbrev pub limits : List Bool
   limits =
       leb (getD w 0 0) 1002048 ∷ leb (getD w 1 0) (R .entries) ∷ leb (getD w 3 0) 1024 ∷ leb (getD w 4 0) (R .bytes) ∷ leb (getD w 5 0) (R .laid)
       ∷ leb (getD w 6 0) (R .classes) ∷ leb (getD w 7 0) (R .members) ∷ leb (sessionSize R) (length w) ∷ leb (length fixedBytes + R .bytes) (length n) ∷ []
 
-  few-laid : getD w 5 0 ≤ R .laid
+  pub few-laid : getD w 5 0 ≤ R .laid
   few-laid = leb-true (getD w 5 0) (R .laid) (true-of (leb (getD w 5 0) (R .laid)) (pick limits (clauses 0) 4))
 
-  few-members : getD w 7 0 ≤ R .members
+  pub few-members : getD w 7 0 ≤ R .members
   few-members = leb-true (getD w 7 0) (R .members) (true-of (leb (getD w 7 0) (R .members)) (pick limits (clauses 0) 6))
 
   -- a class has no more members than the session
@@ -137,10 +137,10 @@ module _ (R : Room) (w n : List ℕ) (fit : T (sessionFits R w n)) where
         few-members,
       )
 
-  fields-length : (i : ℕ) → length (classIn R w n i .fields) ≡ fieldsIn R w n i
+  pub fields-length : (i : ℕ) → length (classIn R w n i .fields) ≡ fieldsIn R w n i
   fields-length i = length-map (from (membersBefore R w n i) (fieldsIn R w n i)) (λ j. getD w (memberPlace R j) 0) ∙ from-length (membersBefore R w n i) (fieldsIn R w n i)
 
-  methods-length : (i : ℕ) → length (classIn R w n i .methods) ≡ methodsIn R w n i
+  pub methods-length : (i : ℕ) → length (classIn R w n i .methods) ≡ methodsIn R w n i
   methods-length i =
       length-map (from (membersBefore R w n i + fieldsIn R w n i) (methodsIn R w n i))
       (λ j. record { name = getD w (memberPlace R j) 0; fun = getD w (memberPlace R j + 1) 0; params = getD w (memberPlace R j + 2) 0 })

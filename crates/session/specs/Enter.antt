@@ -4,17 +4,17 @@ use mathlib.Core.List.{List, [], _∷_, _++_, map}
 use Prim.Native.Nat.{ℕ, _+_}
 use lib.ListN.{length}
 use lib.Dec.{eqb, leb}
-use Rattle.definition.specs.Basics.{if_then_else_, filter, concatMap, from, head, bit}
+use Rattle.definition.specs.Basics.{if_then_else_, filter, final, concatMap, from, head, bit}
 use Rattle.definition.specs.Kind.{IMPORT, CLASS, FUNCTION}
 use Rattle.definition.specs.Names.{namesFit, nameCount}
 use Rattle.definition.specs.Sheet.{Sheet, child, a, b, rows, kids, is, kidsOf}
 use Rattle.definition.specs.Meaning.{Meaning, Named, named, nothing, function, class, global, toplevel, variable}
 use Rattle.definition.specs.Outside.{Outside}
 use Rattle.definition.specs.Walk.{Event, enter, leave, loop, declare, bring, visit}
-use Rattle.definition.specs.Scope.{Stack, scope, looping, bound, Moment, history}
+use Rattle.definition.specs.Scope.{Stack, scope, looping, bound, history}
 use Rattle.definition.specs.Slots.{globalOf, finalGlobals}
 use Rattle.definition.specs.Classes.{parentOf, fields, methods}
-use Rattle.definition.specs.Question.{askEvent, openOn}
+use Rattle.definition.specs.Question.{untilNo}
 use Rattle.definition.specs.Format.{sheetFits, depthsFit}
 use Rattle.definition.specs.Answer.{raisedFunction, raisedClass}
 use Rattle.definition.specs.Outcome.{Outcome, refused, rowsFit, asked}
@@ -49,9 +49,9 @@ isLeave (bring r n d) = false
 isLeave (visit r) = false
 
 module _ (O : Outside) (s : Sheet) where
-  -- what the scope of row r holds when it closes
+  -- what the scope of row r holds when it closes, for the last time: in a sheet past question 3, the only one
   abbrev pub scopeOf : ℕ → List Named
-  scopeOf r = concatMap (λ m. scopeNames (m .stack)) (filter (λ m. isLeave (m .event) && eqb (scopeRow (m .stack)) r) (history O s))
+  scopeOf r = concatMap (λ m. scopeNames (m .stack)) (final (filter (λ m. isLeave (m .event) && eqb (scopeRow (m .stack)) r) (history O s)))
 
   -- the unit's row, and that of its function's body
   abbrev pub unitRow : ℕ
@@ -90,14 +90,9 @@ module _ (O : Outside) (s : Sheet) where
   abbrev pub classesBy : List Class
   classesBy = map classBy (filter (is s CLASS) (from 0 (rows s)))
 
-  -- the moments before the first question of the walk that gets a no
-  abbrev pub untilNo : List Moment → List Moment
-  untilNo [] = []
-  untilNo (m ∷ ms) = if eqb (askEvent O s (m .event) (openOn s (m .stack)) .number) 0 then m ∷ untilNo ms else []
-
   -- the walk's next global: where it stopped, or after all of it
   abbrev pub nextGlobal : ℕ
-  nextGlobal = finalGlobals s (untilNo (history O s))
+  nextGlobal = finalGlobals s (untilNo O s (history O s))
 
 -- what an accepted entry into session S leaves: a sheet s with its byte list ns of names
 abbrev pub newEntry : Session → Sheet → List ℕ → Accepted

@@ -17,7 +17,7 @@ use Rattle.definition.specs.Sheet.{Sheet}
 use Rattle.definition.specs.Meaning.{Meaning, Named, named, nothing, function, class, global, toplevel, variable}
 use Rattle.definition.specs.Outside.{isRecorded, core}
 use Rattle.definition.specs.Outcome.{Outcome, refused}
-use Rattle.session.specs.Session.{Class, Accepted, Session, allNames, memberCount}
+use Rattle.session.specs.Session.{Class, Accepted, Session, memberCount}
 use Rattle.session.specs.Enter.{newEntry, entered, afterEntry}
 
 -- How many name bytes, entries, declarations, classes and members there is room for.
@@ -253,4 +253,4 @@ abbrev pub nameText : Room → List ℕ → List ℕ → List ℕ → Bool → �
 nameText R w n ns ofEntry k =
     if ofEntry && leb 25 k then (if namesFit ns then getD (listed ns) (k - 25) [] else [])
     else if eqb k 0 || not (sessionNamesFit R w n) then []
-    else getD (allNames (sessionIn R w n)) (k - 1) []
+    else getD (fixed ++ listed (nameBytes R w n)) (k - 1) []
