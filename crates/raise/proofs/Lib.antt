@@ -1,0 +1,4 @@
+pub mod NumberLaws
+pub mod OwnerLaws
+pub mod RowLaws
+pub mod BasedLaws
