@@ -1,0 +1,2 @@
+-- What reading the names of a session promises.
+pub mod Listing

@@ -1,0 +1,2 @@
+-- Rows of entries and class numbers as the program asks about them.
+pub mod Rows
