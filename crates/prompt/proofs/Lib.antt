@@ -1,0 +1,2 @@
+mod EnteredLaws
+mod TellLaws
