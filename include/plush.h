@@ -4,13 +4,13 @@
  * docs/FORMAT.md says what sheets, names and answer rows are; the names of the constants below stand for its numbers.
  *
  * What every routine here does:
- * - Memory is the caller's. A routine reads the sheet and the names, writes the lent words and its own stack, keeps no pointer
+ * - Memory is the caller's. A routine reads what it is passed, writes the lent words and bytes and its own stack, keeps no pointer
  *   after it returns, allocates nothing, and has no static data.
- * - So several threads may call at the same time, each with lent words of its own; they may share sheets and names that nobody
- *   changes meanwhile.
+ * - So several threads may call at the same time, each with lent words and bytes of its own; they may share sheets and names that
+ *   nobody changes meanwhile.
  * - Any numbers and bytes are accepted as input: what does not fit is refused, and a call always ends.
  * - What the proofs take for granted is what a C compiler cannot see: a pointer is aligned and not null, also with length 0; so
- *   many elements stand behind it as the length says; lent words overlap nothing else that is passed.
+ *   many elements stand behind it as the length says; lent words and bytes overlap nothing else that is passed.
  * - Stack: 2 MiB are enough for each call. A thread with less must be given more before it calls (pthread_attr_setstacksize).
  */
 #ifndef PLUSH_H
@@ -56,6 +56,79 @@ uint32_t plush_from_columns(const uint32_t *source, size_t source_words, uint32_
  * Returns the number, 0 where the bytes are no name of the list, or the list is refused by question 2; no place is read then.
  */
 uint32_t plush_find_name(const uint8_t *names, size_t name_bytes, const uint8_t *name, size_t bytes, uint32_t *found, size_t found_words);
+
+/* A session, which keeps what accepted entries at a prompt declared, is PLUSH_SESSION_WORDS words and PLUSH_SESSION_BYTES bytes of the caller's. They may be
+ * copied and stored; between calls nobody else need write them, but any words and bytes are accepted as input: those that are no session are refused.
+ *
+ * words, session_words   lent: of any length; a session has PLUSH_SESSION_WORDS at least
+ * bytes, session_bytes   lent: of any length; a session has PLUSH_SESSION_BYTES at least
+ *
+ * Makes the session a fresh one: zeros, and the fixed names.
+ */
+void plush_session_fresh(uint32_t *words, size_t session_words, uint8_t *bytes, size_t session_bytes);
+
+/* Enters a sheet of one unit without imports into a session: its names are resolved over what earlier entries declared, and if nothing gets a no, the session
+ * keeps what the entry declares.
+ *
+ * words, session_words   lent: the words of a session
+ * bytes, session_bytes   lent: the bytes of a session
+ * sheet, sheet_words     the entry's rows, eight words each; it starts at the session's number of globals (PLUSH_SESSION_GLOBALS) or above
+ * names, name_bytes      the entry's listed names, each ended by byte 10
+ * answer, answer_words   lent: the answer rows, eight words each, and zeros to its end. If they do not fit, question 22 gets a no
+ * report, report_words   lent, of any length, also 0: the words PLUSH_REPORT_.. as far as it goes, and zeros after the eighth
+ *
+ * Returns the number of the question that got a no (PLUSH_QUESTION_..), or 0: the entry was accepted. A session that is none, whatever its words, bytes and
+ * lengths, is refused by PLUSH_QUESTION_SESSION, and an entry that the session has no room for by PLUSH_QUESTION_SESSION_ROOM. After a refusal every answer
+ * word is 0, the session's bytes are as before, and so are its words; but after questions 5 to 21 PLUSH_SESSION_GLOBALS is the next global of the walk where
+ * it stopped. A session that passes question 23 passes it again afterwards.
+ *
+ * In answer rows names have the session's numbers, and functions and classes of entry e, which is PLUSH_SESSION_ENTRIES before it was accepted, have 2,048 * e
+ * more than they would have in a sheet by itself. In the report of a refusal the name has the entry's number.
+ */
+uint32_t plush_enter(uint32_t *words, size_t session_words, uint8_t *bytes, size_t session_bytes, const uint32_t *sheet, size_t sheet_words,
+                     const uint8_t *names, size_t name_bytes, uint32_t *answer, size_t answer_words, uint32_t *report, size_t report_words);
+
+/* Tells where the text of a name stands, without copying it.
+ *
+ * words, session_words   the words of a session
+ * bytes, session_bytes   the bytes of a session
+ * names, name_bytes      the listed names of an entry, each ended by byte 10
+ * whose                  0: the number is the session's, as in answer rows; any other: the entry's, as in refusals of this entry
+ * number                 the number of the name
+ * place, place_words     lent, of any length, also 0: the words PLUSH_PLACE_.. as far as it goes, and zeros after the third
+ *
+ * Returns how many bytes the text has: it is bytes[start] or names[start] and those that follow, without an end. 0, and zeros in the place, where the number
+ * names nothing, or where the list in which it would stand is refused: the entry's by question 2, the session's by question 23. Fixed names stand in the
+ * session's bytes, also those of an entry.
+ */
+uint32_t plush_name_text(const uint32_t *words, size_t session_words, const uint8_t *bytes, size_t session_bytes, const uint8_t *names,
+                         size_t name_bytes, uint32_t whose, uint32_t number, uint32_t *place, size_t place_words);
+
+/* The words and bytes of a session. */
+enum {
+    PLUSH_SESSION_WORDS = 51088,
+    PLUSH_SESSION_BYTES = 32936
+};
+
+/* The first words of a session: how many it has of what. */
+enum {
+    PLUSH_SESSION_GLOBALS = 0,
+    PLUSH_SESSION_ENTRIES = 1, /* accepted ones */
+    PLUSH_SESSION_SHOWN = 2, /* names on show: 0 */
+    PLUSH_SESSION_NAMES = 3, /* listed ones */
+    PLUSH_SESSION_NAME_BYTES = 4, /* of these, with their ends */
+    PLUSH_SESSION_DECLARATIONS = 5,
+    PLUSH_SESSION_CLASSES = 6,
+    PLUSH_SESSION_MEMBERS = 7 /* of the classes: fields and methods */
+};
+
+/* The words of a place. */
+enum {
+    PLUSH_PLACE_LIST = 0, /* 0: in the session's bytes; 1: in the entry's names */
+    PLUSH_PLACE_START = 1, /* the place of its first byte there */
+    PLUSH_PLACE_LENGTH = 2,
+    PLUSH_PLACE_WORDS = 3
+};
 
 /* The words of a report. */
 enum {
@@ -193,7 +266,9 @@ enum {
     PLUSH_QUESTION_PARENT_RECORD = 19, /* a class's parent has a record */
     PLUSH_QUESTION_INIT_THERE = 20, /* a constructed class has an init */
     PLUSH_QUESTION_INIT_ARITY = 21, /* with one parameter more than arguments */
-    PLUSH_QUESTION_ROOM = 22 /* the answer rows fit the lent words */
+    PLUSH_QUESTION_ROOM = 22, /* the answer rows fit the lent words */
+    PLUSH_QUESTION_SESSION = 23, /* the session is one; the entry is one unit without imports, and starts at its globals or above */
+    PLUSH_QUESTION_SESSION_ROOM = 24 /* the session has room for the entry */
 };
 
 /* The limits of what is accepted. */

@@ -101,7 +101,183 @@ static void check_found(size_t name_bytes, const char *name, uint32_t number, ui
     }
 }
 
+/* A fresh session, in words and bytes that go on behind the lent ones. */
+static uint32_t session[PLUSH_SESSION_WORDS + 8];
+static uint8_t session_bytes[PLUSH_SESSION_BYTES + 8];
+static const char FIXED[] = "Int64\nFloat64\nString\nArray\nByteArray\nDict\nUIEvent\nAudioNeeded\nAudioData\nkind\nwindow_id\nkey\nbutton\nx\ny\ndx\ndy\n"
+                            "text\nnum_samples\nnum_channels\ndevice_id\nnull\ninit\nMAIN_UNIT\n";
+
+static void check_fresh(size_t words, size_t bytes) {
+    memset(session, 0xA5, sizeof session);
+    memset(session_bytes, 0xA5, sizeof session_bytes);
+    plush_session_fresh(session, words, session_bytes, bytes);
+    check(all(session, words, 0) && all(session + words, 8, STALE), "the words of a fresh session, and those after them");
+    for (size_t i = 0; i < bytes + 8; i++) {
+        uint8_t byte = i >= bytes ? 0xA5 : i < strlen(FIXED) ? (uint8_t)FIXED[i] : 0;
+        check(session_bytes[i] == byte, "the bytes of a fresh session, and those after them");
+    }
+}
+
+/* Texts of names, by a place in words that go on behind the lent ones. */
+static void check_text(size_t name_bytes, uint32_t whose, uint32_t number, const char *expected, uint32_t list, const char *what) {
+    for (size_t lent = 0; lent <= 4; lent++) {
+        uint32_t place[5], length = (uint32_t)strlen(expected);
+        memset(place, 0xA5, sizeof place);
+        check(plush_name_text(session, PLUSH_SESSION_WORDS, session_bytes, PLUSH_SESSION_BYTES, NAMES, name_bytes, whose, number, place, lent) == length,
+              what);
+        check(all(place + lent, 5 - lent, STALE), "words after the lent ones are as before");
+        if (lent >= PLUSH_PLACE_WORDS) {
+            const uint8_t *bytes = place[PLUSH_PLACE_LIST] == 0 ? session_bytes : NAMES;
+            check(place[PLUSH_PLACE_LIST] == list && place[PLUSH_PLACE_LENGTH] == length, what);
+            check(memcmp(bytes + place[PLUSH_PLACE_START], expected, length) == 0, what);
+            check(length != 0 || place[PLUSH_PLACE_START] == 0, "no text stands at 0");
+            check(all(place + PLUSH_PLACE_WORDS, lent - PLUSH_PLACE_WORDS, 0), "zeros after the third word of a place");
+        }
+    }
+}
+
+static void check_texts(void) {
+    check_text(4, 0, 1, "Int64", 0, "the session's first name");
+    check_text(4, 0, 24, "MAIN_UNIT", 0, "its last fixed one");
+    check_text(4, 0, 25, "", 0, "a fresh session lists none");
+    check_text(4, 0, 0, "", 0, "0 is no number");
+    check_text(4, 1, 6, "Dict", 0, "a fixed name of the entry stands in the session");
+    check_text(4, 1, 26, "p", 1, "the entry's second name");
+    check_text(4, 7, 25, "f", 1, "any word but 0 says the entry's");
+    check_text(4, 1, 27, "", 0, "past the entry's last");
+    check_text(4, 1, 4294967295u, "", 0, "the largest number");
+    check_text(3, 1, 25, "", 0, "the entry's list is refused");
+    check_text(3, 1, 22, "null", 0, "which does not matter for a fixed name");
+    session_bytes[0] = 'i';
+    check_text(4, 0, 24, "", 0, "the session's names are refused");
+    check_text(4, 1, 25, "f", 1, "which does not matter for the entry's");
+}
+
+/* The entries of crates/session/specs/Samples.antt, their answers, and what the session keeps of them: rows of entries, declarations, classes and members.
+ * class A { init(a, p) { a.q = p; } m(a) {} } let f = || return nil; let var b = nil; */
+static const uint32_t ENTRY_1[192] = {
+    0, 0, 1, 0, 0, 0, 0, 14, 2, 0, 2, 0, 0, 0, 0, 0, 4, 14, 3, 0, 1, 2, 25, 0, 6, 11, 4, 0, 1, 3, 23, 0, 11, 5, 0, 0, 1, 4, 26, 0,
+    11, 6, 0, 0, 1, 5, 27, 0, 25, 0, 7, 0, 1, 6, 0, 0, 21, 0, 8, 0, 1, 7, 0, 0, 54, 10, 9, 0, 1, 8, 28, 0, 50, 0, 0, 0, 1, 9, 26, 0,
+    50, 0, 0, 0, 1, 10, 27, 0, 6, 0, 12, 0, 1, 11, 29, 0, 11, 13, 0, 0, 1, 12, 26, 0, 25, 0, 0, 0, 1, 13, 0, 0, 6, 0, 15, 0, 1, 14, 0, 1,
+    25, 0, 16, 0, 1, 15, 0, 0, 29, 21, 17, 0, 1, 16, 30, 0, 52, 0, 18, 0, 1, 17, 0, 0, 6, 0, 19, 0, 1, 18, 0, 0, 22, 0, 20, 0, 1, 19, 0, 0,
+    40, 0, 0, 0, 1, 20, 0, 0, 29, 23, 22, 0, 1, 21, 31, 1, 40, 0, 0, 0, 1, 22, 0, 0, 30, 0, 0, 0, 1, 23, 2, 0};
+static const char NAMES_1[] = "A\na\np\nq\nm\nf\nb\n";
+static const uint32_t ANSWER_1[96] = {
+    2, 22, 0, 0, 1, 2, 0, 0, 2, 23, 0, 28, 0, 0, 0, 0, 2, 24, 23, 3, 0, 0, 0, 0, 2, 24, 29, 11, 0, 0, 0, 0, 3, 20, 0, 0, 0, 0, 0, 0, 9, 4, 0, 3, 0, 0, 0, 0,
+    10, 4, 1, 3, 0, 0, 0, 0, 11, 20, 0, 0, 0, 0, 0, 0, 14, 20, 0, 0, 0, 0, 0, 0, 16, 1, 18, 0, 0, 0, 0, 0, 18, 20, 0, 0, 0, 0, 0, 0, 21, 3, 0, 0, 1, 0, 0, 0};
+/* class B : A {} f; A(nil); A.m(nil); b = nil; let f = nil; */
+static const uint32_t ENTRY_2[176] = {
+    0, 0, 1, 0, 0, 0, 1, 3, 2, 0, 2, 0, 0, 0, 0, 0, 4, 3, 0, 0, 1, 2, 29, 26, 6, 0, 4, 0, 1, 3, 0, 1, 25, 0, 5, 0, 1, 4, 0, 0,
+    20, 7, 6, 0, 1, 5, 0, 0, 50, 0, 0, 0, 1, 6, 25, 0, 20, 11, 8, 0, 1, 7, 0, 0, 59, 0, 9, 0, 1, 8, 0, 0, 50, 10, 0, 0, 1, 9, 26, 0,
+    40, 0, 0, 0, 1, 10, 0, 0, 20, 16, 12, 0, 1, 11, 0, 0, 59, 0, 13, 0, 1, 12, 0, 0, 54, 15, 14, 0, 1, 13, 28, 0, 50, 0, 0, 0, 1, 14, 26, 0,
+    40, 0, 0, 0, 1, 15, 0, 0, 21, 19, 17, 0, 1, 16, 0, 0, 50, 18, 0, 0, 1, 17, 27, 0, 40, 0, 0, 0, 1, 18, 0, 0, 29, 21, 20, 0, 1, 19, 25, 0,
+    40, 0, 0, 0, 1, 20, 0, 0, 30, 0, 0, 0, 1, 21, 2, 0};
+static const char NAMES_2[] = "f\nA\nb\nm\nB\n";
+static const uint32_t ANSWER_2[80] = {
+    2, 22, 258, 0, 1, 2, 0, 0, 2, 23, 0, 28, 0, 0, 0, 0, 2, 24, 23, 3, 0, 0, 0, 0, 2, 24, 29, 11, 0, 0, 0, 0, 3, 20, 0, 0, 0, 0, 0, 0, 6, 1, 18, 0, 0, 0, 0, 0,
+    9, 2, 258, 0, 0, 0, 0, 0, 13, 1, 11, 0, 0, 0, 0, 0, 17, 3, 0, 0, 1, 0, 0, 0, 19, 3, 1, 0, 0, 0, 0, 0};
+/* let c = nil; n; let d = nil; */
+static const uint32_t ENTRY_3[80] = {
+    0, 0, 1, 0, 0, 0, 2, 2, 2, 0, 2, 0, 0, 0, 0, 0, 6, 0, 3, 0, 1, 2, 0, 1, 25, 0, 4, 0, 1, 3, 0, 0, 29, 6, 5, 0, 1, 4, 25, 0,
+    40, 0, 0, 0, 1, 5, 0, 0, 20, 8, 7, 0, 1, 6, 0, 0, 50, 0, 0, 0, 1, 7, 26, 0, 29, 0, 9, 0, 1, 8, 27, 0, 40, 0, 0, 0, 1, 9, 0, 0};
+static const char NAMES_3[] = "c\nn\nd\n";
+/* f; */
+static const uint32_t ENTRY_4[48] = {
+    0, 0, 1, 0, 0, 0, 2, 2, 2, 0, 2, 0, 0, 0, 0, 0, 6, 0, 3, 0, 1, 2, 0, 1, 25, 0, 4, 0, 1, 3, 0, 0, 20, 0, 5, 0, 1, 4, 0, 0, 50, 0, 0, 0, 1, 5, 25, 0};
+static const char NAMES_4[] = "f\n";
+static const uint32_t ANSWER_4[16] = {
+    2, 20, 0, 0, 0, 0, 0, 0, 5, 3, 1, 0, 0, 0, 0, 0};
+static const uint32_t ENTRIES[10] = {
+    7, 14, 3, 1, 3, 8, 16, 5, 2, 6};
+static const uint32_t DECLARATIONS[20] = {
+    25, 2, 258, 0, 30, 1, 18, 0, 31, 3, 0, 1, 32, 2, 2306, 0, 30, 3, 1, 0};
+static const uint32_t CLASSES[10] = {
+    258, 25, 0, 1, 2, 2306, 32, 258, 1, 2};
+static const uint32_t MEMBERS[18] = {
+    28, 0, 0, 23, 3, 2, 29, 11, 1, 28, 0, 0, 23, 3, 2, 29, 11, 1};
+
+/* Where the session's rows begin. */
+enum { ENTRY_ROWS = 8, DECLARATION_ROWS = 5008, CLASS_ROWS = 21392, MEMBER_ROWS = 26512 };
+
+/* The session's words are those counts and as many of the rows, its bytes the fixed names and those listed, with zeros to their ends. */
+static void check_session(const uint32_t counts[8], const char *listed, const char *what) {
+    static uint32_t words[PLUSH_SESSION_WORDS];
+    static uint8_t bytes[PLUSH_SESSION_BYTES];
+    memset(words, 0, sizeof words);
+    memset(bytes, 0, sizeof bytes);
+    memcpy(words, counts, 8 * sizeof *words);
+    memcpy(words + ENTRY_ROWS, ENTRIES, 5 * counts[PLUSH_SESSION_ENTRIES] * sizeof *words);
+    memcpy(words + DECLARATION_ROWS, DECLARATIONS, 4 * counts[PLUSH_SESSION_DECLARATIONS] * sizeof *words);
+    memcpy(words + CLASS_ROWS, CLASSES, 5 * counts[PLUSH_SESSION_CLASSES] * sizeof *words);
+    memcpy(words + MEMBER_ROWS, MEMBERS, 3 * counts[PLUSH_SESSION_MEMBERS] * sizeof *words);
+    memcpy(bytes, FIXED, strlen(FIXED));
+    memcpy(bytes + strlen(FIXED), listed, strlen(listed));
+    check(memcmp(session, words, sizeof words) == 0 && all(session + PLUSH_SESSION_WORDS, 8, STALE), what);
+    check(memcmp(session_bytes, bytes, sizeof bytes) == 0, what);
+    for (size_t i = PLUSH_SESSION_BYTES; i < sizeof session_bytes; i++) {
+        check(session_bytes[i] == 0xA5, "bytes after those of a session are as before");
+    }
+}
+
+/* Enters a sheet into the session's first words, with lent words that hold something else before and go on behind those lent. */
+static void check_entry(size_t words, const uint32_t *sheet, size_t sheet_words, const char *names, size_t lent, const uint32_t line[8], const uint32_t *rows,
+                        const char *what) {
+    static uint32_t answered[512];
+    size_t count = 8 * line[PLUSH_REPORT_ROWS];
+    memset(answered, 0xA5, sizeof answered);
+    memset(report, 0xA5, sizeof report);
+    uint32_t question = plush_enter(session, words, session_bytes, PLUSH_SESSION_BYTES, sheet, sheet_words, (const uint8_t *)names, strlen(names), answered, lent,
+                                    report, 10);
+    check(question == line[PLUSH_REPORT_QUESTION] && memcmp(report, line, 8 * sizeof *report) == 0, what);
+    check(all(report + 8, 2, 0) && all(report + 10, 6, STALE), "zeros after the eighth word of the lent report, and as before after the last");
+    check(count == 0 || memcmp(answered, rows, count * sizeof *rows) == 0, what);
+    check(all(answered + count, lent - count, 0) && all(answered + lent, 512 - lent, STALE), "zeros after the answer rows, and as before after the last");
+}
+
+static void check_entries(void) {
+    static const uint32_t told_1[8] = {0, 0, 0, 0, 0, 12, 1}, told_2[8] = {0, 0, 0, 0, 0, 10, 2}, told_3[8] = {8, 0, 1, 7, 26}, told_4[8] = {0, 0, 0, 0, 0, 2, 2};
+    static const uint32_t no_session[8] = {PLUSH_QUESTION_SESSION}, no_room[8] = {PLUSH_QUESTION_ROOM}, full[8] = {PLUSH_QUESTION_SESSION_ROOM};
+    static const uint32_t counts_1[8] = {1, 1, 0, 7, 14, 3, 1, 3}, counts_2[8] = {2, 2, 0, 8, 16, 5, 2, 6};
+    static const uint32_t counts_3[8] = {3, 2, 0, 8, 16, 5, 2, 6}, broken[8] = {2, 2, 0, 9, 16, 5, 2, 6};
+    static const char listed_1[] = "A\na\np\nq\nm\nf\nb\n", listed_2[] = "A\na\np\nq\nm\nf\nb\nB\n";
+    check_fresh(PLUSH_SESSION_WORDS, PLUSH_SESSION_BYTES);
+    check_entry(PLUSH_SESSION_WORDS, ENTRY_1, 192, NAMES_1, 480, told_1, ANSWER_1, "the first entry");
+    check_session(counts_1, listed_1, "the session after it");
+    check_text(4, 0, 30, "f", 0, "a name that it brought");
+    check_entry(PLUSH_SESSION_WORDS, ENTRY_2, 176, NAMES_2, 79, no_room, NULL, "79 answer words for 10 rows");
+    check_entry(PLUSH_SESSION_WORDS - 1, ENTRY_2, 176, NAMES_2, 480, no_session, NULL, "a word less than a session has");
+    check_entry(0, ENTRY_2, 176, NAMES_2, 480, no_session, NULL, "no words of a session");
+    check_session(counts_1, listed_1, "the session as before");
+    check_entry(PLUSH_SESSION_WORDS, ENTRY_2, 176, NAMES_2, 480, told_2, ANSWER_2, "the second entry, which uses what the first declared");
+    check_session(counts_2, listed_2, "the session after both");
+    session[PLUSH_SESSION_NAMES] = 9;
+    check_entry(PLUSH_SESSION_WORDS, ENTRY_4, 48, NAMES_4, 480, no_session, NULL, "a count of names that is not theirs");
+    check_session(broken, listed_2, "which changes nothing");
+    session[PLUSH_SESSION_NAMES] = 8;
+    for (uint32_t entries = 2; entries < 1000; entries++) {
+        check_entry(PLUSH_SESSION_WORDS, ENTRY_4, 48, NAMES_4, 480, told_4, ANSWER_4, "f is the latest f");
+        check(session[PLUSH_SESSION_ENTRIES] == entries + 1, "and the entry is kept");
+    }
+    check_entry(PLUSH_SESSION_WORDS, ENTRY_4, 48, NAMES_4, 480, full, NULL, "a session keeps 1,000 entries");
+    check(session[PLUSH_SESSION_ENTRIES] == 1000 && session[PLUSH_SESSION_GLOBALS] == 2, "and no more");
+
+    check_fresh(PLUSH_SESSION_WORDS, PLUSH_SESSION_BYTES);
+    check_entry(PLUSH_SESSION_WORDS, ENTRY_1, 192, NAMES_1, 480, told_1, ANSWER_1, "the first entry again");
+    check_entry(PLUSH_SESSION_WORDS, ENTRY_2, 176, NAMES_2, 80, told_2, ANSWER_2, "the second again, with 80 words for 10 rows");
+    check_entry(PLUSH_SESSION_WORDS, ENTRY_3, 80, NAMES_3, 480, told_3, NULL, "n is not declared: its position and the entry's number of its name");
+    check_session(counts_3, listed_2, "the let before it used a global");
+    check_entry(PLUSH_SESSION_WORDS, ENTRY_3, 80, NAMES_3, 480, no_session, NULL, "so an entry that starts at 2 is refused");
+    check_session(counts_3, listed_2, "and nothing changes");
+    check(plush_enter(session, 0, session_bytes, 0, ENTRY_4, 48, NAMES, 2, answer, 0, report, 0) == PLUSH_QUESTION_SESSION, "nothing lent at all");
+    check_session(counts_3, listed_2, "nothing written");
+}
+
 int main(void) {
+    check_fresh(0, 0);
+    check_fresh(1, 167);
+    check_fresh(PLUSH_SESSION_WORDS, PLUSH_SESSION_BYTES);
+    check_texts();
+    check_entries();
     check_found(4, "f", 25, 1, "f is found");
     check_found(4, "p", 26, 1, "p is found");
     check_found(4, "MAIN_UNIT", 24, 1, "a fixed name is found");
@@ -128,6 +304,6 @@ int main(void) {
     static const uint32_t line[8] = {PLUSH_QUESTION_NULL_DECLARED, 7, 1, 20, PLUSH_NAME_NULL, 0, 0, 0};
     check(resolve(undeclared, 80, 4, 64, 8) == PLUSH_QUESTION_NULL_DECLARED, "null is not declared");
     check(memcmp(report, line, sizeof line) == 0, "position and name of a refusal");
-    puts(failed ? "edges: FAILED" : "edges: S1, refusals 1, 2, 3, 9 and 22, report slices of 0 to 16 words, S1 by column and back, names found: as they must be");
+    puts(failed ? "edges: FAILED" : "edges: S1, refusals 1, 2, 3, 9 and 22, report slices of 0 to 16 words, S1 by column and back, names found, fresh sessions, texts of names, entries and their refusals 8, 22, 23 and 24: as they must be");
     return failed;
 }

@@ -88,6 +88,8 @@ python3 "$here/constants.py"
 gcc $flags "$here/batch.c" "$library/libplush.a" -o "$out/batch_c"
 cargo build --offline --quiet --release --manifest-path "$top/bindings/rust/Cargo.toml"
 rustc --edition 2021 -O "$here/batch.rs" --extern plush="$out/cargo/release/libplush.rlib" -L native="$library" -o "$out/batch_rust"
+rustc --edition 2021 -O "$here/session.rs" --extern plush="$out/cargo/release/libplush.rlib" -L native="$library" -o "$out/session_rust"
+"$out/session_rust"
 (cd "$build" && rt check plush_serve > "$out/serve.log" 2>&1) || { tail -20 "$out/serve.log"; exit 1; }
 oracle=
 if [ -n "$plush" ]; then

@@ -44,7 +44,7 @@ def broken():
     yield "two zeros", "row", head[:70] + b"00".rjust(10) + WHOLE[80:]
     yield "no newline after the header", "row", head[:80] + b" " + WHOLE[81:]
     yield "81 zero bytes", "row", bytes(81)
-    for verb in (0, 2, 3, 4, 5, 7, 8, 11, 12, MOST):
+    for verb in (0, 2, 3, 4, 7, 8, 11, 12, MOST):
         yield f"verb {verb}", "verb", resolve(verb=verb)
     for flags in (1, 2, 3, 4, MOST):
         yield f"flags {flags}", "flag", resolve(flags=flags)
@@ -58,6 +58,11 @@ def broken():
     yield "flag, x, y and bodies", "flag", resolve(flags=1, x=2049, y=1, second_sheet=1, second_names=1)
     yield "x, y and bodies", "x", resolve(x=2049, y=1, second_sheet=1, second_names=1)
     yield "y and bodies", "y", resolve(y=1, second_sheet=1, second_names=1)
+    yield "verb 5 with a flag", "flag", header(5, 0, len(NAMES), 1, 0, 25, 0, 0) + NAMES
+    yield "verb 5 with x 2", "x", header(5, 0, len(NAMES), 0, 2, 25, 0, 0) + NAMES
+    yield "verb 5 with a sheet", "body", header(5, 81, len(NAMES), 0, 1, 25, 0, 0) + b" " * 81 + NAMES
+    yield "verb 5 with second names", "body", header(5, 0, len(NAMES), 0, 1, 25, 0, 2) + NAMES + b"a\n"
+    yield "verb 5, and the input ends in the names", "end", header(5, 0, len(NAMES), 0, 1, MOST, 0, 0) + NAMES[:-1]
     looked_for = header(6, 0, len(NAMES), 0, 0, 0, 0, 1) + NAMES + b"p"
     yield "verb 6 with a flag", "flag", header(6, 0, 0, 1, 0, 0, 0, 0)
     yield "verb 6 with x 1", "x", header(6, 0, 0, 0, 1, 0, 0, 0)

@@ -1,7 +1,7 @@
 //! The symbol resolver of Plush behind safe functions. It is proved in Rattle and linked as libplush.a (build.rs); the C routine and
 //! what it promises stand in `include/plush.h`. `docs/FORMAT.md` says what sheets, names and answer rows are.
 //!
-//! - Nothing is allocated but by [`resolve_to_vec`], and there is no static data: threads may call at the same time.
+//! - Nothing is allocated but by [`resolve_to_vec`] and [`Session::new`], and there is no static data: threads may call at the same time.
 //! - A call takes up to 2 MiB of stack, which is what `std::thread` gives a thread. A thread that is made with less, or that is deep
 //!   in other calls, must be given more.
 use std::error::Error;
@@ -11,9 +11,11 @@ pub mod columns;
 pub mod kinds;
 pub mod limits;
 mod questions;
+mod session;
 
 pub use kinds::Kind;
 pub use questions::Question;
+pub use session::{NumberOf, Session, SESSION_BYTES, SESSION_WORDS};
 
 /// Words of a sheet row and of an answer row.
 pub const ROW_WORDS: usize = 8;
@@ -24,7 +26,7 @@ pub const ANSWER_WORDS: usize = 16384;
 const REPORT_WORDS: usize = 8;
 
 // A slice is a pointer and a length. The pointer of an empty Rust slice is aligned and not null, as the routine wants it, and
-// `&mut` keeps lent words apart from all else.
+// `&mut` keeps lent words and bytes apart from all else.
 extern "C" {
     fn plush_resolve(
         sheet: *const u32,
@@ -43,6 +45,33 @@ extern "C" {
         bytes: usize,
         found: *mut u32,
         found_words: usize,
+    ) -> u32;
+    fn plush_session_fresh(words: *mut u32, session_words: usize, bytes: *mut u8, session_bytes: usize);
+    fn plush_enter(
+        words: *mut u32,
+        session_words: usize,
+        bytes: *mut u8,
+        session_bytes: usize,
+        sheet: *const u32,
+        sheet_words: usize,
+        names: *const u8,
+        name_bytes: usize,
+        answer: *mut u32,
+        answer_words: usize,
+        report: *mut u32,
+        report_words: usize,
+    ) -> u32;
+    fn plush_name_text(
+        words: *const u32,
+        session_words: usize,
+        bytes: *const u8,
+        session_bytes: usize,
+        names: *const u8,
+        name_bytes: usize,
+        whose: u32,
+        number: u32,
+        place: *mut u32,
+        place_words: usize,
     ) -> u32;
     fn plush_to_columns(source: *const u32, source_words: usize, target: *mut u32, target_words: usize) -> u32;
     fn plush_from_columns(source: *const u32, source_words: usize, target: *mut u32, target_words: usize) -> u32;
@@ -246,6 +275,11 @@ pub fn resolve<'a>(sheet: &[u32], names: &[u8], answer: &'a mut [u32]) -> Result
             report.len(),
         )
     };
+    told(report, answer)
+}
+
+/// What a report says, with the answer rows of the lent words.
+fn told(report: [u32; REPORT_WORDS], answer: &[u32]) -> Result<Resolved<'_>, Refusal> {
     let [number, file, line, column, name, rows, globals, _] = report;
     if number == 0 {
         return Ok(Resolved { words: &answer[..ROW_WORDS * rows as usize], globals });

@@ -27,9 +27,11 @@ pub enum Question {
     InitThere = 20,
     InitArity = 21,
     Room = 22,
+    Session = 23,
+    SessionRoom = 24,
 }
 
-const ALL: [Question; 22] = [
+const ALL: [Question; 24] = [
     Question::RowsFit,
     Question::NamesFit,
     Question::FormatFits,
@@ -52,6 +54,8 @@ const ALL: [Question; 22] = [
     Question::InitThere,
     Question::InitArity,
     Question::Room,
+    Question::Session,
+    Question::SessionRoom,
 ];
 
 impl Question {
@@ -60,7 +64,7 @@ impl Question {
         ALL.into_iter().find(|&question| question as u32 == number)
     }
 
-    /// Is it asked of a row? The others are asked of the whole input, or of the lent words.
+    /// Is it asked of a row? The others are asked of the whole input, of the lent words, or of the session.
     pub fn has_position(self) -> bool {
         (Question::InLoop as u32..=Question::InitArity as u32).contains(&(self as u32))
     }
@@ -93,6 +97,10 @@ impl fmt::Display for Question {
             Question::InitThere => "the constructed class has no init",
             Question::InitArity => "init has another number of parameters than the call has arguments, self besides",
             Question::Room => "the answer rows do not fit the lent words",
+            Question::Session => {
+                "the session is none, or the entry is not one unit without imports, or starts below the session's globals"
+            }
+            Question::SessionRoom => "the session has no room for the entry",
         })
     }
 }

@@ -1,2 +1,4 @@
 pub mod Resolved
+pub mod SessionEntered
 pub mod Found
+pub mod Named

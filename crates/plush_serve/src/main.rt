@@ -7,11 +7,13 @@ mod say;
 
 use columns_text::columns_lent;
 use find_text::find_lent;
+use fresh_session::fresh;
 use input::fill;
 use input::read_part;
 use input::skip;
 use libc::STDIN_FILENO;
 use libc::STDOUT_FILENO;
+use name_reply::name_lent;
 use request::Request;
 use request::broken;
 use request::read_request;
@@ -51,6 +53,19 @@ fn reply_found(names: &[u8], name: &[u8], text: &mut [u8]) -> bool {
     write(&text[..n])
 }
 
+// The reply of the number of a name, of a session or of an entry with these names.
+fn reply_name<'a>(
+    words: &[u32],
+    bytes: &'a [u8],
+    names: &'a [u8],
+    whose: u32,
+    number: u32,
+    text: &mut [u8],
+) -> bool {
+    let n = name_lent(words, bytes, names, whose, number, text);
+    write(&text[..n])
+}
+
 // Verb 1: resolves a sheet. Of a body that is too long one byte more than the longest accepted is kept, and the rest is read past.
 fn resolve(request: Request, sheet: &mut [u8], names: &mut [u8], text: &mut [u8]) -> bool {
     let s = read_part(request.sheet as usize, sheet);
@@ -62,6 +77,21 @@ fn resolve(request: Request, sheet: &mut [u8], names: &mut [u8], text: &mut [u8]
         return complain(broken::CUT_OFF);
     }
     reply_resolved(&sheet[..s], &names[..n], request.x as usize, text)
+}
+
+// Verb 5: tells the text of a name, of the session or of the entry whose names are handed over.
+fn tell_name(
+    request: Request,
+    words: &[u32],
+    bytes: &[u8],
+    names: &mut [u8],
+    text: &mut [u8],
+) -> bool {
+    let n = read_part(request.names as usize, names);
+    if !skip(request.names as usize - n) {
+        return complain(broken::CUT_OFF);
+    }
+    reply_name(words, bytes, &names[..n], request.x, request.y, text)
 }
 
 // Verb 6: finds a name. The bytes that are looked for, fewer than a sheet's text may have, are kept in its place.
@@ -87,7 +117,14 @@ fn rearrange(request: Request, back: bool, sheet: &mut [u8], text: &mut [u8]) ->
 }
 
 // The request of a header, by its verb.
-fn answer(header: &[u8], sheet: &mut [u8], names: &mut [u8], text: &mut [u8]) -> bool {
+fn answer(
+    header: &[u8],
+    words: &mut [u32],
+    bytes: &mut [u8],
+    sheet: &mut [u8],
+    names: &mut [u8],
+    text: &mut [u8],
+) -> bool {
     let request = read_request(header);
     if request.broken != 0 {
         return complain(request.broken);
@@ -95,6 +132,7 @@ fn answer(header: &[u8], sheet: &mut [u8], names: &mut [u8], text: &mut [u8]) ->
     let verb = request.verb;
     match verb {
         verb::RESOLVE => resolve(request, sheet, names, text),
+        verb::NAME_TEXT => tell_name(request, words, bytes, names, text),
         verb::FIND_NAME => find(request, sheet, names, text),
         verb::TO_COLUMNS => rearrange(request, false, sheet, text),
         verb::FROM_COLUMNS => rearrange(request, true, sheet, text),
@@ -103,7 +141,13 @@ fn answer(header: &[u8], sheet: &mut [u8], names: &mut [u8], text: &mut [u8]) ->
 }
 
 // One request. Where there is no byte of a header, there is no request, and nothing is said. Returns false where the program is to end.
-fn step(sheet: &mut [u8], names: &mut [u8], text: &mut [u8]) -> bool {
+fn step(
+    words: &mut [u32],
+    bytes: &mut [u8],
+    sheet: &mut [u8],
+    names: &mut [u8],
+    text: &mut [u8],
+) -> bool {
     let mut header = [0u8; 81];
     let first = libc::read(STDIN_FILENO, &mut header);
     if first == 0 {
@@ -117,24 +161,27 @@ fn step(sheet: &mut [u8], names: &mut [u8], text: &mut [u8]) -> bool {
     if fill(&mut header, got) < HEADER_BYTES {
         return complain(broken::CUT_OFF);
     }
-    answer(&header, sheet, names, text)
+    answer(&header, words, bytes, sheet, names, text)
 }
 
-// All requests.
-fn run(sheet: &mut [u8], names: &mut [u8], text: &mut [u8]) {
+// All requests, with the words and bytes of the program's session.
+fn run(words: &mut [u32], bytes: &mut [u8], sheet: &mut [u8], names: &mut [u8], text: &mut [u8]) {
     let mut left = MOST_REQUESTS;
     while left > 0 {
-        if !step(sheet, names, text) {
+        if !step(words, bytes, sheet, names, text) {
             return;
         }
         left -= 1;
     }
 }
 
-// Room for one byte more than the longest sheet and names have, and for the longest report.
+// Room for a session, for one byte more than the longest sheet and names have, and for the longest report.
 fn main() {
+    let mut words = [0u32; 51088];
+    let mut bytes = [0u8; 32936];
     let mut sheet = [0u8; 165889];
     let mut names = [0u8; 32769];
     let mut text = [0u8; 165969];
-    run(&mut sheet, &mut names, &mut text);
+    fresh(&mut words, &mut bytes);
+    run(&mut words, &mut bytes, &mut sheet, &mut names, &mut text);
 }

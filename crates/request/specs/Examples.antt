@@ -32,13 +32,25 @@ breaks : map (λ w. requestOf (header w) .broken)
 unfolding requestOf brokenBy largest told
 breaks = refl
 
+-- verb 5: the entry's names; x is at most 1, y any number; no sheet, no second names, no flag
+text-verb : map (λ w. requestOf (header w) .broken)
+    ((5 ∷ 0 ∷ 4294967295 ∷ 0 ∷ 1 ∷ 4294967295 ∷ 0 ∷ 0 ∷ []) ∷
+    (5 ∷ 0 ∷ 0 ∷ 0 ∷ 0 ∷ 25 ∷ 0 ∷ 0 ∷ []) ∷
+    (5 ∷ 0 ∷ 0 ∷ 0 ∷ 2 ∷ 25 ∷ 0 ∷ 0 ∷ []) ∷
+    (5 ∷ 0 ∷ 0 ∷ 1 ∷ 0 ∷ 25 ∷ 0 ∷ 0 ∷ []) ∷
+    (5 ∷ 81 ∷ 0 ∷ 0 ∷ 0 ∷ 25 ∷ 0 ∷ 0 ∷ []) ∷
+    (5 ∷ 0 ∷ 0 ∷ 0 ∷ 0 ∷ 25 ∷ 0 ∷ 2 ∷ []) ∷ [])
+    ≡ 0 ∷ 0 ∷ 4 ∷ 3 ∷ 6 ∷ 6 ∷ []
+unfolding requestOf brokenBy largest told
+text-verb = refl
+
 -- verb 6: names, and at most 32,768 bytes that are looked for; no sheet
 find-verb : map (λ w. requestOf (header w) .broken)
     ((6 ∷ 0 ∷ 4294967295 ∷ 0 ∷ 0 ∷ 0 ∷ 0 ∷ 32768 ∷ []) ∷
     (6 ∷ 0 ∷ 4 ∷ 0 ∷ 0 ∷ 0 ∷ 0 ∷ 32769 ∷ []) ∷
     (6 ∷ 1 ∷ 4 ∷ 0 ∷ 0 ∷ 0 ∷ 0 ∷ 1 ∷ []) ∷
     (6 ∷ 0 ∷ 4 ∷ 0 ∷ 1 ∷ 0 ∷ 0 ∷ 1 ∷ []) ∷
-    (5 ∷ 0 ∷ 0 ∷ 0 ∷ 0 ∷ 0 ∷ 0 ∷ 0 ∷ []) ∷
+    (4 ∷ 0 ∷ 0 ∷ 0 ∷ 0 ∷ 0 ∷ 0 ∷ 0 ∷ []) ∷
     (7 ∷ 0 ∷ 0 ∷ 0 ∷ 0 ∷ 0 ∷ 0 ∷ 0 ∷ []) ∷ [])
     ≡ 0 ∷ 6 ∷ 6 ∷ 4 ∷ 2 ∷ 2 ∷ []
 unfolding requestOf brokenBy largest told

@@ -9,10 +9,11 @@ use Rattle.definition.specs.Text.{isSheetText, lines, sheetOf}
 use Rattle.request.specs.declared.Request.{Request}
 
 -- the verbs, each with the largest of each number that it takes; a body may be of any length if the verb takes it,
--- but for the bytes that verb 6 looks for
+-- but for the bytes that verb 6 looks for; of verb 5 x says whose names, and y may be any number
 abbrev pub verbs : List (List ℕ)
 verbs =
     (1 ∷ 4294967295 ∷ 4294967295 ∷ 0 ∷ 2048 ∷ 0 ∷ 0 ∷ 0 ∷ []) ∷
+    (5 ∷ 0 ∷ 4294967295 ∷ 0 ∷ 1 ∷ 4294967295 ∷ 0 ∷ 0 ∷ []) ∷
     (6 ∷ 0 ∷ 4294967295 ∷ 0 ∷ 0 ∷ 0 ∷ 0 ∷ 32768 ∷ []) ∷
     (9 ∷ 4294967295 ∷ 0 ∷ 0 ∷ 2048 ∷ 0 ∷ 0 ∷ 0 ∷ []) ∷
     (10 ∷ 4294967295 ∷ 0 ∷ 0 ∷ 2048 ∷ 0 ∷ 0 ∷ 0 ∷ []) ∷ []

@@ -9,8 +9,11 @@ ghost use Rattle.request.specs.Header.{largest, brokenBy, told, requestO
 use ast::limit;
 use text::read_sheet;
 
-// A body may be of any length: what is too long is for a question to refuse.
+// A body may be of any length: what is too long is for a question to refuse. So may the number of a name: one that names nothing has no text.
 const ANY: u32 = 4294967295;
+
+// Whose number of a name it is: 0 says the session's, 1 the entry's.
+const OF_ENTRY: u32 = 1;
 
 // The most bytes that can be looked for.
 const LOOKED_FOR: u32 = 32768;
@@ -34,6 +37,7 @@ fn largest_of(verb: u32) -> [u32; 8]
 {
     match verb {
         verb::RESOLVE => [verb::RESOLVE, ANY, ANY, 0, limit::LENT_ROWS, 0, 0, 0],
+        verb::NAME_TEXT => [verb::NAME_TEXT, 0, ANY, 0, OF_ENTRY, ANY, 0, 0],
         verb::FIND_NAME => [verb::FIND_NAME, 0, ANY, 0, 0, 0, 0, LOOKED_FOR],
         verb::TO_COLUMNS => [verb::TO_COLUMNS, ANY, 0, 0, limit::LENT_ROWS, 0, 0, 0],
         verb::FROM_COLUMNS => [verb::FROM_COLUMNS, ANY, 0, 0, limit::LENT_ROWS, 0, 0, 0],

@@ -1,6 +1,9 @@
 // The verbs.
 pub const RESOLVE: u32 = 1;
 
+// The text of a name, by its number.
+pub const NAME_TEXT: u32 = 5;
+
 // Bytes looked for in a list of names.
 pub const FIND_NAME: u32 = 6;
 

@@ -1,0 +1,26 @@
+use Rattle.fresh_session.proofs.FreshLaws.{fresh-made}
+use borrow.Author.Needs.{needs}
+use Rattle.fresh_session.proofs.fresh.Statement.{statement}
+use Rattle.fresh_session.proofs.fresh.Tie as tie
+
+clear-requires : tie.Need-clear-requires
+clear-requires c κs = search needs
+
+write-fixed-requires : tie.Need-write-fixed-requires
+write-fixed-requires c κs = search needs
+
+same-length : tie.Need-same-length
+same-length c = search needs
+
+same-length-2 : tie.Need-same-length-2
+same-length-2 c = search needs
+
+returns : tie.Need-returns
+returns c =
+    let write-fixed = c .before .before .write-fixed in
+    let clear = c .before .before .before .before .before .before .clear in
+    fresh-made (clear .ensures) (write-fixed .ensures)
+
+pub fresh-spec : {M : Type 1} → statement M
+fresh-spec =
+    tie.close (tie.spec clear-requires write-fixed-requires same-length same-length-2 returns)

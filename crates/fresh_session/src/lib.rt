@@ -1,0 +1,35 @@
+// The fresh session: nothing counted, and the fixed names.
+ghost use mathlib.Core.Path.{_≡_};
+ghost use Prim.Native.Nat.{_≤_};
+ghost use lib.ListN.{length, getD, take, replicate};
+ghost use Rattle.fresh_session.specs.Fresh.{freshByte, freshIn, Fresh};
+use words::clear;
+
+// The bytes of the fixed names, and zeros after them.
+fn write_fixed(bytes: &mut [u8])
+    ensures { λ _. ⌜ now (bytes .exit) ≡ freshIn (length (now (bytes .entry))) ⌝ }
+{
+    let mut i: usize = 0;
+    while i < bytes.len() {
+        bytes[i] = fixed_byte(i);
+        i += 1;
+    }
+}
+
+// Byte `i` of a fresh session.
+fn fixed_byte(i: usize) -> u8
+    ensures { λ x. ⌜ x ≡ freshByte i ⌝ }
+{
+    if i < names::FIXED.len() {
+        return names::FIXED[i];
+    }
+    0
+}
+
+// Makes the session in the lent words and bytes a fresh one. They may be of any length; too short ones are refused as 23 by every routine that takes a session.
+pub fn fresh(words: &mut [u32], bytes: &mut [u8])
+    ensures { λ _. ⌜ Fresh (length (now (words .entry))) (length (now (bytes .entry))) (now (words .exit)) (now (bytes .exit)) ⌝ }
+{
+    clear(words);
+    write_fixed(bytes);
+}

@@ -1,0 +1,3 @@
+-- What the routine promises, and places computed.
+pub mod Place
+pub mod Examples

@@ -1,0 +1,2 @@
+-- The bytes of a reply.
+mod ReplyLaws

@@ -1,0 +1,34 @@
+-- What the exported routine for entries promises, for every session, sheet, name list, answer words and report words.
+use mathlib.Core.Path.{_≡_}
+use mathlib.Core.Bool.{true}
+use mathlib.Core.List.{List}
+use Prim.Native.Nat.{ℕ}
+use lib.ListN.{length}
+use Rattle.definition.specs.Sheet.{Sheet}
+use Rattle.definition.specs.Outcome.{buffer}
+use Rattle.definition.specs.Claims.{Demand3}
+use Rattle.report.specs.Report.{fitted, reportLine}
+use Rattle.session.specs.Session.{outsideOf}
+use Rattle.session.specs.Entry.{entrySheet}
+use Rattle.session.specs.Enter.{afterEntry}
+use Rattle.session.specs.Words.{whole, sessionIn, sessionFits, enterOutcome, enterWords, enterBytes}
+use Rattle.raise.specs.RaisedWords.{rowsIn}
+
+-- Of session words w and bytes n, which then are w′ and n′, sheet s, the bytes ns of its names, `lent` answer words, which then are `out`, and `room`
+-- report words, which then are r:
+pub record SessionEntered (w n : List ℕ) (s : Sheet) (ns : List ℕ) (lent room k : ℕ) (out r w′ n′ : List ℕ) : Type 0 where
+  -- the number returned is that of document 02's outcome,
+  pub number : k ≡ enterOutcome whole w n s ns lent .number
+  -- the answer words hold its answer rows, and zeros to their end,
+  pub words : out ≡ buffer lent (enterOutcome whole w n s ns lent)
+  -- the report words its first line as far as they go, and zeros to their end,
+  pub report : r ≡ fitted room (reportLine (enterOutcome whole w n s ns lent))
+  -- the session has the words and bytes after it,
+  pub session : w′ ≡ enterWords whole w n s ns lent
+  pub bytes : n′ ≡ enterBytes whole w n s ns lent
+  -- a session that passed question 23 passes it again, and is the one after the entry,
+  pub fits : sessionFits whole w n ≡ true → sessionFits whole w′ n′ ≡ true
+  pub held : sessionFits whole w n ≡ true → sessionIn whole w′ n′ ≡ afterEntry (sessionIn whole w n) s ns lent
+  -- and where no question got a no, the closure claim holds of the entry by itself, over what earlier entries left, and of the rows in the answer words.
+  pub closures : k ≡ 0
+      → Demand3 (outsideOf (sessionIn whole w n)) (entrySheet (sessionIn whole w n) ns s) (rowsIn (length (enterOutcome whole w n s ns lent .rows)) out)
