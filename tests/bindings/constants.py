@@ -1,15 +1,14 @@
-"""constants.py: the constants of include/plush.h and of bindings/rust are those of crates/ast and the questions of sessions, all of them and
-no others; and the lines of C and Rust in README.md stand in the examples. Exit status 1 if not."""
+"""constants.py: the constants of include/plush.h and of bindings/rust are those of crates/ast, all of them and no others; the sizes and the
+first words of a session are those of crates/session; and the lines of C and Rust in README.md stand in the examples. Exit status 1 if
+not."""
 import re
 import sys
 from pathlib import Path
 
 TOP = Path(__file__).resolve().parents[2]
 MODULES = ["column", "kind", "flag", "name", "code", "question", "limit"]
-# Questions that are constants of the crates that ask them.
-ASKED = [("SESSION", "crates/prompt/src/lib.rt"), ("SESSION_ROOM", "crates/try_entry/src/lib.rt")]
 # Not in crates/ast: the layout of the report, of rows and of places, which edges.c tries; the size and the first words of a session, which
-# sizes() and counts() ask for.
+# of_sessions() asks for.
 OWN = ("PLUSH_REPORT_", "PLUSH_ROW_WORDS", "PLUSH_ANSWER_WORDS", "PLUSH_SESSION_", "PLUSH_PLACE_")
 
 
@@ -23,8 +22,6 @@ def of_code():
     for module in MODULES:
         for name, value in re.findall(r"pub const (\w+): \w+ = (\d+);", text(f"crates/ast/src/{module}.rt")):
             found[module, name] = int(value)
-    for name, path in ASKED:
-        found["question", name] = int(re.search(rf"\nconst {name}: u32 = (\d+);", text(path))[1])
     for name, value in re.findall(r"pub const (\w+)_ID: ClassId = ClassId\((\d+)\);", text("crates/ast/src/lib.rt")):
         found["class", name] = int(value)
     found["class", "FIRST"] = int(re.search(r"pub const FIRST_CLASS: u32 = (\d+);", text("crates/ast/src/lib.rt"))[1])
@@ -70,25 +67,25 @@ def differences(what, found, expected):
             yield f"{what}: {'::'.join(key)} is {found.get(key)}, in the code {expected.get(key)}"
 
 
-def sizes():
-    """The words and bytes of a session are those of crates/session_rows."""
-    layout = constants(text("crates/session_rows/src/layout.rt"))
-    rust = constants(text("bindings/rust/src/session.rs"))
-    for name in ("WORDS", "BYTES"):
-        header = re.search(rf"PLUSH_SESSION_{name} = (\d+)", text("include/plush.h"))
-        if not (int(header[1]) == rust[f"SESSION_{name}"] == layout[name]):
-            yield f"a session's {name.lower()}: {header[1]} in plush.h, {rust[f'SESSION_{name}']} in bindings/rust, {layout[name]} in crates/session_rows"
+def of_layout():
+    """The numbers of crates/session/src/layout.rt, which are told by each other and by crates/ast."""
+    limits, found = constants(text("crates/ast/src/limit.rt")), {}
+    for name, value in re.findall(r"pub const (\w+): usize = ([\w :+*]+);", text("crates/session/src/layout.rt")):
+        found[name] = eval(re.sub(r"limit::(\w+)", lambda match: str(limits[match[1]]), value), {}, found)
+    return found
 
 
-def counts():
-    """The first words of a session are those of crates/session_rows. Of names on show there is no word there."""
-    layout = constants(text("crates/session_rows/src/layout.rt"))
-    five = {name: layout["COUNTS"] + layout[name] for name in ("NAMES", "NAME_BYTES", "DECLARATIONS", "CLASSES", "MEMBERS")}
-    expected = {"GLOBALS": layout["GLOBALS"], "ENTRIES": layout["ENTRIES"], "SHOWN": layout["ENTRIES"] + 1, **five}
+def of_sessions():
+    """The words and bytes of a session, and its first eight words."""
+    layout, rust = of_layout(), constants(text("bindings/rust/src/session.rs"))
+    counts = ["GLOBALS", "ENTRIES", "SHOWN", "NAMES", "NAME_BYTES", "DECLARATIONS", "CLASSES", "MEMBERS"]
     header = {name: int(value) for name, value in re.findall(r"\bPLUSH_SESSION_(\w+) = (\d+)", text("include/plush.h"))}
-    for name in sorted(header.keys() - {"WORDS", "BYTES"} | expected.keys()):
-        if header.get(name) != expected.get(name):
-            yield f"a session's {name.lower()}: word {header.get(name)} in plush.h, {expected.get(name)} in crates/session_rows"
+    for name in sorted(header.keys() | {"WORDS", "BYTES", *counts}):
+        if header.get(name) != layout.get(name):
+            yield f"a session's {name.lower()}: {header.get(name)} in plush.h, {layout.get(name)} in crates/session"
+    for name in ("WORDS", "BYTES"):
+        if rust[f"SESSION_{name}"] != layout[name]:
+            yield f"a session's {name.lower()}: {rust[f'SESSION_{name}']} in bindings/rust, {layout[name]} in crates/session"
 
 
 def readme_lines():
@@ -104,7 +101,7 @@ def readme_lines():
 def main():
     code = of_code()
     wrong = [*differences("plush.h", of_header(), code), *differences("bindings/rust", of_rust(), code)]
-    wrong += [*sizes(), *counts()]
+    wrong += of_sessions()
     copied = list(readme_lines())
     wrong += [problem for _, problem in copied if problem]
     print(*wrong, sep="\n", end="\n" if wrong else "")

@@ -60,3 +60,9 @@ pub const INIT_ARITY: u32 = 21;
 
 // The answer rows fit the lent words.
 pub const ROOM: u32 = 22;
+
+// The session is good, and the entry is one unit without imports that starts at the session's count of globals or above.
+pub const SESSION: u32 = 23;
+
+// With the entry no count of the session is over its limit.
+pub const SESSION_ROOM: u32 = 24;

@@ -1,8 +1,8 @@
 -- The whole outcome: the questions 1 to 22 in order, the answer, the lent buffer, the program's text.
 use mathlib.Core.Bool.{Bool, not, _&&_}
 use mathlib.Core.List.{List, [], _∷_, _++_}
-use Prim.Native.Nat.{ℕ, _-_, _*_, min}
-use lib.ListN.{length, replicate}
+use Prim.Native.Nat.{ℕ, zero, suc, _-_, _*_, min}
+use lib.ListN.{length, take, drop, replicate}
 use lib.Dec.{eqb, leb}
 use Rattle.definition.specs.Basics.{if_then_else_, concatMap}
 use Rattle.definition.specs.Sheet.{Sheet, file, line, column, rows}
@@ -66,6 +66,11 @@ outcome s ns lent =
 -- what the buffer then holds: the answer rows, then zeros to its end
 abbrev pub buffer : ℕ → Outcome → List ℕ
 buffer lent x = concatMap (λ r. r) (x .rows) ++ replicate (lent - 8 * length (x .rows)) 0
+
+-- the first n rows of eight words of a buffer
+unfoldable pub rowsOfWords : ℕ → List ℕ → List (List ℕ)
+rowsOfWords zero w = []
+rowsOfWords (suc n) w = take 8 w ∷ rowsOfWords n (drop 8 w)
 
 -- what the program prints: a line, then the answer rows
 abbrev pub report : Outcome → List (List ℕ)

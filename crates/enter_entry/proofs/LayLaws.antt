@@ -1,11 +1,11 @@
 -- An accepted entry laid over its session, run by run.
 use mathlib.Core.Path.{_≡_, refl, sym, ap, _∙_, subst}
 use mathlib.Core.Logic.{inl}
-use mathlib.Core.Bool.{Bool, true, false, not, _&&_}
-use mathlib.Core.List.{List, [], _∷_, _++_}
+use mathlib.Core.Bool.{true}
+use mathlib.Core.List.{List, [], _∷_}
 use Prim.Native.Nat.{ℕ, suc, _+_, _-_, _*_, _<_, _≤_}
 use native.Mathlib.Omega.{arith}
-use lib.Dec.{eqb, leb}
+use lib.Dec.{eqb}
 use lib.ListN.{length, getD, set}
 use lib.Seq.{sets}
 use borrow.Author.Tests.{eq-eqb, ne-eqb, le-leb, lt-leb}
@@ -18,7 +18,7 @@ use Rattle.definition.specs.Walk.{Event, enter, leave, loop, declare, bring, vi
 use Rattle.definition.specs.Scope.{Moment, history}
 use Rattle.definition.specs.Slots.{finalGlobals}
 use Rattle.definition.specs.Question.{Open, Refusal, openOn, askEvent, untilNo}
-use Rattle.definition.specs.Outcome.{Outcome, asked}
+use Rattle.definition.specs.Outcome.{asked}
 use Rattle.machine.specs.Machine.{State}
 use Rattle.machine.specs.Reads.{walkRefusal}
 use Rattle.machine.proofs.Words.{sets-out}
@@ -34,7 +34,7 @@ use Rattle.entry_ready.specs.Over.{entryOf, askedOver, AskedOver, wordsAfter}
 use Rattle.try_entry.specs.declared.Tried.{Tried}
 use Rattle.try_entry.specs.Tried.{Adds, Over, TriedOver}
 use Rattle.try_entry.proofs.TryLaws.{based-is}
-use Rattle.enter_entry.specs.EnteredOver.{Enterable, EnteredOver, leaving, keptWords}
+use Rattle.enter_entry.specs.EnteredOver.{EnteredOver, leaving, keptWords}
 
 -- the counts are below all runs
 below : (w : List ℕ) (m c l : ℕ) (ms cs ls : List ℕ) → 8 ≤ m → 8 ≤ c → 8 ≤ l → (i : ℕ) → i < 8 → getD (sets (sets (sets w m ms) c cs) l ls) i 0 ≡ getD w i 0

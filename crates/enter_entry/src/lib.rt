@@ -7,9 +7,9 @@ ghost use lib.ListN.{length, getD};
 ghost use Rattle.definition.specs.Names.{Name};
 ghost use Rattle.definition.specs.Scope.{history};
 ghost use Rattle.definition.specs.Answer.{answers, raised};
+ghost use Rattle.definition.specs.Outcome.{rowsOfWords};
 ghost use Rattle.machine.specs.Reads.{walkRefusal};
 ghost use Rattle.walk.specs.WalkState.{stateOf};
-ghost use Rattle.raise.specs.RaisedWords.{rowsIn};
 ghost use Rattle.entry_walk.specs.Laid.{BodyWalked};
 ghost use Rattle.session.specs.Words.{whole, wordsWith};
 ghost use Rattle.session_room.specs.Room.{roomFor};
@@ -20,34 +20,14 @@ ghost use Rattle.enter_entry.specs.EnteredOver.{Enterable, keptWords, le
 use answer::Answer;
 use entry_classes::append_classes;
 use lay_over::append_laid;
+use session::layout;
 use session_room::write_counts;
 use try_entry::Tried;
 use try_entry::base_of;
 use try_entry::outside_names;
 use try_entry::try_over;
-use words::put_entry;
+use words::put_at;
 use words::word_at;
-
-// The words of a session: its globals; its declarations, classes and members as they are counted, where their rows begin and how many words each has.
-const GLOBALS: u32 = 0;
-
-const DECLARATIONS: usize = 5;
-
-const CLASSES: usize = 6;
-
-const MEMBERS: usize = 7;
-
-const DECLARATION_ROWS: usize = 5008;
-
-const DECLARATION_WORDS: usize = 4;
-
-const CLASS_ROWS: usize = 21392;
-
-const CLASS_WORDS: usize = 5;
-
-const MEMBER_ROWS: usize = 26512;
-
-const MEMBER_WORDS: usize = 3;
 
 // The questions after whose no the session keeps the globals that the walk used.
 const FIRST_OF_WALK: u32 = 5;
@@ -58,19 +38,20 @@ const LAST_WITH_GLOBALS: u32 = 21;
 fn laid_place(words: &[u32]) -> usize
     ensures { λ x. ⌜ x ≡ 5008 + 4 * getD (now (words .entry)) 5 0 ⌝ }
 {
-    DECLARATION_ROWS + DECLARATION_WORDS * (word_at(words, DECLARATIONS) as usize)
+    layout::DECLARATION_ROWS
+        + layout::DECLARATION_WORDS * (word_at(words, layout::DECLARATIONS) as usize)
 }
 
 fn class_place(words: &[u32]) -> usize
     ensures { λ x. ⌜ x ≡ 21392 + 5 * getD (now (words .entry)) 6 0 ⌝ }
 {
-    CLASS_ROWS + CLASS_WORDS * (word_at(words, CLASSES) as usize)
+    layout::CLASS_ROWS + layout::CLASS_WORDS * (word_at(words, layout::CLASSES) as usize)
 }
 
 fn member_place(words: &[u32]) -> usize
     ensures { λ x. ⌜ x ≡ 26512 + 3 * getD (now (words .entry)) 7 0 ⌝ }
 {
-    MEMBER_ROWS + MEMBER_WORDS * (word_at(words, MEMBERS) as usize)
+    layout::MEMBER_ROWS + layout::MEMBER_WORDS * (word_at(words, layout::MEMBERS) as usize)
 }
 
 // Keeps the globals that a refused walk used.
@@ -83,7 +64,7 @@ fn keep_globals(words: &mut [u32], number: u32, globals: u32)
     if LAST_WITH_GLOBALS < number {
         return;
     }
-    put_entry(words, GLOBALS, globals);
+    put_at(words, layout::GLOBALS, globals);
 }
 
 // Lays an accepted entry over its session: members, classes, declarations, then the row of the entry and the counts.
@@ -97,7 +78,7 @@ fn lay_down(
     tried: Tried,
 )
     requires { ⌜ (Enterable (now words) (now outside) (now sheet)) × (roomFor (now words) (tried .added) ≡ true) × (8 * tried .answer .rows ≤ length (now out))
-        × (rowsIn (tried .answer .rows) (now out) ≡ raised (2048 * getD (now words) 1 0) (answers (over (now outside)) (now sheet) (history (over (now outside)) (now sheet))))
+        × (rowsOfWords (tried .answer .rows) (now out) ≡ raised (2048 * getD (now words) 1 0) (answers (over (now outside)) (now sheet) (history (over (now outside)) (now sheet))))
         × ((nodes : List ℕ) × BodyWalked (over (now outside)) (now sheet) (stateOf (tried .walk) (now entries) (now results) nodes))
         × (walkRefusal (over (now outside)) (now sheet) .number ≡ 0) ⌝ }
     ensures { λ _. ⌜ ((ms : List Name) → Adds (leaving (over (now (outside .entry))) (2048 * getD (now (words .entry)) 1 0) (now (sheet .entry)) ms) (tried .added)

@@ -14,10 +14,8 @@ use Rattle.definition.specs.Scope.{history}
 use Rattle.definition.specs.Slots.{finalGlobals}
 use Rattle.definition.specs.Question.{Refusal, refusal}
 use Rattle.definition.specs.Answer.{answers, raised}
-use Rattle.definition.specs.Outcome.{Outcome, refusedAt, refused, asked, buffer}
-use Rattle.definition.proofs.Format.Accepted.{Eights, good-asked}
-use Rattle.raise.specs.RaisedWords.{rowsIn}
-use Rattle.raise.proofs.BasedLaws.{flat-length, rows-back}
+use Rattle.definition.specs.Outcome.{Outcome, refusedAt, refused, asked, buffer, rowsOfWords}
+use Rattle.definition.proofs.Format.Accepted.{Eights, good-asked, rows-back, flat-length}
 
 -- the rows of an outcome without a refusal
 accepted-rows : (O : Outside) (lent : ℕ) (s : Sheet) → asked O lent s .number ≡ 0 → asked O lent s .rows ≡ raised (O .base) (answers O s (history O s))
@@ -42,10 +40,10 @@ accepted-rows O lent s = go (eqb (x .number) 0) refl (leb (8 * length out) lent)
 -- its k rows in the words of its buffer
 pub held-rows : (O : Outside) (n lent : ℕ) (s : Sheet) {k : ℕ} {w : List ℕ} → asked (based O n) lent s .number ≡ 0
     → k ≡ length (asked (based O n) lent s .rows) → w ≡ buffer lent (asked (based O n) lent s)
-    → (8 * k ≤ length w) × (rowsIn k w ≡ raised n (answers O s (history O s)))
+    → (8 * k ≤ length w) × (rowsOfWords k w ≡ raised n (answers O s (history O s)))
 held-rows O n lent s {k} {w} z counted held = (
   omega (arith, counted, ap length held, length-append (concatMap (λ r. r) rs) zeros, flat-length eights),
-  ap (λ (i : ℕ). rowsIn i w) counted ∙ ap (rowsIn (length rs)) held ∙ rows-back rs zeros eights ∙ accepted-rows (based O n) lent s z,
+  ap (λ (i : ℕ). rowsOfWords i w) counted ∙ ap (rowsOfWords (length rs)) held ∙ rows-back rs zeros eights ∙ accepted-rows (based O n) lent s z,
 )
   where
     rs : List (List ℕ)

@@ -2,9 +2,8 @@
 use mathlib.Core.Path.{_≡_, refl, ap, _∙_}
 use mathlib.Core.List.{List, [], _∷_}
 use mathlib.Core.Bool.{Bool, true, false, _||_}
-use Prim.Native.Nat.{ℕ, suc, _+_, _*_, _<_}
-use native.Mathlib.Omega.{arith}
-use lib.ListN.{length, getD, set}
+use Prim.Native.Nat.{ℕ, _+_, _*_, _<_}
+use lib.ListN.{length, getD}
 use lib.Seq.{sets}
 use lib.Dec.{eqb, ltb, T}
 use borrow.Author.Tests.{eq-eqb, ne-eqb, ltb-true}
@@ -21,21 +20,6 @@ use Rattle.entry_classes.specs.Told.{rowFits, tellsClass, tellsMember, m
 pub row-below : (x : List ℕ) → T (rowFits x) → getD x 0 0 < 2048
 unfolding rowFits
 row-below x h = ltb-true (getD x 0 0) 2048 (true-of (ltb (getD x 0 0) 2048) h)
-
--- three and five words, one after another
-pub three-set : (w : List ℕ) (p a b c : ℕ) → set (set (set w p a) (p + 1) b) (p + 2) c ≡ sets w p (a ∷ b ∷ c ∷ [])
-three-set w p a b c =
-    let e₁ : p + 1 ≡ suc p = omega arith in
-    let e₂ : p + 2 ≡ suc (suc p) = omega arith in
-    rw (e₁, e₂)
-
-pub five-set : (w : List ℕ) (p a b c d e : ℕ) → set (set (set (set (set w p a) (p + 1) b) (p + 2) c) (p + 3) d) (p + 4) e ≡ sets w p (a ∷ b ∷ c ∷ d ∷ e ∷ [])
-five-set w p a b c d e =
-    let e₁ : p + 1 ≡ suc p = omega arith in
-    let e₂ : p + 2 ≡ suc (suc p) = omega arith in
-    let e₃ : p + 3 ≡ suc (suc (suc p)) = omega arith in
-    let e₄ : p + 4 ≡ suc (suc (suc (suc p))) = omega arith in
-    rw (e₁, e₂, e₃, e₄)
 
 -- Of answer row x.
 module _ (s : Sheet) (o : Store) (n : ℕ) (x : List ℕ) where

@@ -9,8 +9,8 @@ use lib.Seq.{sets, drop-drop, getD-take, getD-drop}
 use lib.Dec.{eqb, T}
 use Rattle.definition.specs.Basics.{all, count, concatMap, bit}
 use Rattle.definition.proofs.Lists.Tests.{and-left, and-right, bit-le}
-use Rattle.raise.specs.RaisedWords.{rowsIn}
-use Rattle.lay_over.proofs.LaidLaws.{sets-more}
+use Rattle.definition.specs.Outcome.{rowsOfWords}
+use Rattle.machine.proofs.Words.{sets-more}
 use Rattle.entry_classes.specs.Told.{rowFits, tellsClass, tellsMember}
 
 -- row i of words, as a loop lends it, and the rows from row i on up to k
@@ -18,24 +18,24 @@ abbrev pub rowAt : List ℕ → ℕ → List ℕ
 rowAt out i = take (8 * i + 8 - 8 * i) (drop (8 * i) out)
 
 abbrev pub rest : List ℕ → ℕ → ℕ → List (List ℕ)
-rest out k i = rowsIn (k - i) (drop (8 * i) out)
+rest out k i = rowsOfWords (k - i) (drop (8 * i) out)
 
-rest-whole : (out : List ℕ) (k : ℕ) → rest out k 0 ≡ rowsIn k out
-rest-whole out k = let z : k - 0 ≡ k = omega arith in ap (λ (j : ℕ). rowsIn j out) z
+rest-whole : (out : List ℕ) (k : ℕ) → rest out k 0 ≡ rowsOfWords k out
+rest-whole out k = let z : k - 0 ≡ k = omega arith in ap (λ (j : ℕ). rowsOfWords j out) z
 
 rest-next : (out : List ℕ) (k i : ℕ) → i < k → rest out k i ≡ rowAt out i ∷ rest out k (i + 1)
-unfolding rowsIn
+unfolding rowsOfWords
 rest-next out k i l =
     let n : k - i ≡ suc (k - (i + 1)) = omega arith in
     let e : 8 ≡ 8 * i + 8 - 8 * i = omega arith in
     let z : 8 * i + 8 ≡ 8 * (i + 1) = omega arith in
-    ap (λ (j : ℕ). rowsIn j (drop (8 * i) out)) n
-    ∙ ap (λ (j : ℕ). take j (drop (8 * i) out) ∷ rowsIn (k - (i + 1)) (drop 8 (drop (8 * i) out))) e
-    ∙ ap (λ (u : List ℕ). rowAt out i ∷ rowsIn (k - (i + 1)) u) (drop-drop 8 (8 * i) out ∙ ap (λ (j : ℕ). drop j out) z)
+    ap (λ (j : ℕ). rowsOfWords j (drop (8 * i) out)) n
+    ∙ ap (λ (j : ℕ). take j (drop (8 * i) out) ∷ rowsOfWords (k - (i + 1)) (drop 8 (drop (8 * i) out))) e
+    ∙ ap (λ (u : List ℕ). rowAt out i ∷ rowsOfWords (k - (i + 1)) u) (drop-drop 8 (8 * i) out ∙ ap (λ (j : ℕ). drop j out) z)
 
 rest-end : (out : List ℕ) (k i : ℕ) → k ≤ i → rest out k i ≡ []
-unfolding rowsIn
-rest-end out k i l = let z : k - i ≡ 0 = omega arith in ap (λ (j : ℕ). rowsIn j (drop (8 * i) out)) z
+unfolding rowsOfWords
+rest-end out k i l = let z : k - i ≡ 0 = omega arith in ap (λ (j : ℕ). rowsOfWords j (drop (8 * i) out)) z
 
 -- the code of row i
 code-read : (out : List ℕ) (i : ℕ) → getD out (8 * i + 1) 0 ≡ getD (rowAt out i) 1 0
@@ -44,14 +44,14 @@ code-read out i = sym (getD-take (8 * i + 8 - 8 * i) (drop (8 * i) out) 1 0 (ome
 -- For each of k rows in words, f tells the words to write, at most m: a loop that writes them from a place of w₀ on has come to row i, and to place p of
 -- the words w. What f tells may depend on a value that the loop does not know.
 pub record Writing {X : Type 0} (f : X → List ℕ → List ℕ) (m : ℕ) (w₀ : List ℕ) (place : ℕ) (out : List ℕ) (k : ℕ) (w : List ℕ) (i p : ℕ) : Type 0 where
-  pub writes : (x : X) → sets w p (concatMap (f x) (rest out k i)) ≡ sets w₀ place (concatMap (f x) (rowsIn k out))
+  pub writes : (x : X) → sets w p (concatMap (f x) (rest out k i)) ≡ sets w₀ place (concatMap (f x) (rowsOfWords k out))
   pub passed : i ≤ k
   pub near : p ≤ place + m * i
   pub long : length w ≡ length w₀
   pub fit : T (all rowFits (rest out k i))
 
 module _ {X : Type 0} {f : X → List ℕ → List ℕ} {m : ℕ} {w₀ : List ℕ} {place : ℕ} {out : List ℕ} {k : ℕ} where
-  pub writing-start : T (all rowFits (rowsIn k out)) → Writing f m w₀ place out k w₀ 0 place
+  pub writing-start : T (all rowFits (rowsOfWords k out)) → Writing f m w₀ place out k w₀ 0 place
   writing-start h =
       record {
         writes = λ x. ap (λ (rs : List (List ℕ)). sets w₀ place (concatMap (f x) rs)) (rest-whole out k);
@@ -80,13 +80,13 @@ module _ {X : Type 0} {f : X → List ℕ → List ℕ} {m : ℕ} {w₀ : List �
             fit = and-right (rowFits (rowAt out i)) (all rowFits (rest out k (i + 1))) (subst (λ (rs : List (List ℕ)). T (all rowFits rs)) (rest-next out k i l) (h .fit));
           }
 
-    pub writing-end : k ≤ i → (x : X) → w ≡ sets w₀ place (concatMap (f x) (rowsIn k out))
+    pub writing-end : k ≤ i → (x : X) → w ≡ sets w₀ place (concatMap (f x) (rowsOfWords k out))
     writing-end l x = ap (λ (rs : List (List ℕ)). sets w p (concatMap (f x) rs)) (sym (rest-end out k i l)) ∙ h .writes x
 
 -- A loop that counts classes and members has come to row i, with counts a and b.
 pub record Counting (out : List ℕ) (k i a b : ℕ) : Type 0 where
-  pub classes : a + count tellsClass (rest out k i) ≡ count tellsClass (rowsIn k out)
-  pub members : b + count tellsMember (rest out k i) ≡ count tellsMember (rowsIn k out)
+  pub classes : a + count tellsClass (rest out k i) ≡ count tellsClass (rowsOfWords k out)
+  pub members : b + count tellsMember (rest out k i) ≡ count tellsMember (rowsOfWords k out)
   pub passed : i ≤ k
   pub near : (a ≤ i) × (b ≤ i)
 
@@ -119,5 +119,5 @@ module _ {out : List ℕ} {k : ℕ} where
         same-member : y ≡ bit (tellsMember (rowAt out i))
         same-member = ey ∙ ap (λ (j : ℕ). bit (eqb j 23 || eqb j 24)) code
 
-    pub counting-end : k ≤ i → (a ≡ count tellsClass (rowsIn k out)) × (b ≡ count tellsMember (rowsIn k out))
+    pub counting-end : k ≤ i → (a ≡ count tellsClass (rowsOfWords k out)) × (b ≡ count tellsMember (rowsOfWords k out))
     counting-end l = (omega (arith, h .classes, ap (count tellsClass) (rest-end out k i l)), omega (arith, h .members, ap (count tellsMember) (rest-end out k i l)))

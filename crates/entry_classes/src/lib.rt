@@ -12,11 +12,11 @@ ghost use Rattle.definition.specs.Sheet.{Sheet, rows as rowsOf};
 ghost use Rattle.definition.specs.Outside.{Outside, based};
 ghost use Rattle.definition.specs.Scope.{history};
 ghost use Rattle.definition.specs.Answer.{answers, raised};
+ghost use Rattle.definition.specs.Outcome.{rowsOfWords};
 ghost use Rattle.machine.specs.Reads.{PastFour, Walked};
 ghost use Rattle.outside.specs.Words.{over};
 ghost use Rattle.store.specs.Stored.{storeOf};
 ghost use Rattle.walk.specs.WalkState.{stateOf};
-ghost use Rattle.raise.specs.RaisedWords.{rowsIn};
 ghost use Rattle.session.specs.Session.{memberCount};
 ghost use Rattle.session.specs.Enter.{classesBy};
 ghost use Rattle.session.specs.Words.{classWords, memberWords};
@@ -27,11 +27,12 @@ use ast::code;
 use ast::column;
 use inherit::find_method;
 use inherit::parent_of;
-use lay_over::put_at;
 use raise::raised_class;
 use raise::raised_function;
+use session::layout;
 use store::nodes::Store;
 use walk::state::Walk;
+use words::put_words;
 use words::word;
 
 // A class: its number and name, its parent's number or 0, how many fields and methods it has.
@@ -49,11 +50,6 @@ pub struct Member {
     pub fun: u32,
     pub params: u32,
 }
-
-// How many words a class and a member take.
-const CLASS_WORDS: usize = 5;
-
-const MEMBER_WORDS: usize = 3;
 
 // The columns of an answer row: its sheet row, its code, and its values. A field's name is its second value, a method's its first; a class has its counts
 // of fields and methods in the third and fourth.
@@ -92,7 +88,7 @@ fn is_member(c: u32) -> bool
 // Counts the classes of an entry and their members in its answer rows.
 pub fn count_classes(out: &[u32], rows: usize) -> Counted
     requires { ⌜ 8 * rows ≤ length (now out) ⌝ }
-    ensures { λ x. ⌜ ((O : Outside) (s : Sheet) (n : ℕ) → rowsIn rows (now (out .entry)) ≡ raised n (answers O s (history O s))
+    ensures { λ x. ⌜ ((O : Outside) (s : Sheet) (n : ℕ) → rowsOfWords rows (now (out .entry)) ≡ raised n (answers O s (history O s))
         → (x .classes ≡ length (classesBy (based O n) s)) × (x .members ≡ total memberCount (classesBy (based O n) s))) ⌝ }
 {
     let mut classes: usize = 0;
@@ -172,9 +168,7 @@ fn put_member(words: &mut [u32], place: usize, m: Member)
     requires { ⌜ place ≤ 4611686018427387904 ⌝ }
     ensures { λ _. ⌜ now (words .exit) ≡ sets (now (words .entry)) place (memberOf m) ⌝ }
 {
-    put_at(words, place, m.name);
-    put_at(words, place + 1, m.fun);
-    put_at(words, place + 2, m.params);
+    put_words(words, place, &[m.name, m.fun, m.params]);
 }
 
 // Writes a class.
@@ -182,11 +176,11 @@ fn put_class(words: &mut [u32], place: usize, c: Class)
     requires { ⌜ place ≤ 4611686018427387904 ⌝ }
     ensures { λ _. ⌜ now (words .exit) ≡ sets (now (words .entry)) place (classOf c) ⌝ }
 {
-    put_at(words, place, c.number);
-    put_at(words, place + 1, c.name);
-    put_at(words, place + 2, c.parent);
-    put_at(words, place + 3, c.fields);
-    put_at(words, place + 4, c.methods);
+    put_words(
+        words,
+        place,
+        &[c.number, c.name, c.parent, c.fields, c.methods],
+    );
 }
 
 // Writes the member that an answer row tells, if it tells one, and answers how many words that are.
@@ -209,7 +203,7 @@ fn append_member(
         return 0;
     }
     put_member(words, place, member_of(sheet, outside, results, row, base));
-    MEMBER_WORDS
+    layout::MEMBER_WORDS
 }
 
 // Writes the class that an answer row tells, if it tells one, and answers how many words that are.
@@ -230,7 +224,7 @@ fn append_class(
         return 0;
     }
     put_class(words, place, class_of(sheet, results, row, base));
-    CLASS_WORDS
+    layout::CLASS_WORDS
 }
 
 // Writes the members that answer rows tell, one after another from a place on.
@@ -244,10 +238,10 @@ fn append_members(
     rows: usize,
     base: u32,
 )
-    requires { ⌜ (place + 3 * rows ≤ 4611686018427387904) × (base ≤ 2048000) × (8 * rows ≤ length (now out)) × T (all rowFits (rowsIn rows (now out)))
+    requires { ⌜ (place + 3 * rows ≤ 4611686018427387904) × (base ≤ 2048000) × (8 * rows ≤ length (now out)) × T (all rowFits (rowsOfWords rows (now out)))
         × (rowsOf (now sheet) ≤ 2048) ⌝ }
     ensures { λ _. ⌜ ((o : Store) (nodes : List ℕ) → now (words .exit) ≡ sets (now (words .entry)) place
-        (concatMap (memberIn (over (now (outside .entry))) (now (sheet .entry)) (storeOf o (now (results .entry)) nodes) base) (rowsIn rows (now (out .entry))))) ⌝ }
+        (concatMap (memberIn (over (now (outside .entry))) (now (sheet .entry)) (storeOf o (now (results .entry)) nodes) base) (rowsOfWords rows (now (out .entry))))) ⌝ }
 {
     let mut i: usize = 0;
     let mut p = place;
@@ -275,9 +269,9 @@ fn append_heads(
     rows: usize,
     base: u32,
 )
-    requires { ⌜ (place + 5 * rows ≤ 4611686018427387904) × (base ≤ 2048000) × (8 * rows ≤ length (now out)) × T (all rowFits (rowsIn rows (now out))) ⌝ }
+    requires { ⌜ (place + 5 * rows ≤ 4611686018427387904) × (base ≤ 2048000) × (8 * rows ≤ length (now out)) × T (all rowFits (rowsOfWords rows (now out))) ⌝ }
     ensures { λ _. ⌜ ((o : Store) (nodes : List ℕ) → now (words .exit) ≡ sets (now (words .entry)) place
-        (concatMap (classIn (now (sheet .entry)) (storeOf o (now (results .entry)) nodes) base) (rowsIn rows (now (out .entry))))) ⌝ }
+        (concatMap (classIn (now (sheet .entry)) (storeOf o (now (results .entry)) nodes) base) (rowsOfWords rows (now (out .entry))))) ⌝ }
 {
     let mut i: usize = 0;
     let mut p = place;
@@ -302,7 +296,7 @@ pub fn append_classes(
 )
     requires { ⌜ (classes + 5 * rows ≤ 4611686018427387904) × (members + 3 * rows ≤ 4611686018427387904) × (base ≤ 2048000) × (8 * rows ≤ length (now out))
         × (PastFour (over (now outside)) (now sheet))
-        × (rowsIn rows (now out) ≡ raised base (answers (over (now outside)) (now sheet) (history (over (now outside)) (now sheet)))) ⌝ }
+        × (rowsOfWords rows (now out) ≡ raised base (answers (over (now outside)) (now sheet) (history (over (now outside)) (now sheet)))) ⌝ }
     ensures { λ _. ⌜ ((walk : Walk) (entries nodes : List ℕ)
         → Walked (over (now (outside .entry))) (now (sheet .entry)) (stateOf walk entries (now (results .entry)) nodes) → walk .number ≡ 0
         → now (words .exit)

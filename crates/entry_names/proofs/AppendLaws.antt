@@ -17,16 +17,10 @@ use Rattle.session.specs.Entry.{newNames, namesWith}
 use Rattle.session.specs.Words.{ended}
 use Rattle.session.proofs.EntryLaws.{place-below}
 use Rattle.entry_names.specs.Told.{isNew, sessionNumbers, endedFrom, newBytes}
+use Rattle.machine.proofs.Words.{sets-more}
 use Rattle.entry_names.proofs.PlaceLaws.{place-left, place-right}
 use Rattle.entry_names.proofs.NumberLaws.{listed-number}
 use Rattle.entry_names.proofs.SheetLaws.{numbers-at}
-
--- stores in two parts
-sets-append : (v xs ys : List ℕ) (i : ℕ) → sets v i (xs ++ ys) ≡ sets (sets v i xs) (i + length xs) ys
-sets-append v [] ys i = let q : i ≡ i + 0 = omega arith in ap (λ (j : ℕ). sets v j ys) q
-sets-append v (x ∷ xs) ys i =
-    let q : suc i + length xs ≡ i + suc (length xs) = omega arith in
-    sets-append (set v i x) xs ys (suc i) ∙ ap (λ (j : ℕ). sets (sets (set v i x) (suc i) xs) j ys) q
 
 -- A name and its end, byte by byte: none is written,
 pub byte-first : (v name : List ℕ) (at : ℕ) → sets v (at + 0) (drop 0 name ++ 10 ∷ []) ≡ sets v at (ended name)
@@ -68,7 +62,7 @@ name-written {ns} {at} {e} n first numbers v u k to number to′ f g h =
     let q : k + 1 ≡ suc k = omega arith in
     let rest : List ℕ = newBytes first numbers (suc k) xs in
     ap (λ (j : ℕ). sets u to′ (newBytes first numbers j xs)) q ∙ ap (λ (w : List ℕ). sets w to′ rest) g
-    ∙ ap (λ (j : ℕ). sets (sets v to (endedFrom first number x)) j rest) h ∙ sym (sets-append v (endedFrom first number x) rest to)
+    ∙ ap (λ (j : ℕ). sets (sets v to (endedFrom first number x)) j rest) h ∙ sym (sets-more v to (endedFrom first number x) rest refl)
     ∙ ap (λ (m : ℕ). sets v to (endedFrom first m x ++ rest)) f ∙ ap (λ (l : List Name). sets v to (newBytes first numbers k l)) (sym (next-name n))
 
 pub none-written : (ns : List ℕ) (at first : ℕ) (numbers v : List ℕ) (k to : ℕ) → length ns ≤ at → sets v to (newBytes first numbers k (listed (drop at ns))) ≡ v

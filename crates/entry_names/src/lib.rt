@@ -21,17 +21,13 @@ use ast::column;
 use ast::name;
 use name_index::first_place;
 use name_index::search;
+use names::END;
+use names::FIRST_LISTED;
 use names::name_end;
 use shapes::rule;
 use shapes::rule_a;
 use shapes::rule_b;
 use words::word_at;
-
-// The byte that ends a name.
-const END: u8 = 10;
-
-// The number of the first listed name.
-const FIRST_LISTED: u32 = 25;
 
 // How many words a row has.
 const ROW_WORDS: usize = 8;

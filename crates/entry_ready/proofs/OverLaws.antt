@@ -1,24 +1,23 @@
 -- The outcome of an entry from that of its sheet with the session's name numbers.
 use mathlib.Core.Path.{_≡_, refl, sym, ap, _∙_}
-use mathlib.Core.Bool.{Bool, true, false, not, _&&_}
-use mathlib.Core.List.{List, [], _∷_, _++_}
+use mathlib.Core.Bool.{Bool, true, false, not}
+use mathlib.Core.List.{List}
 use Prim.Native.Nat.{ℕ, _*_}
 use lib.Dec.{eqb, leb}
-use lib.ListN.{length, set}
+use lib.ListN.{length}
 use borrow.Author.Tests.{eqb-true, eqb-false}
 use Rattle.definition.specs.Basics.{if_then_else_}
-use Rattle.definition.specs.Names.{Name}
 use Rattle.definition.specs.Sheet.{Sheet}
 use Rattle.definition.specs.Scope.{history}
 use Rattle.definition.specs.Slots.{finalGlobals}
 use Rattle.definition.specs.Question.{Refusal, refusal}
 use Rattle.definition.specs.Answer.{answers, raised}
 use Rattle.definition.specs.Outside.{Outside}
-use Rattle.definition.specs.Outcome.{Outcome, refused, refusedAt, asked, answered, buffer}
+use Rattle.definition.specs.Outcome.{Outcome, refused, refusedAt, asked}
 use Rattle.session.specs.Session.{Session, outsideOf, within}
 use Rattle.session.specs.Entry.{newNames, toEntry, entrySheet}
-use Rattle.session.specs.Enter.{renamed, accepting, askedIn, newEntry}
-use Rattle.entry_ready.specs.Over.{entryOf, askedOver}
+use Rattle.session.specs.Enter.{renamed, accepting, askedIn}
+use Rattle.entry_ready.specs.Over.{askedOver}
 
 -- an accepted outcome asks about no name
 no-name : (O : Outside) (lent : ℕ) (t : Sheet) → asked O lent t .number ≡ 0 → asked O lent t .name ≡ 0

@@ -1,23 +1,21 @@
 -- An entry's sheet with the session's name numbers is past the first four questions over what the session is to it, and one unit without imports.
-use mathlib.Core.Path.{_≡_, refl, sym, ap, _∙_, subst}
+use mathlib.Core.Path.{_≡_, refl, ap, _∙_}
 use mathlib.Core.Bool.{Bool, true, false, not, _&&_}
 use mathlib.Core.List.{List, [], _∷_}
-use Prim.Native.Nat.{ℕ, _+_, _≤_}
+use Prim.Native.Nat.{ℕ, _≤_}
 use native.Mathlib.Omega.{arith}
-use lib.Dec.{eqb, leb, T, eqb→eq, leb→le}
+use lib.Dec.{eqb, leb, T, eqb→eq}
 use lib.ListN.{length, getD, length-append}
-use borrow.Author.Tests.{eqb-true, eqb-false}
 use Rattle.definition.specs.Basics.{if_then_else_, filter, any}
 use Rattle.definition.specs.Kind.{IMPORT}
 use Rattle.definition.specs.Names.{Name, fixed, listed, sameName, namesFit, nameCount}
-use Rattle.definition.specs.Sheet.{Sheet, child, a, kids, kidsOf, rows}
+use Rattle.definition.specs.Sheet.{Sheet, child, a, kids, kidsOf}
 use Rattle.definition.specs.Outside.{Outside, OutsideFits, based}
 use Rattle.definition.specs.Format.{sheetFits, depthsFit}
 use Rattle.definition.specs.Outcome.{rowsFit}
 use Rattle.definition.proofs.Lists.Tests.{T-true, and-left, and-right}
 use Rattle.machine.specs.Reads.{PastFour}
 use Rattle.names.proofs.Question.{fit-small}
-use Rattle.first_four.specs.Questions.{firstFour}
 use Rattle.entry_walk.specs.Laid.{OneUnit}
 use Rattle.session.specs.Session.{Session, allNames, outsideOf}
 use Rattle.session.specs.Entry.{newNames, namesWith, entrySheet, toSession}
@@ -27,7 +25,7 @@ use Rattle.session.proofs.Renaming.{Renamed, kids-same, kidsOf-same, depths-ren
 use Rattle.session.proofs.EntryLaws.{entry-renamed, entry-whole}
 use Rattle.session.proofs.OutsideLaws.{outside-fits}
 use Rattle.session.proofs.SessionLaws.{orderly-in}
-use Rattle.session.proofs.HeldRuns.{held-names, names-listed}
+use Rattle.session.proofs.HeldRuns.{held-names}
 use Rattle.session.proofs.CountLaws.{list-fits}
 use Rattle.entry_ready.specs.Asked.{fitsOver, entryNo}
 

@@ -1,14 +1,14 @@
 -- From what is known of an entry to what its walk needs, and back to the session.
-use mathlib.Core.Path.{_≡_, refl, sym, ap, _∙_, subst}
+use mathlib.Core.Path.{_≡_, sym, subst}
 use mathlib.Core.Bool.{true}
 use mathlib.Core.List.{List}
-use Prim.Native.Nat.{ℕ, _+_, _*_, _/_, _<_, _≤_}
+use Prim.Native.Nat.{ℕ, _≤_}
 use native.Mathlib.Omega.{arith}
-use lib.Dec.{eqb, leb, T, eqb→eq, leb→le}
+use lib.Dec.{leb, leb→le}
 use lib.ListN.{length, getD, replicate}
 use Rattle.definition.specs.Basics.{concatMap}
 use Rattle.definition.specs.Names.{Name}
-use Rattle.definition.specs.Sheet.{Sheet, rows}
+use Rattle.definition.specs.Sheet.{Sheet}
 use Rattle.definition.specs.Outside.{Outside, based}
 use Rattle.definition.specs.Outcome.{rowsFit}
 use Rattle.machine.specs.Reads.{PastFour}

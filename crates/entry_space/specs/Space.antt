@@ -11,7 +11,7 @@ use Rattle.definition.specs.Outside.{based}
 use Rattle.machine.specs.Reads.{PastFour}
 use Rattle.answer.specs.declared.Answer.{Answer}
 use Rattle.session.specs.Session.{outsideOf}
-use Rattle.session.specs.Entry.{newNames, entrySheet}
+use Rattle.session.specs.Entry.{newNames}
 use Rattle.session.specs.Words.{whole, ended, sessionIn, sessionFits}
 use Rattle.entry_walk.specs.Laid.{OneUnit}
 use Rattle.entry_names.specs.Told.{sessionNumbers}

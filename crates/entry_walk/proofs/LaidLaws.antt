@@ -2,9 +2,9 @@
 use mathlib.Core.Path.{_≡_, refl, sym, ap, _∙_, subst}
 use mathlib.Core.List.{List, [], _∷_, _++_, map, append-nil, append-assoc}
 use mathlib.Core.Bool.{Bool, true, false, not, true≢false}
-use Prim.Native.Nat.{ℕ, zero, suc, _+_, _-_, _*_, _/_, _<_, _≤_}
+use Prim.Native.Nat.{ℕ, zero, suc, _+_, _-_, _/_, _≤_}
 use native.Mathlib.Omega.{arith}
-use lib.ListN.{length, getD, drop, length-append, length-map}
+use lib.ListN.{length, drop, length-append, length-map}
 use lib.Seq.{drop-at}
 use lib.Dec.{eqb, leb}
 use borrow.Author.Tests.{ne-eqb, eqb-true}
@@ -12,8 +12,8 @@ use Rattle.definition.specs.Basics.{if_then_else_, bit, head}
 use Rattle.definition.specs.Sheet.{Sheet, kind, child, rows, b, kidsOf}
 use Rattle.definition.specs.Meaning.{Meaning, Named, named, nothing, function, class, global, toplevel, variable}
 use Rattle.definition.specs.Outside.{Outside, based}
-use Rattle.definition.specs.Walk.{Event, leave, walk}
-use Rattle.definition.specs.Scope.{Stack, Entry, scope, looping, bound, Moment, start, run, moments, history}
+use Rattle.definition.specs.Walk.{Event, leave}
+use Rattle.definition.specs.Scope.{Stack, scope, looping, bound, Moment, start, run, moments, history}
 use Rattle.definition.specs.Answer.{raisedFunction, raisedClass}
 use Rattle.definition.proofs.Lists.Members.{map-append}
 use Rattle.definition.proofs.Walk.Moments.{moments-append}
@@ -28,7 +28,7 @@ use Rattle.machine.proofs.Refinement.{StateAgrees}
 use Rattle.machine.proofs.Theorems.{walk-refines, walk-agrees}
 use Rattle.walk.proofs.RunLaws.{run-append}
 use Rattle.row_events.specs.Prepared.{Ready}
-use Rattle.machine.proofs.Entries.{entryOf, entries, entries-length}
+use Rattle.machine.proofs.Entries.{entries, entries-length}
 use Rattle.machine.proofs.Globals.{Known, numbered, unnumbered, known-on}
 use Rattle.session.specs.Enter.{left, laidBy, scopeOf}
 use Rattle.entry_walk.specs.Laid.{OneUnit, leftBy, leftIn, leftFrom, BodyWalked}

@@ -6,8 +6,7 @@ use native.Mathlib.Omega.{arith}
 use lib.ListN.{length, getD, set, take, replicate, length-set, length-map, length-replicate, List·getD-eq-default}
 use lib.Seq.{take-at, take-all, take-suc-set}
 use Rattle.definition.specs.Basics.{from}
-use Rattle.session.specs.Session.{fresh}
-use Rattle.session.specs.Words.{whole, fixedBytes, sessionSize, sessionIn, sessionFits}
+use Rattle.session.specs.Words.{whole, fixedBytes}
 use Rattle.definition.proofs.Lists.Members.{map-append}
 use Rattle.session.proofs.SessionLaws.{from-length}
 use Rattle.session.proofs.HeldRuns.{from-split}

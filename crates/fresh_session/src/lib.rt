@@ -1,7 +1,6 @@
 // The fresh session: nothing counted, and the fixed names.
 ghost use mathlib.Core.Path.{_≡_};
-ghost use Prim.Native.Nat.{_≤_};
-ghost use lib.ListN.{length, getD, take, replicate};
+ghost use lib.ListN.{length};
 ghost use Rattle.fresh_session.specs.Fresh.{freshByte, freshIn, Fresh};
 use words::clear;
 
@@ -26,7 +25,7 @@ fn fixed_byte(i: usize) -> u8
     0
 }
 
-// Makes the session in the lent words and bytes a fresh one. They may be of any length; too short ones are refused as 23 by every routine that takes a session.
+// Makes the session in the lent words and bytes a fresh one. They may be of any length; `enter` refuses too short ones as 23.
 pub fn fresh(words: &mut [u32], bytes: &mut [u8])
     ensures { λ _. ⌜ Fresh (length (now (words .entry))) (length (now (bytes .entry))) (now (words .exit)) (now (bytes .exit)) ⌝ }
 {

@@ -7,7 +7,7 @@ use native.Mathlib.Omega.{arith}
 use lib.Dec.{eqb}
 use borrow.Author.Tests.{eq-eqb, ne-eqb, eqb-true, eqb-false}
 use Rattle.definition.specs.Basics.{if_then_else_, filter, any, first}
-use Rattle.definition.specs.Sheet.{Sheet, child, a, next, rows, chain, is, kidsOf}
+use Rattle.definition.specs.Sheet.{Sheet, child, next, rows, chain, is, kidsOf}
 use Rattle.definition.specs.Outside.{Outside, Method, recordOf}
 use Rattle.definition.specs.Classes.{ownMethods, methodNamed, mergeMethods, ofSheet, methodOf, methodAt, noMethod}
 use Rattle.definition.proofs.Lists.Tests.{T-true}

@@ -2,9 +2,9 @@
 use mathlib.Core.Path.{_≡_, refl, sym, ap, _∙_}
 use mathlib.Core.List.{List, [], _∷_, _++_, append-assoc, append-nil}
 use mathlib.Core.Bool.{Bool, true, false}
-use Prim.Native.Nat.{ℕ, zero, suc, _+_, _-_, _*_, _<_, _≤_}
+use Prim.Native.Nat.{ℕ, suc, _+_, _-_, _*_, _<_, _≤_}
 use native.Mathlib.Omega.{arith}
-use lib.ListN.{length, set, length-append}
+use lib.ListN.{length, length-append}
 use lib.Seq.{sets, length-sets}
 use lib.Dec.{eqb, leb}
 use borrow.Author.Tests.{eq-eqb, ne-eqb, le-leb, lt-leb}
@@ -13,6 +13,7 @@ use Rattle.definition.specs.Sheet.{Sheet, b}
 use Rattle.definition.specs.Meaning.{Meaning, Named, named, nothing, function, class, global, toplevel, variable}
 use Rattle.definition.specs.Answer.{raisedFunction, raisedClass}
 use Rattle.machine.specs.Machine.{entryWord}
+use Rattle.machine.proofs.Words.{sets-more}
 use Rattle.session.specs.Words.{laidWords}
 use Rattle.entry_walk.specs.Laid.{leftBy, leftIn, leftFrom}
 
@@ -44,19 +45,6 @@ module _ (s : Sheet) (n : ℕ) (v : List ℕ) (i : ℕ) {m t x y : ℕ} (em : m 
     where
       none : (m ∷ 0 ∷ 0 ∷ 0 ∷ []) ≡ laidWords (named m (leftBy s n t x y))
       none = rw (ne-eqb t 3 h₃, ne-eqb t 4 h₄, ne-eqb t 5 h₅, ne-eqb t 7 h₇)
-
--- four words, one after another
-pub four-set : (w : List ℕ) (p a b c d : ℕ) → set (set (set (set w p a) (p + 1) b) (p + 2) c) (p + 3) d ≡ sets w p (a ∷ b ∷ c ∷ d ∷ [])
-four-set w p a b c d =
-    let e₁ : p + 1 ≡ suc p = omega arith in
-    let e₂ : p + 2 ≡ suc (suc p) = omega arith in
-    let e₃ : p + 3 ≡ suc (suc (suc p)) = omega arith in
-    rw (e₁, e₂, e₃)
-
--- a run of words in two parts
-pub sets-more : (w : List ℕ) (p : ℕ) (xs ys : List ℕ) {q : ℕ} → q ≡ p + length xs → sets w p (xs ++ ys) ≡ sets (sets w p xs) q ys
-sets-more w p [] ys e = ap (λ (k : ℕ). sets w k ys) (omega arith)
-sets-more w p (x ∷ xs) ys e = sets-more (set w p x) (suc p) xs ys (omega arith)
 
 -- what open entry i leaves: nothing, if it is a mark
 pub mark-left : (s : Sheet) (n : ℕ) (v : List ℕ) (i : ℕ) → entryWord v i 0 ≤ 1 → leftIn s n v i ≡ []

@@ -1,8 +1,8 @@
 // What an entry declared, laid over the visible names of its session: four words for each declaration.
 ghost use mathlib.Core.Path.{_≡_};
-ghost use Prim.Native.Nat.{ℕ, _+_, _-_, _*_, _≤_};
+ghost use Prim.Native.Nat.{ℕ, _+_, _-_, _≤_};
 ghost use lib.Dec.{eqb};
-ghost use lib.ListN.{length, set};
+ghost use lib.ListN.{length};
 ghost use lib.Seq.{sets};
 ghost use Rattle.definition.specs.Basics.{bit, concatMap};
 ghost use Rattle.definition.specs.Meaning.{named};
@@ -19,6 +19,7 @@ use raise::raised_function;
 use symbols::entry;
 use symbols::env::entry_word;
 use symbols::tag;
+use words::put_words;
 use words::word;
 
 // A declaration laid over: its name, the code of what it means, the number of that, 1 if it is mutable.
@@ -83,24 +84,12 @@ fn left_at(sheet: &[u32], entries: &[u32], i: u32, base: u32) -> Laid
     }
 }
 
-// Writes a word, if its place is there.
-pub fn put_at(words: &mut [u32], place: usize, x: u32)
-    ensures { λ _. ⌜ now (words .exit) ≡ set (now (words .entry)) place x ⌝ }
-{
-    if place < words.len() {
-        words[place] = x;
-    }
-}
-
 // Writes a declaration.
 fn put_laid(words: &mut [u32], place: usize, d: Laid)
     requires { ⌜ place ≤ 34359738368 ⌝ }
     ensures { λ _. ⌜ now (words .exit) ≡ sets (now (words .entry)) place (laidOf d) ⌝ }
 {
-    put_at(words, place, d.name);
-    put_at(words, place + 1, d.code);
-    put_at(words, place + 2, d.number);
-    put_at(words, place + 3, d.mutable);
+    put_words(words, place, &[d.name, d.code, d.number, d.mutable]);
 }
 
 // How many declarations open entry `i` leaves: none, if it is a mark.

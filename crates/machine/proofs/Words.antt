@@ -1,11 +1,16 @@
 -- Words stored in lists.
 use mathlib.Core.Path.{_≡_, refl, ap, _∙_}
 use mathlib.Core.Logic.{_⊎_, inl, inr}
-use mathlib.Core.List.{List, [], _∷_}
+use mathlib.Core.List.{List, [], _∷_, _++_}
 use Prim.Native.Nat.{ℕ, zero, suc, _+_, _-_, _<_, _≤_}
 use native.Mathlib.Omega.{arith}
 use lib.ListN.{length, getD, set, length-set}
 use lib.Seq.{sets, getD-set-same, getD-set-other}
+
+-- a run of words in two parts
+pub sets-more : (w : List ℕ) (p : ℕ) (xs ys : List ℕ) {q : ℕ} → q ≡ p + length xs → sets w p (xs ++ ys) ≡ sets (sets w p xs) q ys
+sets-more w p [] ys e = ap (λ (k : ℕ). sets w k ys) (omega arith)
+sets-more w p (x ∷ xs) ys e = sets-more (set w p x) (suc p) xs ys (omega arith)
 
 -- words outside the stored run stay
 pub sets-out : (vs l : List ℕ) (i j : ℕ) → (j < i) ⊎ (i + length vs ≤ j) → getD (sets l i vs) j 0 ≡ getD l j 0

@@ -5,9 +5,9 @@ use mathlib.Core.List.{List, [], _∷_, _++_, append-assoc}
 use Prim.Native.Nat.{ℕ, zero, suc, _+_, _-_, _<_, _≤_}
 use native.Mathlib.Decide.{decLe}
 use native.Mathlib.Omega.{arith}
-use lib.ListN.{length, getD, take, drop, length-append, length-take, length-drop, take-append-drop, drop-of-length-le, List·getD-append, List·getD-eq-default}
+use lib.ListN.{length, getD, take, drop, length-append, take-append-drop, drop-of-length-le, List·getD-append, List·getD-eq-default}
 use lib.Seq.{drop-cons}
-use lib.Dec.{eqb, leb, T}
+use lib.Dec.{eqb, leb}
 use borrow.Author.Tests.{eq-eqb, ne-eqb, eqb-false, le-leb, lt-leb}
 use Rattle.definition.specs.Basics.{if_then_else_}
 use Rattle.definition.specs.Names.{Name, fixed, lead, listed, namesFit, namesEnded, namesFew, namesShort, namesSized, namesUnlike, sameName}
@@ -17,7 +17,7 @@ use Rattle.session.specs.Words.{whole, fixedBytes, nameBytes, sessionNamesFit, 
 use Rattle.name_text.specs.Text.{sessionText}
 use Rattle.name_text.proofs.TextLaws.{listed-after, begins, name-short}
 use Rattle.name_place.specs.declared.Place.{Place}
-use Rattle.name_place.specs.Place.{bytesBefore, nowhere, placeOf, textAt, NamePlaced}
+use Rattle.name_place.specs.Place.{bytesBefore, nowhere, textAt, NamePlaced}
 
 -- a list has as many bytes as its names with their ends, or fewer
 pub before-le : (k : ℕ) (xs : List ℕ) → bytesBefore k xs ≤ length xs

@@ -1,8 +1,7 @@
 -- Places, computed.
 use mathlib.Core.Path.{_≡_, refl}
 use mathlib.Core.Bool.{true, false}
-use mathlib.Core.List.{List, [], _∷_, _++_, map}
-use Prim.Native.Nat.{ℕ}
+use mathlib.Core.List.{[], _∷_, _++_, map}
 use lib.ListN.{length}
 use Rattle.definition.specs.Bytes.{bytes}
 use Rattle.session.specs.Words.{fixedBytes}

@@ -7,12 +7,8 @@ ghost use Rattle.definition.specs.Basics.{if_then_else_};
 ghost use Rattle.name_place.specs.Place.{bytesBefore, NamePlaced};
 use name_text::OF_SESSION;
 use name_text::name_text;
-
-// The byte that ends a name.
-const END: u8 = 10;
-
-// The number of the first listed name.
-const FIRST_LISTED: u32 = 25;
+use names::END;
+use names::FIRST_LISTED;
 
 // In which bytes a text stands: those of the session, or the list of the entry.
 const IN_SESSION: u32 = 0;

@@ -1,23 +1,21 @@
 -- The bytes of a reply, and how long a name can be.
 use mathlib.Core.Path.{_≡_, refl, sym, ap, subst, _∙_}
-use mathlib.Core.Bool.{Bool, true, false, not, _&&_, _||_}
-use mathlib.Core.List.{List, [], _∷_, _++_, append-assoc, append-nil}
+use mathlib.Core.Bool.{Bool, false}
+use mathlib.Core.List.{List, [], _∷_, _++_}
 use Prim.Native.Nat.{ℕ, zero, suc, _+_, _-_, _<_, _≤_}
 use native.Mathlib.Omega.{arith}
-use lib.ListN.{length, getD, set, take, drop, length-append, length-set, length-drop, drop-of-length-le}
-use lib.Seq.{take-all, take-at, drop-at, drop-drop}
-use lib.Dec.{eqb, leb, leb→le, T}
+use lib.ListN.{length, getD, set, take, drop, length-set}
+use lib.Seq.{take-all}
 use borrow.Rule.Slice.PartMut.{midOf, putMid}
-use Rattle.definition.specs.Basics.{if_then_else_, all}
-use Rattle.definition.specs.Names.{Name, fixed, listed, namesFew, namesShort, namesSized, namesEnded, namesUnlike, namesFit, sameName}
+use Rattle.definition.specs.Names.{Name, namesFit}
 use Rattle.definition.specs.Text.{textOf}
-use Rattle.definition.proofs.Lists.Tests.{T-true, and-left, and-right}
 use Rattle.names.proofs.Longer.{same-cut}
 use Rattle.name_text.proofs.TextLaws.{name-short}
-use Rattle.session.specs.Words.{whole, fixedBytes, nameBytes, sessionNamesFit, nameText}
+use Rattle.session.specs.Words.{whole, nameText}
 use Rattle.text.specs.Writing.{RowsWritten}
 use Rattle.text.proofs.Laws.{rows-fit}
 use Rattle.report.specs.Report.{Begins, reply}
+use Rattle.report.proofs.Laws.{begins-more}
 use Rattle.name_reply.specs.Reply.{printedName, RepliedOfName}
 
 -- bytes put at the start of a text, i of them so far
@@ -61,27 +59,13 @@ module _ (name before mid : List ℕ) (n : ℕ) (room : 336 ≤ length before) (
   abbrev line : List ℕ
   line = textOf (row (length name) ∷ [])
 
-  line-written : mid ≡ line ++ drop 81 before
-  line-written = written .text ∙ rows-fit (row (length name)) before (omega arith) .1
+  line-written : Begins line before 81 mid
+  line-written = record { count = refl; text = written .text ∙ rows-fit (row (length name)) before (omega arith) .1 }
 
-  after-line : drop 81 mid ≡ drop 81 before
-  after-line = ap (drop 81) line-written ∙ drop-at line (drop 81 before) 81 refl
-
-  -- what stands after the line
-  rest : midOf 81 (length mid - 81) mid ≡ drop 81 before
-  rest = take-all (length mid - 81) (drop 81 mid) (omega (arith, length-drop 81 mid)) ∙ after-line
-
+  -- and the name after it
   pub name-printed : (part : List ℕ) → part ≡ name ++ drop (length name) (midOf 81 (length mid - 81) mid)
       → Begins (printedName name) before (81 + length name) (putMid 81 (length mid - 81) mid part)
-  name-printed part e = record {
-    count = sym (length-append line name);
-    text =
-        ap (λ (t : List ℕ). t ++ (part ++ drop (length mid - 81) (drop 81 mid))) (ap (take 81) line-written ∙ take-at line (drop 81 before) 81 refl)
-        ∙ ap (λ (t : List ℕ). line ++ (part ++ t)) (drop-of-length-le (drop 81 mid) {i = length mid - 81} (omega (arith, length-drop 81 mid)))
-        ∙ ap (λ (t : List ℕ). line ++ t)
-        (append-nil part ∙ e ∙ ap (λ (t : List ℕ). name ++ drop (length name) t) rest ∙ ap (λ (t : List ℕ). name ++ t) (drop-drop (length name) 81 before))
-        ∙ sym (append-assoc line name (drop (81 + length name) before));
-  }
+  name-printed part e = begins-more line-written (record { count = refl; text = e })
 
 -- A text t that is the name of a number.
 module _ (w b ns : List ℕ) (ofEntry : Bool) (k : ℕ) {t : List ℕ} (e : t ≡ nameText whole w b ns ofEntry k) where

@@ -3,7 +3,6 @@ use mathlib.Core.Path.{_≡_, refl}
 use mathlib.Core.Bool.{true, false}
 use mathlib.Core.List.{List, [], _∷_, _++_, map}
 use Prim.Native.Nat.{ℕ}
-use lib.ListN.{length, getD}
 use Rattle.definition.specs.Bytes.{bytes}
 use Rattle.session.specs.Words.{whole, fixedBytes, nameText}
 use Rattle.name_reply.specs.Reply.{printedName}

@@ -8,10 +8,8 @@ ghost use lib.ListN.{length, drop};
 ghost use Rattle.report.specs.Report.{Begins};
 ghost use Rattle.name_reply.specs.Reply.{printedName, RepliedOfName};
 use name_text::name_text;
+use report::LINE;
 use text::write_rows;
-
-// The bytes of a line of numbers.
-const LINE: usize = 81;
 
 // Puts bytes at the start of the lent text.
 fn put_start(name: &[u8], text: &mut [u8])

@@ -1,14 +1,14 @@
 -- Texts of names: the fixed and the listed names of a session as one list.
-use mathlib.Core.Path.{_≡_, refl, sym, ap, _∙_, subst}
+use mathlib.Core.Path.{_≡_, refl, sym, ap, _∙_}
 use mathlib.Core.Bool.{Bool, true, false, not, _&&_, _||_}
 use mathlib.Core.List.{List, [], _∷_, _++_}
 use Prim.Native.Nat.{ℕ, zero, suc, _+_, _-_, _<_, _≤_}
 use native.Mathlib.Omega.{arith}
 use native.Mathlib.Numerals.{sub-one}
 use lib.ListN.{length, getD, take, drop, length-append, length-take, length-drop, List·getD-eq-default}
-use lib.Seq.{take-all, take-nil, drop-nil}
+use lib.Seq.{take-all, take-nil}
 use lib.Dec.{eqb, leb, T, leb→le}
-use borrow.Author.Tests.{eq-eqb, ne-eqb, eqb-true, eqb-false, le-leb, lt-leb}
+use borrow.Author.Tests.{ne-eqb, eqb-true, eqb-false, le-leb, lt-leb}
 use Rattle.definition.specs.Basics.{if_then_else_, all}
 use Rattle.definition.specs.Names.{Name, fixed, lead, listed, sameName, namesFew, namesShort, namesSized, namesEnded, namesUnlike, namesFit}
 use Rattle.definition.proofs.Lists.Tests.{T-true, true-of, and-left, and-right}

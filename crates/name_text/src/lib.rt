@@ -1,35 +1,26 @@
 // The text of a name, as a part of the lent bytes in which it stands: those of a session, or the list of an entry.
 ghost use mathlib.Core.Path.{_≡_};
-ghost use mathlib.Core.Bool.{true, not};
-ghost use mathlib.Core.List.{[], _++_};
+ghost use mathlib.Core.Bool.{not};
 ghost use Prim.Native.Nat.{_-_, _≤_};
 ghost use lib.Dec.{eqb};
-ghost use lib.ListN.{getD, length, take, drop};
+ghost use lib.ListN.{length, take, drop};
 ghost use Rattle.definition.specs.Basics.{if_then_else_};
-ghost use Rattle.definition.specs.Names.{fixed, listed, namesFit};
+ghost use Rattle.definition.specs.Names.{fixed, listed};
 ghost use Rattle.session.specs.Words.{whole, nameBytes, sessionNamesFit, nameText};
 ghost use Rattle.name_text.specs.Text.{listText, sessionText};
 use name_index::names_fit;
+use names::FIRST_LISTED;
 use names::count_names;
 use names::name_bytes;
 use names::same_name;
+use session::layout;
 use words::word_at;
 
 // Whose number is asked about: any other word says the entry's.
 pub const OF_SESSION: u32 = 0;
 
-// The number of the first listed name, and the largest that a listed name can have.
-const FIRST_LISTED: u32 = 25;
-
+// The largest number that a listed name can have.
 const LAST_LISTED: u32 = 1048;
-
-// The bytes of the fixed names, before those of the listed ones.
-const FIXED_BYTES: usize = 168;
-
-// Words of a session: how many names are listed, and in how many bytes.
-const NAMES: usize = 3;
-
-const NAME_BYTES: usize = 4;
 
 // The name of a number in the list of an entry; an empty part if the list is refused as 2.
 fn list_text(list: &[u8], number: u32) -> &[u8]
@@ -47,7 +38,7 @@ fn list_end(words: &[u32], bytes: &[u8]) -> usize
     ensures { λ r. ⌜ (168 ≤ r) × (r ≤ length (now (bytes .entry)))
         × (take (r - 168) (drop 168 (now (bytes .entry))) ≡ nameBytes whole (now (words .entry)) (now (bytes .entry))) ⌝ }
 {
-    let end = FIXED_BYTES + word_at(words, NAME_BYTES) as usize;
+    let end = layout::FIXED_BYTES + word_at(words, layout::NAME_BYTES) as usize;
     if bytes.len() < end {
         return bytes.len();
     }
@@ -59,14 +50,14 @@ fn session_names_fit(words: &[u32], bytes: &[u8], end: usize) -> bool
     requires { ⌜ (168 ≤ end) × (end ≤ length (now bytes)) × (take (end - 168) (drop 168 (now bytes)) ≡ nameBytes whole (now words) (now bytes)) ⌝ }
     ensures { λ x. ⌜ x ≡ sessionNamesFit whole (now (words .entry)) (now (bytes .entry)) ⌝ }
 {
-    if !same_name(&bytes[..FIXED_BYTES], &names::FIXED) {
+    if !same_name(&bytes[..layout::FIXED_BYTES], &names::FIXED) {
         return false;
     }
-    let list = &bytes[FIXED_BYTES..end];
+    let list = &bytes[layout::FIXED_BYTES..end];
     if !names_fit(list) {
         return false;
     }
-    count_names(list) == word_at(words, NAMES) as usize
+    count_names(list) == word_at(words, layout::NAMES) as usize
 }
 
 // The name of a number in a session: the fixed and the listed names stand one after another. An empty part if its names are none that pass question 23.
@@ -79,7 +70,7 @@ fn session_text<'a>(words: &[u32], bytes: &'a [u8], number: u32) -> &'a [u8]
     if LAST_LISTED < number {
         return &bytes[..0];
     }
-    if bytes.len() < FIXED_BYTES {
+    if bytes.len() < layout::FIXED_BYTES {
         return &bytes[..0];
     }
     let end = list_end(words, bytes);

@@ -8,12 +8,13 @@ ghost use lib.ListN.{length, getD, take};
 ghost use Rattle.definition.specs.Names.{listed, sameName, namesFew, namesSized, namesEnded};
 ghost use Rattle.names.specs.Listed.{nameOf, Ends, starts, numbered, named};
 use ast::limit;
+use ast::name;
 
 // The byte that ends a name.
-const END: u8 = 10;
+pub const END: u8 = 10;
 
 // The number of the first listed name. Smaller numbers are fixed.
-const FIRST_LISTED: u32 = 25;
+pub const FIRST_LISTED: u32 = name::LAST_FIXED as u32 + 1;
 
 // The fixed names as a list of their own, in the order of their numbers 1 to 24.
 pub const FIXED: [u8; 168] =

@@ -4,10 +4,9 @@ use mathlib.Core.List.{List, _∷_, map}
 use Prim.Native.Nat.{ℕ, zero, suc, _-_, _<_, _≤_, min}
 use native.Mathlib.Omega.{arith}
 use Rattle.definition.specs.Basics.{from}
-use Rattle.definition.specs.Sheet.{Sheet, word, rows}
+use Rattle.definition.specs.Sheet.{Sheet, word}
 use Rattle.definition.specs.Meaning.{Named}
 use Rattle.outside.specs.Words.{nameAt, over}
-use Rattle.definition.specs.Walk.{before}
 use Rattle.machine.specs.Machine.{Scopes, pushName, openNames}
 
 -- the names of the rows from row i to row n

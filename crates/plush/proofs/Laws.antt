@@ -9,19 +9,18 @@ use lib.Dec.{eqb, leb}
 use borrow.Author.Tests.{eqb-true}
 use Rattle.definition.specs.Basics.{if_then_else_}
 use Rattle.definition.specs.Sheet.{Sheet}
-use Rattle.definition.specs.Outcome.{outcome, report}
+use Rattle.definition.specs.Outcome.{outcome, report, rowsOfWords}
 use Rattle.definition.specs.Claims.{Demand3}
 use Rattle.definition.specs.Outside.{core}
 use Rattle.definition.proofs.Format.Accepted.{good-outcome}
 use Rattle.answer.specs.declared.Answer.{Answer}
 use Rattle.report.specs.Report.{fitted, reportLine, toldBy}
 use Rattle.report.proofs.Laws.{told-line, line-first}
-use Rattle.resolver.specs.Answered.{Answered, rowsOfWords}
+use Rattle.resolver.specs.Answered.{Answered}
 use Rattle.name_index.specs.Index.{find}
 use Rattle.session.specs.Session.{outsideOf}
 use Rattle.session.specs.Entry.{entrySheet}
 use Rattle.session.specs.Words.{whole, nameText, sessionIn, enterOutcome}
-use Rattle.raise.specs.RaisedWords.{rowsIn}
 use Rattle.prompt.specs.Entered.{Entered}
 use Rattle.name_place.specs.declared.Place.{Place}
 use Rattle.name_place.specs.Place.{bytesBefore, nowhere, placeOf, textAt, NamePlaced}
@@ -58,7 +57,7 @@ session-entered w n s ns lent room x out line r w′ n′ a e f = record {
   held = a .held;
   closures =
       λ z.
-      subst (λ (k : ℕ). Demand3 (outsideOf (sessionIn whole w n)) (entrySheet (sessionIn whole w n) ns s) (rowsIn k out)) (a .tells .rows) (a .closures z);
+      subst (λ (k : ℕ). Demand3 (outsideOf (sessionIn whole w n)) (entrySheet (sessionIn whole w n) ns s) (rowsOfWords k out)) (a .tells .rows) (a .closures z);
 }
 
 -- what `find_name` answers, in the lent words

@@ -4,11 +4,10 @@ use mathlib.Core.List.{List}
 use Prim.Native.Nat.{ℕ}
 use lib.ListN.{length}
 use Rattle.definition.specs.Sheet.{Sheet}
-use Rattle.definition.specs.Outcome.{outcome, buffer}
+use Rattle.definition.specs.Outcome.{outcome, buffer, rowsOfWords}
 use Rattle.definition.specs.Claims.{Demand3}
 use Rattle.definition.specs.Outside.{core}
 use Rattle.report.specs.Report.{fitted, reportLine}
-use Rattle.resolver.specs.Answered.{rowsOfWords}
 
 -- Of sheet s, the bytes ns of its names, `lent` answer words, which then are w, and `room` report words, which then are r:
 pub record Resolved (s : Sheet) (ns : List ℕ) (lent room n : ℕ) (w r : List ℕ) : Type 0 where

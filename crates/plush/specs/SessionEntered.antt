@@ -5,14 +5,13 @@ use mathlib.Core.List.{List}
 use Prim.Native.Nat.{ℕ}
 use lib.ListN.{length}
 use Rattle.definition.specs.Sheet.{Sheet}
-use Rattle.definition.specs.Outcome.{buffer}
+use Rattle.definition.specs.Outcome.{buffer, rowsOfWords}
 use Rattle.definition.specs.Claims.{Demand3}
 use Rattle.report.specs.Report.{fitted, reportLine}
 use Rattle.session.specs.Session.{outsideOf}
 use Rattle.session.specs.Entry.{entrySheet}
 use Rattle.session.specs.Enter.{afterEntry}
 use Rattle.session.specs.Words.{whole, sessionIn, sessionFits, enterOutcome, enterWords, enterBytes}
-use Rattle.raise.specs.RaisedWords.{rowsIn}
 
 -- Of session words w and bytes n, which then are w′ and n′, sheet s, the bytes ns of its names, `lent` answer words, which then are `out`, and `room`
 -- report words, which then are r:
@@ -31,4 +30,4 @@ pub record SessionEntered (w n : List ℕ) (s : Sheet) (ns : List ℕ) (lent roo
   pub held : sessionFits whole w n ≡ true → sessionIn whole w′ n′ ≡ afterEntry (sessionIn whole w n) s ns lent
   -- and where no question got a no, the closure claim holds of the entry by itself, over what earlier entries left, and of the rows in the answer words.
   pub closures : k ≡ 0
-      → Demand3 (outsideOf (sessionIn whole w n)) (entrySheet (sessionIn whole w n) ns s) (rowsIn (length (enterOutcome whole w n s ns lent .rows)) out)
+      → Demand3 (outsideOf (sessionIn whole w n)) (entrySheet (sessionIn whole w n) ns s) (rowsOfWords (length (enterOutcome whole w n s ns lent .rows)) out)

@@ -3,7 +3,7 @@ use mathlib.Core.Path.{_≡_, refl, sym, ap, _∙_, subst}
 use mathlib.Core.Logic.{_⊎_, inl, inr}
 use mathlib.Core.Bool.{Bool, true, false, not, _&&_}
 use mathlib.Core.List.{List, [], _∷_, _++_}
-use Prim.Native.Nat.{ℕ, _-_, _*_, _<_, _≤_}
+use Prim.Native.Nat.{ℕ, _-_, _*_, _<_}
 use native.Mathlib.Omega.{arith}
 use lib.Dec.{eqb, leb}
 use lib.ListN.{length, getD, set, replicate}
@@ -12,15 +12,13 @@ use Rattle.definition.specs.Basics.{if_then_else_}
 use Rattle.definition.specs.Names.{Name, namesFit, nameCount}
 use Rattle.definition.specs.Sheet.{Sheet}
 use Rattle.definition.specs.Format.{sheetFits, depthsFit}
-use Rattle.definition.specs.Outcome.{Outcome, refused, rowsFit, asked, buffer}
+use Rattle.definition.specs.Outcome.{Outcome, refused, rowsFit, asked, buffer, rowsOfWords}
 use Rattle.definition.specs.Claims.{Demand3}
-use Rattle.definition.proofs.Format.Accepted.{Eights, good-asked}
+use Rattle.definition.proofs.Format.Accepted.{Eights, good-asked, rows-back}
 use Rattle.lexer.specs.SrcPos.{fileOf, lineOf, columnOf}
 use Rattle.answer.specs.declared.Answer.{Answer}
 use Rattle.answer.specs.Tells.{Tells}
 use Rattle.finish.proofs.SettledLaws.{zeros-words}
-use Rattle.raise.specs.RaisedWords.{rowsIn}
-use Rattle.raise.proofs.BasedLaws.{rows-back}
 use Rattle.session.specs.Session.{Session, outsideOf, within}
 use Rattle.session.specs.Entry.{newNames, toEntry, entrySheet}
 use Rattle.session.specs.Enter.{renamed, newEntry, nextGlobal, entered, afterEntry, accepting}
@@ -180,9 +178,9 @@ module _ (w n : List ℕ) (s : Sheet) (ns : List ℕ) (lent : ℕ) (fit : sessio
       held = h .asked .words ∙ sym (ap (buffer lent) outcome-is)
 
       -- the rows in the buffer
-      back : rowsIn (x .rows) out ≡ enterOutcome whole w n s ns lent .rows
+      back : rowsOfWords (x .rows) out ≡ enterOutcome whole w n s ns lent .rows
       back =
-          ap (λ (k : ℕ). rowsIn k out) (ap (λ (z : Answer). z .rows) same ∙ h .asked .tells .rows) ∙ ap (rowsIn (length (o .rows))) (h .asked .words)
+          ap (λ (k : ℕ). rowsOfWords k out) (ap (λ (z : Answer). z .rows) same ∙ h .asked .tells .rows) ∙ ap (rowsOfWords (length (o .rows))) (h .asked .words)
           ∙ rows-back (o .rows) (replicate (lent - 8 * length (o .rows)) 0) eights ∙ sym (ap (λ (z : Outcome). z .rows) outcome-is)
 
       pub entered-all : {n′ : List ℕ} → n′ ≡ enterBytes whole w n s ns lent → Entered w n s ns lent x out w′ n′

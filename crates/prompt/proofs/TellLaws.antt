@@ -1,8 +1,8 @@
 -- The numbers that an entry's names are told by, in a session past question 23: how many there are, and that names lie in the lent bytes.
-use mathlib.Core.Path.{_≡_, refl, sym, ap, _∙_, subst}
-use mathlib.Core.Bool.{Bool, true, false, not}
-use mathlib.Core.List.{List, [], _∷_, _++_, map}
-use Prim.Native.Nat.{ℕ, suc, _+_, _-_, _<_, _≤_}
+use mathlib.Core.Path.{_≡_, sym, ap, _∙_, subst}
+use mathlib.Core.Bool.{true, not}
+use mathlib.Core.List.{List}
+use Prim.Native.Nat.{ℕ, suc, _+_, _-_, _≤_}
 use native.Mathlib.Omega.{arith}
 use lib.Dec.{leb→le}
 use lib.ListN.{length, getD, take, drop, length-append, length-map}
@@ -18,7 +18,7 @@ use Rattle.session.specs.Words.{whole, nameBytes, sessionIn, sessionFits}
 use Rattle.session.proofs.NameLaws.{names-apart}
 use Rattle.session.proofs.HeldRuns.{held-names}
 use Rattle.session.proofs.CountLaws.{list-fits, limits}
-use Rattle.entry_names.specs.Told.{sessionNumbers, NamesTold}
+use Rattle.entry_names.specs.Told.{NamesTold}
 use Rattle.entry_names.proofs.NumberLaws.{first-new}
 use Rattle.entry_ready.specs.Asked.{entryNo}
 use Rattle.entry_ready.proofs.PastLaws.{passed, shorter}

@@ -4,13 +4,12 @@ use mathlib.Core.Bool.{true}
 use mathlib.Core.List.{List}
 use Prim.Native.Nat.{ℕ}
 use Rattle.definition.specs.Sheet.{Sheet}
-use Rattle.definition.specs.Outcome.{buffer}
+use Rattle.definition.specs.Outcome.{buffer, rowsOfWords}
 use Rattle.definition.specs.Claims.{Demand3}
 use Rattle.session.specs.Session.{outsideOf}
 use Rattle.session.specs.Entry.{entrySheet}
 use Rattle.session.specs.Enter.{afterEntry}
 use Rattle.session.specs.Words.{whole, sessionIn, sessionFits, enterOutcome, enterWords, enterBytes}
-use Rattle.raise.specs.RaisedWords.{rowsIn}
 use Rattle.answer.specs.declared.Answer.{Answer}
 use Rattle.answer.specs.Tells.{Tells}
 
@@ -29,4 +28,4 @@ pub record Entered (w n : List ℕ) (s : Sheet) (ns : List ℕ) (lent : ℕ) (x 
   pub held : sessionFits whole w n ≡ true → sessionIn whole w′ n′ ≡ afterEntry (sessionIn whole w n) s ns lent
   -- and where no question got a no, the closure claim holds of the entry by itself: of its sheet with the session's names, over what earlier entries left,
   -- and of the rows in the buffer.
-  pub closures : x .number ≡ 0 → Demand3 (outsideOf (sessionIn whole w n)) (entrySheet (sessionIn whole w n) ns s) (rowsIn (x .rows) out)
+  pub closures : x .number ≡ 0 → Demand3 (outsideOf (sessionIn whole w n)) (entrySheet (sessionIn whole w n) ns s) (rowsOfWords (x .rows) out)

@@ -12,24 +12,16 @@ ghost use Rattle.entry_space.specs.Space.{Told};
 ghost use Rattle.prompt.specs.Entered.{Entered};
 use answer::Answer;
 use answer::refuse;
+use ast::name;
+use ast::question;
 use entry_names::append_names;
 use entry_names::entry_number;
 use entry_names::number_names;
 use entry_ready::ask_entry;
 use entry_space::enter_sheet;
+use session::layout;
 use session_check::check_session;
 use words::word_at;
-
-// Question 23.
-const SESSION: u32 = 23;
-
-// The bytes of the fixed names, before those of the listed ones, and how many fixed names there are.
-const FIXED_BYTES: usize = 168;
-
-const FIXED_NAMES: usize = 24;
-
-// The word of a session that counts the bytes of its listed names.
-const NAME_BYTES: usize = 4;
 
 // An entry whose names have the session's numbers. `starts` is one more than the session's listed names, `new` of the entry's are new, in `size` bytes.
 fn enter_told(
@@ -48,9 +40,9 @@ fn enter_told(
     ensures { λ x. ⌜ Entered (now (words .entry)) (now (bytes .entry)) (now (sheet .entry)) (now (names .entry)) (length (now (out .entry))) x (now (out .exit))
         (now (words .exit)) (now (bytes .exit)) ⌝ }
 {
-    let at = FIXED_BYTES + word_at(words, NAME_BYTES) as usize;
+    let at = layout::FIXED_BYTES + word_at(words, layout::NAME_BYTES) as usize;
     let mut answer = enter_sheet(words, sheet, numbers, new, size, out);
-    let first = FIXED_NAMES + starts;
+    let first = name::LAST_FIXED + starts;
     answer.name = entry_number(numbers, (first - 1 + new) as u32, answer.name);
     if answer.number != 0 {
         return answer;
@@ -74,9 +66,15 @@ fn enter_named(
     ensures { λ x. ⌜ Entered (now (words .entry)) (now (bytes .entry)) (now (sheet .entry)) (now (names .entry)) (length (now (out .entry))) x (now (out .exit))
         (now (words .exit)) (now (bytes .exit)) ⌝ }
 {
-    let end = FIXED_BYTES + word_at(words, NAME_BYTES) as usize;
+    let end = layout::FIXED_BYTES + word_at(words, layout::NAME_BYTES) as usize;
     let mut numbers = [0u32; 1024];
-    let told = number_names(&bytes[FIXED_BYTES..end], table, index, names, &mut numbers);
+    let told = number_names(
+        &bytes[layout::FIXED_BYTES..end],
+        table,
+        index,
+        names,
+        &mut numbers,
+    );
     enter_told(
         words,
         bytes,
@@ -128,7 +126,7 @@ pub fn enter(
     let mut index = [0u32; 2048];
     let count = check_session(words, bytes, &mut table, &mut index);
     if count == 0 {
-        return refuse(SESSION, out);
+        return refuse(question::SESSION, out);
     }
     enter_checked(words, bytes, &table[..count], &index, sheet, names, out)
 }

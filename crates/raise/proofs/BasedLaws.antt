@@ -2,12 +2,12 @@
 use mathlib.Core.Path.{_≡_, refl, sym, ap, _∙_, subst}
 use mathlib.Core.Logic.{_⊎_, inl, inr}
 use mathlib.Core.Bool.{Bool, true, false, not}
-use mathlib.Core.List.{List, [], _∷_, _++_, map, append-assoc}
+use mathlib.Core.List.{List, [], _∷_, _++_, map}
 use Prim.Native.Nat.{ℕ, zero, suc, _+_, _-_, _*_, _≤_, min}
 use native.Mathlib.Omega.{arith}
 use lib.Dec.{eqb, leb, T}
-use lib.ListN.{length, take, drop, replicate, length-append, length-map}
-use lib.Seq.{take-at, drop-at}
+use lib.ListN.{length, drop, replicate, length-append, length-map}
+use lib.Seq.{drop-at}
 use Rattle.definition.specs.Basics.{if_then_else_, all, filter, concatMap, from, _∈?_}
 use Rattle.definition.specs.Sheet.{Sheet, file, line, column, a, rows, is}
 use Rattle.definition.specs.Outside.{Outside, OutsideFits, based}
@@ -17,10 +17,10 @@ use Rattle.definition.specs.Classes.{ofSheet, lacksRecord, parentOf}
 use Rattle.definition.specs.Slots.{finalGlobals}
 use Rattle.definition.specs.Question.{Refusal, none, ask, firstNo, Open, openOn, askEvent, askClimb, firstOfClasses, askConstructor, refusal}
 use Rattle.definition.specs.Answer.{answers, raisedRow, raised}
-use Rattle.definition.specs.Outcome.{Outcome, refusedAt, refused, rowsFit, answered, asked, buffer}
+use Rattle.definition.specs.Outcome.{Outcome, refusedAt, refused, rowsFit, answered, asked, buffer, rowsOfWords}
 use Rattle.definition.proofs.Lists.Members.{map-same}
-use Rattle.definition.proofs.Format.Accepted.{Eights, good-asked}
-use Rattle.raise.specs.RaisedWords.{ownerFits, rowsIn, raisedWords}
+use Rattle.definition.proofs.Format.Accepted.{Eights, good-asked, flat-length, rows-back}
+use Rattle.raise.specs.RaisedWords.{ownerFits, raisedWords}
 use Rattle.raise.proofs.OwnerLaws.{owners-fit}
 
 -- an outcome with its rows over base n
@@ -145,21 +145,6 @@ refused-based O z n lent s f = asked-based O z n lent s ∙ ap with-rows (go (as
     go (inl e) = absurd (f (e .0))
     go (inr e) = ap (raised n) e ∙ sym (raised-empty n) ∙ sym e
 
--- rows in words, and back
-pub flat-length : {rs : List (List ℕ)} → Eights rs → length (concatMap (λ r. r) rs) ≡ 8 * length rs
-flat-length Eights.none = refl
-flat-length (Eights.more {r = r} {rs = rs} e p) = length-append r (concatMap (λ r. r) rs) ∙ omega (arith, e, flat-length p)
-
-pub rows-back : (rs : List (List ℕ)) (w : List ℕ) → Eights rs → rowsIn (length rs) (concatMap (λ r. r) rs ++ w) ≡ rs
-unfolding rowsIn
-rows-back [] w e = refl
-rows-back (r ∷ rs) w (Eights.more e p) =
-    let u : List ℕ = concatMap (λ r. r) rs ++ w in
-    ap (λ (l : List ℕ). take 8 l ∷ rowsIn (length rs) (drop 8 l)) (append-assoc r (concatMap (λ r. r) rs) w)
-    ∙ ap (λ (l : List ℕ). l ∷ rowsIn (length rs) (drop 8 (r ++ u))) (take-at r u 8 e)
-    ∙ ap (λ (l : List ℕ). r ∷ rowsIn (length rs) l) (drop-at r u 8 e)
-    ∙ ap (λ (l : List (List ℕ)). r ∷ l) (rows-back rs w p)
-
 raised-words : (n lent : ℕ) (x : Outcome) → Eights (x .rows) → raisedWords n (length (x .rows)) (buffer lent x) ≡ buffer lent (raisedOutcome n x)
 unfolding raisedWords
 raised-words n lent x p =
@@ -185,7 +170,7 @@ module _ (O : Outside) (base : O .base ≡ 0) (s : Sheet) (lent : ℕ) {k : ℕ}
       ∙ ap (buffer lent) (sym (asked-based O base n lent s))
 
   -- what `raise_rows` asks of it
-  pub buffer-ready : OutsideFits O → T (rowsFit s) → (8 * k ≤ length w) × T (all ownerFits (rowsIn k w))
+  pub buffer-ready : OutsideFits O → T (rowsFit s) → (8 * k ≤ length w) × T (all ownerFits (rowsOfWords k w))
   buffer-ready known whole = (room, subst (λ (l : List (List ℕ)). T (all ownerFits l)) (sym back) (fit (asked-rows O lent s)))
     where
       zeros : List ℕ
@@ -194,8 +179,8 @@ module _ (O : Outside) (base : O .base ≡ 0) (s : Sheet) (lent : ℕ) {k : ℕ}
       room : 8 * k ≤ length w
       room = omega (arith, counted, ap length held, length-append (concatMap (λ r. r) rs) zeros, flat-length eights)
 
-      back : rowsIn k w ≡ rs
-      back = ap (λ (i : ℕ). rowsIn i w) counted ∙ ap (rowsIn (length rs)) held ∙ rows-back rs zeros eights
+      back : rowsOfWords k w ≡ rs
+      back = ap (λ (i : ℕ). rowsOfWords i w) counted ∙ ap (rowsOfWords (length rs)) held ∙ rows-back rs zeros eights
 
       out : ℕ → List (List ℕ)
       out b = raised b (answers O s (history O s))

@@ -11,9 +11,10 @@ use lib.Dec.{eqb, ltb, T}
 use lib.ListN.{length, getD, set, take, drop, take-append-drop, length-append, length-drop}
 use lib.Seq.{take-at, drop-drop, length-take-le}
 use Rattle.definition.specs.Basics.{_⇒_, all, concatMap}
-use Rattle.definition.specs.Answer.{raisedFunction, raisedClass, raisedRow, raised}
+use Rattle.definition.specs.Answer.{raisedFunction, raisedClass, raisedRow}
 use Rattle.definition.proofs.Lists.Tests.{true-of, T-and}
-use Rattle.raise.specs.RaisedWords.{ownerFits, rowsIn, raisedWords}
+use Rattle.definition.specs.Outcome.{rowsOfWords}
+use Rattle.raise.specs.RaisedWords.{ownerFits, raisedWords}
 
 -- the codes of an argument and of a local
 between : (c : ℕ) → 4 ≤ c → c < 6 → (c ≡ 4) ⊎ (c ≡ 5)
@@ -62,28 +63,28 @@ module _ (n : ℕ) (x : List ℕ) where
 -- The first k rows of words, each replaced by what f makes of it, one after another.
 module _ (f : List ℕ → List ℕ) where
   abbrev replaced : ℕ → List ℕ → List ℕ
-  replaced k w = concatMap (λ r. r) (map f (rowsIn k w)) ++ drop (8 * k) w
+  replaced k w = concatMap (λ r. r) (map f (rowsOfWords k w)) ++ drop (8 * k) w
 
   -- in w the first r of the k rows of w₀ are replaced; those after them are to be, and fit
   pub record Done (k : ℕ) (w₀ : List ℕ) (r : ℕ) (w : List ℕ) : Type 0 where
     pub passed : r ≤ k
     pub same-length : length w ≡ length w₀
-    pub fit : T (all ownerFits (rowsIn (k - r) (drop (8 * r) w)))
+    pub fit : T (all ownerFits (rowsOfWords (k - r) (drop (8 * r) w)))
     pub ahead : take (8 * r) w ++ replaced (k - r) (drop (8 * r) w) ≡ replaced k w₀
 
-  pub none-done : (k : ℕ) (w : List ℕ) → T (all ownerFits (rowsIn k w)) → Done k w 0 w
+  pub none-done : (k : ℕ) (w : List ℕ) → T (all ownerFits (rowsOfWords k w)) → Done k w 0 w
   none-done k w h =
       let z : k ≡ k - 0 = omega arith in
       record {
         passed = omega arith;
         same-length = refl;
-        fit = subst (λ (j : ℕ). T (all ownerFits (rowsIn j w))) z h;
+        fit = subst (λ (j : ℕ). T (all ownerFits (rowsOfWords j w))) z h;
         ahead = ap (λ (j : ℕ). replaced j w) (sym z);
       }
 
   module _ {k : ℕ} {w₀ : List ℕ} {r : ℕ} {w : List ℕ} (d : Done k w₀ r w) where
     pub all-done : k ≤ r → w ≡ replaced k w₀
-    unfolding rowsIn
+    unfolding rowsOfWords
     all-done l =
         let z : k - r ≡ 0 = omega (arith, d .passed) in
         sym (take-append-drop (8 * r) w) ∙ ap (λ (j : ℕ). take (8 * r) w ++ replaced j (drop (8 * r) w)) (sym z) ∙ d .ahead
@@ -102,20 +103,20 @@ module _ (f : List ℕ → List ℕ) where
       left : k - r ≡ suc (k - (r + 1))
       left = omega arith
 
-      fits : T (ownerFits (take 8 v)) × T (all ownerFits (rowsIn (k - (r + 1)) (drop 8 v)))
-      unfolding rowsIn
-      fits = T-and (ownerFits (take 8 v)) (all ownerFits (rowsIn (k - (r + 1)) (drop 8 v))) (subst (λ (j : ℕ). T (all ownerFits (rowsIn j v))) left (d .fit))
+      fits : T (ownerFits (take 8 v)) × T (all ownerFits (rowsOfWords (k - (r + 1)) (drop 8 v)))
+      unfolding rowsOfWords
+      fits = T-and (ownerFits (take 8 v)) (all ownerFits (rowsOfWords (k - (r + 1)) (drop 8 v))) (subst (λ (j : ℕ). T (all ownerFits (rowsOfWords j v))) left (d .fit))
 
       pub next-fits : T (ownerFits (take m v))
       next-fits = subst (λ (x : List ℕ). T (ownerFits x)) (sym next-row) (fits .0)
 
       pub one-done : {z : List ℕ} → 8 * k ≤ length w₀ → length (putMid (8 * r) m w z) ≡ length w → z ≡ f (take m v) → Done k w₀ (r + 1) (putMid (8 * r) m w z)
-      unfolding rowsIn
+      unfolding rowsOfWords
       one-done {z} room e h =
           record {
             passed = omega arith;
             same-length = e ∙ d .same-length;
-            fit = subst (λ (u : List ℕ). T (all ownerFits (rowsIn (k - (r + 1)) u))) (sym rest) (fits .1);
+            fit = subst (λ (u : List ℕ). T (all ownerFits (rowsOfWords (k - (r + 1)) u))) (sym rest) (fits .1);
             ahead =
                 ap (λ (u : List ℕ). u ++ replaced (k - (r + 1)) (drop (8 * (r + 1)) w′)) front
                 ∙ ap (λ (u : List ℕ). (take (8 * r) w ++ z) ++ replaced (k - (r + 1)) u) rest
@@ -159,19 +160,19 @@ module _ (f : List ℕ → List ℕ) where
               let row : z ≡ f (take 8 v) = h ∙ ap f next-row in
               let end : 8 * suc j ≡ 8 + 8 * j = omega arith in
               ap (λ (u : List ℕ). u ++ replaced j (drop 8 v)) row
-              ∙ sym (append-assoc (f (take 8 v)) (concatMap (λ r. r) (map f (rowsIn j (drop 8 v)))) (drop (8 * j) (drop 8 v)))
-              ∙ ap (λ (u : List ℕ). (f (take 8 v) ++ concatMap (λ r. r) (map f (rowsIn j (drop 8 v)))) ++ u) (drop-drop (8 * j) 8 v ∙ ap (λ (i : ℕ). drop i v) (sym end))
+              ∙ sym (append-assoc (f (take 8 v)) (concatMap (λ r. r) (map f (rowsOfWords j (drop 8 v)))) (drop (8 * j) (drop 8 v)))
+              ∙ ap (λ (u : List ℕ). (f (take 8 v) ++ concatMap (λ r. r) (map f (rowsOfWords j (drop 8 v)))) ++ u) (drop-drop (8 * j) 8 v ∙ ap (λ (i : ℕ). drop i v) (sym end))
               ∙ ap (λ (i : ℕ). replaced i v) (sym left)
 
 -- rows and what follows them are the words
-rows-joined : (k : ℕ) (w : List ℕ) → concatMap (λ r. r) (rowsIn k w) ++ drop (8 * k) w ≡ w
-unfolding rowsIn
+rows-joined : (k : ℕ) (w : List ℕ) → concatMap (λ r. r) (rowsOfWords k w) ++ drop (8 * k) w ≡ w
+unfolding rowsOfWords
 rows-joined zero w = refl
 rows-joined (suc k) w =
     let end : 8 * suc k ≡ 8 + 8 * k = omega arith in
-    ap (λ (i : ℕ). concatMap (λ r. r) (rowsIn (suc k) w) ++ drop i w) end
-    ∙ ap (λ (u : List ℕ). concatMap (λ r. r) (rowsIn (suc k) w) ++ u) (sym (drop-drop (8 * k) 8 w))
-    ∙ append-assoc (take 8 w) (concatMap (λ r. r) (rowsIn k (drop 8 w))) (drop (8 * k) (drop 8 w))
+    ap (λ (i : ℕ). concatMap (λ r. r) (rowsOfWords (suc k) w) ++ drop i w) end
+    ∙ ap (λ (u : List ℕ). concatMap (λ r. r) (rowsOfWords (suc k) w) ++ u) (sym (drop-drop (8 * k) 8 w))
+    ∙ append-assoc (take 8 w) (concatMap (λ r. r) (rowsOfWords k (drop 8 w))) (drop (8 * k) (drop 8 w))
     ∙ ap (λ (u : List ℕ). take 8 w ++ u) (rows-joined k (drop 8 w))
     ∙ take-append-drop 8 w
 

@@ -5,7 +5,8 @@ ghost use lib.Dec.{T};
 ghost use lib.ListN.{length};
 ghost use Rattle.definition.specs.Basics.{all};
 ghost use Rattle.definition.specs.Answer.{raisedFunction, raisedClass, raisedRow};
-ghost use Rattle.raise.specs.RaisedWords.{ownerFits, rowsIn, raisedWords};
+ghost use Rattle.definition.specs.Outcome.{rowsOfWords};
+ghost use Rattle.raise.specs.RaisedWords.{ownerFits, raisedWords};
 use ast::FIRST_CLASS;
 use ast::code;
 
@@ -66,7 +67,7 @@ fn raise_row(row: &mut [u32], base: u32)
 
 // Raises the numbers in the first `rows` answer rows. Over base 0 nothing is raised: there is no earlier entry.
 pub fn raise_rows(out: &mut [u32], rows: usize, base: u32)
-    requires { ⌜ (base ≤ 2048000) × (8 * rows ≤ length (now out)) × T (all ownerFits (rowsIn rows (now out))) ⌝ }
+    requires { ⌜ (base ≤ 2048000) × (8 * rows ≤ length (now out)) × T (all ownerFits (rowsOfWords rows (now out))) ⌝ }
     ensures { λ _. ⌜ now (out .exit) ≡ raisedWords base rows (now (out .entry)) ⌝ }
 {
     if base == 0 {

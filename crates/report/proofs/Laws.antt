@@ -1,18 +1,19 @@
 -- What callers cite of the line that an answer tells, and of a report as text. Assumes nothing.
 use mathlib.Core.Path.{_≡_, refl, sym, ap, subst, _∙_}
 use mathlib.Core.Bool.{Bool, true, false, _&&_}
-use mathlib.Core.List.{List, [], _∷_, _++_}
-use Prim.Native.Nat.{ℕ, zero, suc, _+_, _*_, min, _<_, _≤_}
+use mathlib.Core.List.{List, [], _∷_, _++_, append-assoc, append-nil}
+use Prim.Native.Nat.{ℕ, zero, suc, _+_, _-_, _*_, min, _<_, _≤_}
 use native.Mathlib.Omega.{arith}
-use lib.ListN.{length, getD, take, drop, replicate, length-append, length-map, length-take, length-drop}
-use lib.Seq.{take-at, take-all, take-append-add}
+use lib.ListN.{length, getD, take, drop, replicate, length-append, length-map, length-take, length-drop, drop-of-length-le}
+use lib.Seq.{take-at, take-all, take-append-add, drop-at, drop-drop, length-take-le}
 use lib.Dec.{leb}
+use borrow.Rule.Slice.PartMut.{midOf, putMid}
 use borrow.Author.Tests.{le-leb, lt-leb}
 use Rattle.definition.specs.Basics.{if_then_else_, concatMap, from}
 use Rattle.definition.specs.Sheet.{rows}
 use Rattle.definition.specs.Text.{textOf}
-use Rattle.definition.specs.Outcome.{Outcome, report}
-use Rattle.definition.proofs.Format.Accepted.{Eights}
+use Rattle.definition.specs.Outcome.{Outcome, report, buffer}
+use Rattle.definition.proofs.Format.Accepted.{Eights, flat-length}
 use Rattle.text.specs.Lines.{lineOf as textLine}
 use Rattle.text.specs.Writing.{rowAt, rowsIn}
 use Rattle.text.proofs.Lists.{map-at, from-length, concat-map, parts-joined, pieces-length}
@@ -20,7 +21,7 @@ use Rattle.text.proofs.Laws.{line-length, rows-of-joined}
 use Rattle.lexer.specs.SrcPos.{fileOf, lineOf, columnOf}
 use Rattle.answer.specs.declared.Answer.{Answer}
 use Rattle.answer.specs.Tells.{Tells}
-use Rattle.report.specs.Report.{reportLine, toldBy, fitted, Begins, reply, Printed}
+use Rattle.report.specs.Report.{reportLine, toldBy, fitted, Begins, reply, answerText, Printed}
 
 -- an answer tells the line of its outcome
 pub told-line : (o : Outcome) (x : Answer) → Tells o x → toldBy x ≡ reportLine o
@@ -74,9 +75,30 @@ rows-joined ws e = concat-map (λ (r : List ℕ). r) (rowAt ws) (from 0 (rows ws
 abbrev flat : List (List ℕ) → List ℕ
 flat rs = concatMap (λ r. r) rs
 
--- as many as eight to a row
-pub flat-length : (rs : List (List ℕ)) → Eights rs → length (flat rs) ≡ 8 * length rs
-flat-length rs p = pieces-length 8 (λ (r : List ℕ). r) [] rs (eight-at p)
+-- 81 bytes to a row
+pub lines-length : {rs : List (List ℕ)} → Eights rs → length (textOf rs) ≡ 81 * length rs
+unfolding textLine
+lines-length {rs} p = pieces-length 81 textLine [] rs (λ i l. line-length (getD rs i []) (eight-at p i l))
+
+-- what is printed of an answer, as the beginning of a text
+pub printed-begins : (x : Answer) (w before : List ℕ) (n : ℕ) (filled after : List ℕ) → 8 * (x .rows + 1) ≤ length w → Printed x w before n filled after
+    → Begins (answerText x w) before n after
+unfolding toldBy
+printed-begins x w before n filled after room h =
+    let ws : List ℕ = take (8 * (x .rows + 1)) (toldBy x ++ drop 8 w) in
+    let size : length ws ≡ 8 * (x .rows + 1) = simp (length-take, length-drop) (omega arith) in
+    record { count = omega (arith, h .count, lines-length (rows-eights ws), rows-number ws, size); text = h .text }
+
+-- the rows of an outcome o whose answer is x, in m words after the first eight of ws
+pub rows-there : (o : Outcome) (x : Answer) (m : ℕ) (ws out : List ℕ) → Tells o x → Eights (o .rows) → 8 ≤ length ws → out ≡ buffer m o
+    → take (8 * x .rows) (drop 8 (putMid 8 m ws out)) ≡ flat (o .rows)
+rows-there o x m ws out tells good room e =
+    let rest : List ℕ = drop m (drop 8 ws) in
+    let zeros : List ℕ = replicate (m - 8 * length (o .rows)) 0 in
+    ap (take (8 * x .rows)) (drop-at (take 8 ws) (out ++ rest) 8 (length-take-le 8 ws room))
+    ∙ ap (λ (xs : List ℕ). take (8 * x .rows) (xs ++ rest)) e
+    ∙ ap (take (8 * x .rows)) (append-assoc (flat (o .rows)) zeros rest)
+    ∙ take-at (flat (o .rows)) (zeros ++ rest) (8 * x .rows) (flat-length good ∙ ap (λ (n : ℕ). 8 * n) (sym (tells .rows)))
 
 -- The report of an outcome o, whose answer is x and whose rows stand in the words w from the ninth on.
 module _ (o : Outcome) (x : Answer) (w : List ℕ) (tells : Tells o x) (good : Eights (o .rows)) (few : length (o .rows) ≤ 4294967295)
@@ -93,12 +115,11 @@ module _ (o : Outcome) (x : Answer) (w : List ℕ) (tells : Tells o x) (good : E
       ∙ take-append-add line (drop 8 w) (8 * x .rows)
       ∙ ap (λ (xs : List ℕ). line ++ xs) there
 
-  rows-told : rowsIn (take (8 * (x .rows + 1)) (toldBy x ++ drop 8 w)) ≡ report o
+  pub rows-told : rowsIn (take (8 * (x .rows + 1)) (toldBy x ++ drop 8 w)) ≡ report o
   rows-told = ap rowsIn words-told ∙ rows-of-joined (report o) (eight-at lines-good)
 
   report-length : length (textOf (report o)) ≡ 81 * length (report o)
-  unfolding textLine
-  report-length = pieces-length 81 textLine [] (report o) (λ i l. line-length (getD (report o) i []) (eight-at lines-good i l))
+  report-length = lines-length lines-good
 
   -- what is printed of x is the report of o
   pub report-printed : (before : List ℕ) (n : ℕ) (filled after : List ℕ) → Printed x w before n filled after
@@ -111,6 +132,22 @@ module _ (o : Outcome) (x : Answer) (w : List ℕ) (tells : Tells o x) (good : E
 -- what a text begins with lies in it
 pub begins-within : {told before : List ℕ} {n : ℕ} {after : List ℕ} → Begins told before n after → n ≤ length after
 begins-within {told} {before} {n} h = omega (arith, h .count, ap length (h .text) ∙ length-append told (drop n before))
+
+-- what is written after a beginning
+pub begins-more : {told more before mid part : List ℕ} {n k : ℕ} → Begins told before n mid → Begins more (midOf n (length mid - n) mid) k part
+    → Begins (told ++ more) before (n + k) (putMid n (length mid - n) mid part)
+begins-more {told} {more} {before} {mid} {part} {n} {k} h g = record {
+  count = omega (arith, h .count, g .count, length-append told more);
+  text =
+      ap (λ (t : List ℕ). t ++ (part ++ drop (length mid - n) (drop n mid))) (ap (take n) (h .text) ∙ take-at told (drop n before) n (sym (h .count)))
+      ∙ ap (λ (t : List ℕ). told ++ (part ++ t)) (drop-of-length-le (drop n mid) {i = length mid - n} (omega (arith, length-drop n mid)))
+      ∙ ap (λ (t : List ℕ). told ++ t)
+      (append-nil part ∙ g .text ∙ ap (λ (t : List ℕ). more ++ drop k t) rest ∙ ap (λ (t : List ℕ). more ++ t) (drop-drop k n before))
+      ∙ sym (append-assoc told more (drop (n + k) before));
+}
+  where
+    rest : midOf n (length mid - n) mid ≡ drop n before
+    rest = take-all (length mid - n) (drop n mid) (omega (arith, length-drop n mid)) ∙ ap (drop n) (h .text) ∙ drop-at told (drop n before) n (sym (h .count))
 
 -- nothing is written
 begins-none : {told before : List ℕ} → told ≡ [] → Begins told before 0 before

@@ -36,10 +36,14 @@ pub record Begins (told before : List ℕ) (n : ℕ) (after : List ℕ) : Type 0
 unfoldable pub reply : ℕ → ℕ → List ℕ → List ℕ
 reply lent room told = if leb lent 2048 && leb 165969 room then told else []
 
--- Of an answer x whose rows stand in the words w from the ninth on, and a lent text:
+-- the line and the rows of an answer x whose rows stand in the words w from the ninth on, as text
+abbrev pub answerText : Answer → List ℕ → List ℕ
+answerText x w = textOf (rowsIn (take (8 * (x .rows + 1)) (toldBy x ++ drop 8 w)))
+
+-- Of such an answer and a lent text:
 pub record Printed (x : Answer) (w before : List ℕ) (n : ℕ) (filled after : List ℕ) : Type 0 where
   -- the first line then stands before the rows,
   pub words : filled ≡ toldBy x ++ drop 8 w
   -- and the text begins with that line and the rows, n bytes, and the rest is unchanged.
   pub count : n ≡ 81 * (x .rows + 1)
-  pub text : after ≡ textOf (rowsIn (take (8 * (x .rows + 1)) (toldBy x ++ drop 8 w))) ++ drop n before
+  pub text : after ≡ answerText x w ++ drop n before

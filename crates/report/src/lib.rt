@@ -7,8 +7,11 @@ use answer::Answer;
 use text::write_rows;
 use words::word_at;
 
+// The bytes of a line.
+pub const LINE: usize = 81;
+
 // The bytes of 2,049 lines: the longest report that is written as text.
-pub const LONGEST: usize = 165969;
+pub const LONGEST: usize = 2049 * LINE;
 
 // A count in a report word, where any that is larger than a word is the largest word.
 fn count_word(n: usize) -> u32

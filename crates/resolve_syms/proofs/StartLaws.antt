@@ -6,7 +6,6 @@ use Prim.Native.Nat.{ℕ, _-_, _*_, _≤_}
 use native.Mathlib.Omega.{arith}
 use lib.Dec.{eqb, leb, eqb→eq}
 use lib.ListN.{length}
-use Rattle.definition.specs.Basics.{from}
 use Rattle.definition.specs.Sheet.{Sheet, kind, rows}
 use Rattle.definition.specs.Outside.{Outside}
 use Rattle.definition.specs.Walk.{walk, before, after}

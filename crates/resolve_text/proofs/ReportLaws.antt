@@ -1,13 +1,13 @@
 -- What is read, resolved and printed.
 use mathlib.Core.Path.{_≡_, sym, ap, subst, _∙_}
 use mathlib.Core.Bool.{Bool, false, not}
-use mathlib.Core.List.{List, [], _++_, append-assoc}
-use Prim.Native.Nat.{ℕ, _-_, _*_, _<_, _≤_}
+use mathlib.Core.List.{List, [], _++_}
+use Prim.Native.Nat.{ℕ, _*_, _<_, _≤_}
 use native.Mathlib.Omega.{arith}
-use lib.ListN.{length, take, drop, replicate, length-drop}
-use lib.Seq.{take-at, drop-at, length-take-le}
+use lib.ListN.{length, take, drop, length-drop}
+use lib.Seq.{length-take-le}
 use borrow.Rule.Slice.PartMut.{putMid}
-use Rattle.definition.specs.Basics.{if_then_else_, concatMap}
+use Rattle.definition.specs.Basics.{if_then_else_}
 use Rattle.definition.specs.Sheet.{Sheet}
 use Rattle.definition.specs.Text.{sheetOf}
 use Rattle.definition.specs.Outcome.{Outcome, rowsFit, refused, outcome, buffer, printed}
@@ -17,7 +17,7 @@ use Rattle.text.proofs.Longer.{same-read}
 use Rattle.answer.specs.declared.Answer.{Answer}
 use Rattle.answer.specs.Tells.{Tells}
 use Rattle.report.specs.Report.{Begins, reply, Printed as AnswerPrinted}
-use Rattle.report.proofs.Laws.{flat-length, report-printed, reply-there, reply-short}
+use Rattle.report.proofs.Laws.{rows-there, report-printed, reply-there, reply-short}
 use Rattle.resolver.specs.Answered.{Answered}
 use Rattle.resolve_text.specs.Report.{printedWith, Printed}
 
@@ -47,29 +47,19 @@ module _ (lent : ℕ) (sheet names rep out : List ℕ) (k : ℕ) (words : List �
   tells : Tells whole x
   tells = subst (λ (o : Outcome). Tells o x) same (answered .tells)
 
-  out-is : out ≡ buffer (8 * lent) whole
-  out-is = answered .words ∙ ap (buffer (8 * lent)) same
+  out-is : out ≡ buffer m whole
+  out-is = answered .words ∙ ap (buffer (8 * lent)) same ∙ ap (λ (n : ℕ). buffer n whole) (sym e)
 
   pub few : x .rows ≤ 2048
   few = omega (arith, tells .rows, good-outcome (8 * lent) (sheetOf sheet) names .1)
-
-  rows-there : take (8 * x .rows) (drop 8 (putMid 8 m rep out)) ≡ concatMap (λ r. r) (whole .rows)
-  rows-there =
-      let rest : List ℕ = drop m (drop 8 rep) in
-      let told : List ℕ = concatMap (λ r. r) (whole .rows) in
-      let zeros : List ℕ = replicate (8 * lent - 8 * length (whole .rows)) 0 in
-      ap (take (8 * x .rows)) (drop-at (take 8 rep) (out ++ rest) 8 (length-take-le 8 rep (omega arith)))
-      ∙ ap (λ (xs : List ℕ). take (8 * x .rows) (xs ++ rest)) out-is
-      ∙ ap (take (8 * x .rows)) (append-assoc told zeros rest)
-      ∙ take-at told (zeros ++ rest) (8 * x .rows)
-      (flat-length (whole .rows) (good-outcome (8 * lent) (sheetOf sheet) names .0) ∙ ap (λ (n : ℕ). 8 * n) (sym (tells .rows)))
 
   -- what is printed of the answer is the report
   pub printed-report : (before : List ℕ) (n : ℕ) (filled after : List ℕ) → AnswerPrinted x (putMid 8 m rep out) before n filled after
       → Begins (printedWith lent sheet names) before n after
   printed-report before n filled after h =
       let good = good-outcome (8 * lent) (sheetOf sheet) names in
-      report-printed whole x (putMid 8 m rep out) tells (good .0) (omega (arith, good .1)) rows-there before n filled after h
+      let there = rows-there whole x m rep out tells (good .0) (omega arith) out-is in
+      report-printed whole x (putMid 8 m rep out) tells (good .0) (omega (arith, good .1)) there before n filled after h
 
 -- with 2,048 rows lent it is what the program prints
 pub printed-of : {sheet names before : List ℕ} {n : ℕ} {after : List ℕ} → Begins (reply 2048 (length before) (printedWith 2048 sheet names)) before n after

@@ -11,7 +11,8 @@ use Rattle.definition.specs.Meaning.{Named, named, nothing, function, class, gl
 use Rattle.definition.specs.Outside.{Method}
 use Rattle.session.specs.Session.{Class, Accepted, memberCount}
 use Rattle.session.specs.Words.{Room, ended, fixedBytes, entryPlace, laidPlace, classPlace, memberPlace, sessionSize, laidWords, classWords, memberWords, countsWith, wordsWith}
-use Rattle.session.proofs.Stored.{sets-out, sets-in, rows-length, row-word}
+use Rattle.machine.proofs.Words.{sets-out, sets-in}
+use Rattle.session.proofs.Stored.{rows-length, row-word}
 use Rattle.session.proofs.Extended.{methodFrom}
 
 -- Words w have room for entry e, and bytes n.

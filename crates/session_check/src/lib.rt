@@ -15,14 +15,15 @@ ghost use Rattle.session_check.specs.Clauses.{meansRight, isFresh, Under
 ghost use Rattle.session_check.specs.Clauses.{classRight, classesRight, entryRight, entriesRight, numbersRight};
 use ast::code;
 use ast::name;
+use session::layout;
 use session_rows::class_number;
+use session_rows::count;
 use session_rows::count_at;
 use session_rows::count_before;
 use session_rows::is_function_of;
 use session_rows::is_function_up_to;
 use session_rows::is_name;
 use session_rows::is_within;
-use session_rows::layout;
 use session_rows::number_at;
 
 // Is there a class of a number among those from `first` on and below `end`? Numbers rise, so that one look leaves half of the classes.
@@ -59,8 +60,8 @@ fn means_fit(words: &[u32], e: usize, code: u32, x: usize, mutable: usize) -> bo
         return mutable == 0;
     }
     if code == code::CLASS {
-        let first = count_before(words, e, layout::CLASSES);
-        let end = count_at(words, e, layout::CLASSES);
+        let first = count_before(words, e, count::CLASSES);
+        let end = count_at(words, e, count::CLASSES);
         if !has_class(words, first, end, x) {
             return false;
         }
@@ -80,7 +81,7 @@ fn last_name(words: &[u32], e: usize) -> usize
     requires { ⌜ e < 1000 ⌝ }
     ensures { λ x. ⌜ (x ≡ lastName (now (words .entry)) e) × (x < 2 ^ 33) ⌝ }
 {
-    name::LAST_FIXED + count_at(words, e, layout::NAMES)
+    name::LAST_FIXED + count_at(words, e, count::NAMES)
 }
 
 // Is declaration i of entry e as it should be?
@@ -107,8 +108,8 @@ fn declarations_fit(words: &[u32], e: usize) -> bool
     requires { ⌜ Ordered (now words) × (e < getD (now words) 1 0) ⌝ }
     ensures { λ x. ⌜ x ≡ all (laidFits whole (now (words .entry)) [] e) (partOf whole (now (words .entry)) [] e 2) ⌝ }
 {
-    let end = count_at(words, e, layout::DECLARATIONS);
-    let mut i = count_before(words, e, layout::DECLARATIONS);
+    let end = count_at(words, e, count::DECLARATIONS);
+    let mut i = count_before(words, e, count::DECLARATIONS);
     while i < end {
         if !declaration_fits(words, e, i) {
             return false;
@@ -230,7 +231,7 @@ fn is_class(words: &[u32], e: usize, number: usize) -> bool
     requires { ⌜ Ordered (now words) × (e < getD (now words) 1 0) ⌝ }
     ensures { λ x. ⌜ x ≡ isClassUpTo whole (now (words .entry)) [] e number ⌝ }
 {
-    if has_class(words, 0, count_at(words, e, layout::CLASSES), number) {
+    if has_class(words, 0, count_at(words, e, count::CLASSES), number) {
         return true;
     }
     is_core_class(number)
@@ -290,9 +291,9 @@ fn classes_fit(words: &[u32], e: usize, marks: &mut [u32]) -> bool
     ensures { λ r. ⌜ (r ≡ classesRight (now (words .entry)) e)
         × (r ≡ true → Under (now (marks .exit)) (2 * after (now (words .entry)) (suc e) 3 + 1)) ⌝ }
 {
-    let end = count_at(words, e, layout::CLASSES);
-    let mut i = count_before(words, e, layout::CLASSES);
-    let mut member = count_before(words, e, layout::MEMBERS);
+    let end = count_at(words, e, count::CLASSES);
+    let mut i = count_before(words, e, count::CLASSES);
+    let mut member = count_before(words, e, count::MEMBERS);
     while i < end {
         if !class_fits(words, e, i, member, marks) {
             return false;
@@ -300,7 +301,7 @@ fn classes_fit(words: &[u32], e: usize, marks: &mut [u32]) -> bool
         member += member_count(words, i);
         i += 1;
     }
-    member == count_at(words, e, layout::MEMBERS)
+    member == count_at(words, e, count::MEMBERS)
 }
 
 // Are all declarations and classes of entry e?

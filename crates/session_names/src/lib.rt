@@ -6,7 +6,7 @@ ghost use Rattle.definition.specs.Names.{sameName};
 ghost use Rattle.name_index.specs.Indexed.{Indexed};
 ghost use Rattle.session.specs.Words.{whole, fixedBytes, nameBytes, sessionNamesFit};
 ghost use Rattle.session_names.specs.Listing.{Listing};
-use session_rows::layout;
+use session::layout;
 use session_rows::number_at;
 
 // Do the bytes begin with the fixed names?
@@ -35,8 +35,8 @@ pub fn read_names(words: &[u32], bytes: &[u8], starts: &mut [u32], index: &mut [
     if !is_fixed(bytes) {
         return 0;
     }
-    let names = number_at(words, layout::COUNTS + layout::NAMES);
-    let size = number_at(words, layout::COUNTS + layout::NAME_BYTES);
+    let names = number_at(words, layout::NAMES);
+    let size = number_at(words, layout::NAME_BYTES);
     let count = index_listed(bytes, size, starts, index);
     if count != names + 1 {
         return 0;

@@ -16,7 +16,7 @@ use Rattle.session.specs.Session.{backward, pastRows}
 use Rattle.session.specs.Words.{whole, laidPlace, laidIn}
 use Rattle.session.proofs.HeldRuns.{from-split}
 use Rattle.session_outside.specs.Written.{nameRow, seen, firsts, NameRows, nameRows, namesBelow, coreName}
-use Rattle.session_outside.proofs.StoreLaws.{sets-append}
+use Rattle.machine.proofs.Words.{sets-more}
 use Rattle.session_outside.proofs.ReadLaws.{name-length}
 
 same-rows : {i j : ℕ} {v w : List ℕ} → i ≡ j → v ≡ w → _≡_ {A = NameRows} (record { end = i; words = v }) (record { end = j; words = w })
@@ -31,7 +31,7 @@ module _ (i : ℕ) (m w : List ℕ) (y : Named) (ys : List Named) where
   stored : (xs : List ℕ) → sets (sets w (8 * i) (nameRow (seen y))) (8 * (i + 1)) xs ≡ sets w (8 * i) (nameRow (seen y) ++ xs)
   stored xs =
       let z : 8 * i + length (nameRow (seen y)) ≡ 8 * (i + 1) = omega (arith, name-length (seen y)) in
-      sym (sets-append (nameRow (seen y)) xs w (8 * i) ∙ ap (λ (k : ℕ). sets (sets w (8 * i) (nameRow (seen y))) k xs) z)
+      sym (sets-more w (8 * i) (nameRow (seen y)) xs refl ∙ ap (λ (k : ℕ). sets (sets w (8 * i) (nameRow (seen y))) k xs) z)
 
   pub row-new : getD m (y .name) 0 ≡ 0 → nameRows (i + 1) (set m (y .name) 1) (sets w (8 * i) (nameRow (seen y))) ys ≡ nameRows i m w (y ∷ ys)
   unfolding nameRows firsts

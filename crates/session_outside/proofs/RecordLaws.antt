@@ -13,7 +13,7 @@ use Rattle.session.specs.Words.{whole, classPlace, memberPlace, fieldsIn, metho
 use Rattle.session.proofs.SessionLaws.{from-length, sum-more}
 use Rattle.session_outside.specs.Written.{methodWords, memberRun, recordRow, nextPlace, recordRows, recordsFrom, earlierMethodIn}
 use Rattle.session_outside.specs.Readable.{Readable}
-use Rattle.session_outside.proofs.StoreLaws.{sets-append}
+use Rattle.machine.proofs.Words.{sets-more}
 use Rattle.session_outside.proofs.ReadLaws.{run-length}
 use Rattle.session_outside.proofs.NameLaws.{from-last}
 
@@ -96,7 +96,7 @@ row-next x k p {y} {l} {q} {r} {rs} {qs} er ey el eq =
     ap (λ (v : List ℕ). sets v (8 * l) (recordRows q qs)) ey
     ∙ ap (λ (j : ℕ). sets (sets x (8 * k) (recordRow p r)) j (recordRows q qs)) z
     ∙ ap (λ (j : ℕ). sets (sets x (8 * k) (recordRow p r)) (8 * k + 8) (recordRows j qs)) eq
-    ∙ sym (sets-append (recordRow p r) (recordRows (nextPlace p r) qs) x (8 * k))
+    ∙ sym (sets-more x (8 * k) (recordRow p r) (recordRows (nextPlace p r) qs) refl)
     ∙ sym (ap (λ (l : List ClassRecord). sets x (8 * k) (recordRows p l)) er)
 
 -- and its members
@@ -107,10 +107,10 @@ run-next x a {y} {z} {b} {c} {r} {rs} {qs} er ey eb ez ec =
     let both : z ≡ sets x a (memberRun r) =
     ez ∙ ap (λ (v : List ℕ). sets v b (concatMap methodWords (r .methods))) ey
     ∙ ap (λ (j : ℕ). sets (sets x a (r .fields)) j (concatMap methodWords (r .methods))) eb
-    ∙ sym (sets-append (r .fields) (concatMap methodWords (r .methods)) x a) in
+    ∙ sym (sets-more x a (r .fields) (concatMap methodWords (r .methods)) refl) in
     ap (λ (v : List ℕ). sets v c (concatMap memberRun qs)) both
     ∙ ap (λ (j : ℕ). sets (sets x a (memberRun r)) j (concatMap memberRun qs)) k
-    ∙ sym (sets-append (memberRun r) (concatMap memberRun qs) x a)
+    ∙ sym (sets-more x a (memberRun r) (concatMap memberRun qs) refl)
     ∙ sym (ap (λ (l : List ClassRecord). sets x a (concatMap memberRun l)) er)
 
 -- before the first

@@ -6,12 +6,7 @@ use native.Mathlib.Omega.{arith}
 use native.Mathlib.Numerals.{towards-suc}
 use lib.ListN.{length, set, length-append}
 use lib.Seq.{sets, set-comm}
-
-pub sets-append : (xs ys w : List ℕ) (i : ℕ) → sets w i (xs ++ ys) ≡ sets (sets w i xs) (i + length xs) ys
-sets-append [] ys w i = let z : i ≡ i + 0 = omega arith in ap (λ (k : ℕ). sets w k ys) z
-sets-append (x ∷ xs) ys w i =
-    let z : suc i + length xs ≡ i + suc (length xs) = omega arith in
-    sets-append xs ys (set w i x) (suc i) ∙ ap (λ (k : ℕ). sets (sets (set w i x) (suc i) xs) k ys) z
+use Rattle.machine.proofs.Words.{sets-more}
 
 set-under : (xs w : List ℕ) (i j y : ℕ) → j < i → set (sets w i xs) j y ≡ sets (set w j y) i xs
 set-under [] w i j y l = refl
@@ -51,14 +46,14 @@ four-stored x h a b c {i} {j} {k} ei ej ek =
     one : sets x 0 (h ++ a) ≡ sets (sets x 0 h) i a
     one =
         let z : 0 + length h ≡ i = omega arith in
-        sets-append h a x 0 ∙ ap (λ (n : ℕ). sets (sets x 0 h) n a) z
+        sets-more x 0 h a refl ∙ ap (λ (n : ℕ). sets (sets x 0 h) n a) z
 
     two : sets x 0 (h ++ a ++ b) ≡ sets (sets (sets x 0 h) i a) j b
     two =
         let z : 0 + length (h ++ a) ≡ j = omega (arith, length-append h a) in
-        sets-append (h ++ a) b x 0 ∙ ap (λ (n : ℕ). sets (sets x 0 (h ++ a)) n b) z ∙ ap (λ (v : List ℕ). sets v j b) one
+        sets-more x 0 (h ++ a) b refl ∙ ap (λ (n : ℕ). sets (sets x 0 (h ++ a)) n b) z ∙ ap (λ (v : List ℕ). sets v j b) one
 
     three : sets x 0 (h ++ a ++ b ++ c) ≡ sets (sets (sets (sets x 0 h) i a) j b) k c
     three =
         let z : 0 + length (h ++ a ++ b) ≡ k = omega (arith, length-append (h ++ a) b, length-append h a) in
-        sets-append (h ++ a ++ b) c x 0 ∙ ap (λ (n : ℕ). sets (sets x 0 (h ++ a ++ b)) n c) z ∙ ap (λ (v : List ℕ). sets v k c) two
+        sets-more x 0 (h ++ a ++ b) c refl ∙ ap (λ (n : ℕ). sets (sets x 0 (h ++ a ++ b)) n c) z ∙ ap (λ (v : List ℕ). sets v k c) two

@@ -1,7 +1,7 @@
 -- What a row of a name tells.
 use mathlib.Core.List.{List, [], _∷_}
 use Prim.Native.Nat.{ℕ}
-use Rattle.session_outside.specs.declared.names.SeenName.{SeenName}
+use Rattle.session_outside.specs.declared.visible.SeenName.{SeenName}
 
 -- its words
 abbrev pub told : SeenName → List ℕ

@@ -10,16 +10,16 @@ ghost use Rattle.session.specs.Session.{outsideOf};
 ghost use Rattle.session.specs.Words.{whole, sessionIn, sessionFits};
 ghost use Rattle.session_outside.specs.Readable.{Readable, outsideSize};
 use members::member_runs;
-use names::name_rows;
 use records::record_rows;
 use rows::put_row;
+use visible::name_rows;
 use words::entry_at;
 
 mod layout;
 mod members;
-mod names;
 mod records;
 mod rows;
+mod visible;
 
 // Name numbers, fixed and listed.
 const NAMES: usize = 1048;

@@ -1,27 +1,15 @@
 -- Question 24 and the counts, word by word.
-use mathlib.Core.Path.{_≡_, sym, ap, _∙_}
-use mathlib.Core.Logic.{inl}
+use mathlib.Core.Path.{_≡_, ap, _∙_}
 use mathlib.Core.Bool.{Bool, true, false, _&&_}
-use mathlib.Core.List.{List, [], _∷_}
+use mathlib.Core.List.{List, _∷_}
 use Prim.Native.Nat.{ℕ, suc, _+_, _*_, _≤_}
 use native.Mathlib.Omega.{arith}
-use lib.ListN.{getD, set}
-use lib.Seq.{sets, set-getD, getD-set-other}
+use lib.ListN.{getD}
+use lib.Seq.{sets}
 use lib.Dec.{T, leb, leb→le}
 use Rattle.definition.proofs.Lists.Tests.{T-true}
-use Rattle.machine.proofs.Words.{sets-out}
 use Rattle.session_room.specs.declared.Added.{Added}
 use Rattle.session_room.specs.Room.{roomFor}
-
--- five words, one after another
-pub five-set : (w : List ℕ) (p a b c d e : ℕ)
-    → set (set (set (set (set w p a) (p + 1) b) (p + 2) c) (p + 3) d) (p + 4) e ≡ sets w p (a ∷ b ∷ c ∷ d ∷ e ∷ [])
-five-set w p a b c d e =
-    let e₁ : p + 1 ≡ suc p = omega arith in
-    let e₂ : p + 2 ≡ suc (suc p) = omega arith in
-    let e₃ : p + 3 ≡ suc (suc (suc p)) = omega arith in
-    let e₄ : p + 4 ≡ suc (suc (suc (suc p))) = omega arith in
-    rw (e₁, e₂, e₃, e₄)
 
 -- Where there is room, no count is over its limit.
 pub record Roomy (w : List ℕ) (a : Added) : Type 0 where
@@ -55,25 +43,13 @@ roomy w a e =
       entries = leb→le (getD w 1 0 + 1) 1000 (t .5);
     }
 
--- all words of the counts, of which the third stays as it is
-pub counts-written : (w : List ℕ) (g n p : ℕ) (cs : List ℕ) {e m : ℕ} {w₁ w₂ w₃ w₄ : List ℕ} → e ≡ getD w 1 0 → p ≡ 8 + 5 * e → m ≡ e + 1
-    → w₁ ≡ sets w p cs → w₂ ≡ set w₁ 0 g → w₃ ≡ set w₂ 1 m → w₄ ≡ sets w₃ 3 cs
-    → w₄ ≡ sets (sets w (8 + 5 * getD w 1 0) cs) 0 (g ∷ suc (getD w 1 0) ∷ getD w 2 0 ∷ cs)
-counts-written w g n p cs {e} {m} {w₁} {w₂} {w₃} {w₄} ee ep em h₁ h₂ h₃ h₄ =
-    h₄ ∙ ap (λ (v : List ℕ). sets v 3 cs) (h₃ ∙ ap (λ (v : List ℕ). set v 1 m) (h₂ ∙ ap (λ (v : List ℕ). set v 0 g) (h₁ ∙ ap (λ (k : ℕ). sets w k cs) place)))
-    ∙ ap (λ (k : ℕ). sets (set (set u 0 g) 1 k) 3 cs) more
-    ∙ ap (λ (v : List ℕ). sets v 3 cs) (sym (ap (set (set (set u 0 g) 1 (suc (getD w 1 0))) 2) third ∙ set-getD (set (set u 0 g) 1 (suc (getD w 1 0))) 2 0))
-  where
-    u : List ℕ
-    u = sets w (8 + 5 * getD w 1 0) cs
-
-    place : p ≡ 8 + 5 * getD w 1 0
-    place = ep ∙ ap (λ (k : ℕ). 8 + 5 * k) ee
-
-    more : m ≡ suc (getD w 1 0)
-    more = omega (arith, em, ee)
-
-    third : getD w 2 0 ≡ getD (set (set u 0 g) 1 (suc (getD w 1 0))) 2 0
-    third =
-        sym (getD-set-other (set u 0 g) 1 2 (suc (getD w 1 0)) 0 (λ z. omega arith) ∙ getD-set-other u 0 2 g 0 (λ z. omega arith)
-        ∙ sets-out cs w (8 + 5 * getD w 1 0) 2 (inl (omega arith)))
+-- the row of the entry, and all words of the counts
+pub counts-written : (w : List ℕ) (g : ℕ) (cs ds : List ℕ) {e k : ℕ} {w₁ w₂ : List ℕ} → e ≡ getD w 1 0 → k ≡ getD w 2 0 → ds ≡ cs
+    → w₁ ≡ sets w (8 + 5 * e) ds → w₂ ≡ sets w₁ 0 (g ∷ (e + 1) ∷ k ∷ ds)
+    → w₂ ≡ sets (sets w (8 + 5 * getD w 1 0) cs) 0 (g ∷ suc (getD w 1 0) ∷ getD w 2 0 ∷ cs)
+counts-written w g cs ds {e} {k} {w₁} ee ek ed h₁ h₂ =
+    let more : e + 1 ≡ suc (getD w 1 0) = omega (arith, ee) in
+    h₂ ∙ ap (λ (v : List ℕ). sets v 0 (g ∷ (e + 1) ∷ k ∷ ds)) (h₁ ∙ ap (λ (n : ℕ). sets w (8 + 5 * n) ds) ee)
+    ∙ ap (λ (n : ℕ). sets (sets w (8 + 5 * getD w 1 0) ds) 0 (g ∷ n ∷ k ∷ ds)) more
+    ∙ ap (λ (n : ℕ). sets (sets w (8 + 5 * getD w 1 0) ds) 0 (g ∷ suc (getD w 1 0) ∷ n ∷ ds)) ek
+    ∙ ap (λ (xs : List ℕ). sets (sets w (8 + 5 * getD w 1 0) xs) 0 (g ∷ suc (getD w 1 0) ∷ getD w 2 0 ∷ xs)) ed

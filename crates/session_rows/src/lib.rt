@@ -10,8 +10,12 @@ ghost use Rattle.session.specs.Words.{whole, countsFit, isFunctionUpTo};
 ghost use Rattle.session_rows.specs.Rows.{fiveRight, after, countRises, countsRise, rowRight, rowsRight, lastRight};
 ghost use Rattle.session_rows.specs.Rows.{numberOf, numberRises, numbersRise, allRise, orderRight};
 use ast::limit;
+use session::layout;
 
-pub mod layout;
+pub mod count;
+
+// The number of the class of row 0 of the first entry.
+const FIRST_CLASS: usize = ast::FIRST_CLASS as usize;
 
 // The word at a place, as a number to count with.
 pub fn number_at(words: &[u32], place: usize) -> usize
@@ -114,8 +118,8 @@ fn row_fits(words: &[u32], starts: &[u32], e: usize) -> bool
     if !counts_rise(words, e) {
         return false;
     }
-    let names = count_at(words, e, layout::NAMES);
-    count_at(words, e, layout::NAME_BYTES) == number_at(starts, names)
+    let names = count_at(words, e, count::NAMES);
+    count_at(words, e, count::NAME_BYTES) == number_at(starts, names)
 }
 
 // Are all of them?
@@ -195,10 +199,10 @@ fn number_fits(words: &[u32], e: usize, first: usize, i: usize) -> bool
     ensures { λ x. ⌜ x ≡ numberRises (now (words .entry)) e first i ⌝ }
 {
     let number = class_number(words, i);
-    if number < layout::FIRST_CLASS {
+    if number < FIRST_CLASS {
         return false;
     }
-    if !is_function_of(e, number - layout::FIRST_CLASS) {
+    if !is_function_of(e, number - FIRST_CLASS) {
         return false;
     }
     if i == first {
@@ -212,8 +216,8 @@ fn numbers_rise(words: &[u32], e: usize) -> bool
     requires { ⌜ e < 1000 ⌝ }
     ensures { λ x. ⌜ x ≡ numbersRise (now (words .entry)) e ⌝ }
 {
-    let first = count_before(words, e, layout::CLASSES);
-    let end = count_at(words, e, layout::CLASSES);
+    let first = count_before(words, e, count::CLASSES);
+    let end = count_at(words, e, count::CLASSES);
     let mut i = first;
     while i < end {
         if !number_fits(words, e, first, i) {

@@ -1,21 +1,21 @@
 -- An entry tried over a session: from questions 5 to 22 over what the session is to it, to the outcome with 24.
 use mathlib.Core.Path.{_≡_, refl, sym, ap, _∙_, subst}
-use mathlib.Core.Bool.{Bool, true, false, not, _&&_}
+use mathlib.Core.Bool.{Bool, true, false}
 use mathlib.Core.List.{List, [], _∷_, _++_}
 use Prim.Native.Nat.{ℕ, _+_, _-_, _*_, _≤_}
 use native.Mathlib.Omega.{arith}
-use lib.Dec.{eqb, leb}
+use lib.Dec.{eqb}
 use lib.ListN.{length, getD, replicate, length-append, length-map}
 use borrow.Author.Tests.{eq-eqb, ne-eqb, eqb-true, eqb-false}
-use Rattle.definition.specs.Basics.{if_then_else_, concatMap, total, from}
+use Rattle.definition.specs.Basics.{concatMap, total, from}
 use Rattle.definition.specs.Names.{Name}
 use Rattle.definition.specs.Sheet.{Sheet, word}
 use Rattle.definition.specs.Outside.{Outside, based}
 use Rattle.definition.specs.Scope.{history}
-use Rattle.definition.specs.Question.{Refusal, firstNo, refusal}
+use Rattle.definition.specs.Question.{Refusal, refusal}
 use Rattle.definition.specs.Answer.{answers, raised}
-use Rattle.definition.specs.Outcome.{Outcome, refused, asked, buffer}
-use Rattle.definition.proofs.Format.Accepted.{asked-accepted, good-asked}
+use Rattle.definition.specs.Outcome.{Outcome, refused, asked, buffer, rowsOfWords}
+use Rattle.definition.proofs.Format.Accepted.{asked-accepted, good-asked, rows-back, flat-length}
 use Rattle.machine.specs.Machine.{State}
 use Rattle.machine.specs.Reads.{walkRefusal}
 use Rattle.machine.proofs.AfterCalls.{refused-in-walk}
@@ -25,12 +25,11 @@ use Rattle.answer.specs.declared.Answer.{Answer}
 use Rattle.answer.specs.Tells.{Tells}
 use Rattle.finish.specs.Settled.{Settled}
 use Rattle.finish.proofs.SettledLaws.{zeros-words}
-use Rattle.raise.specs.RaisedWords.{rowsIn}
-use Rattle.raise.proofs.BasedLaws.{flat-length, rows-back, asked-based}
-use Rattle.entry_walk.specs.Laid.{BodyWalked, leftFrom}
+use Rattle.raise.proofs.BasedLaws.{asked-based}
+use Rattle.entry_walk.specs.Laid.{BodyWalked}
 use Rattle.session.specs.Session.{Accepted, Session, outsideOf, memberCount, within}
 use Rattle.session.specs.Enter.{laidBy, classesBy}
-use Rattle.session.specs.Words.{whole, ended, sessionIn, sessionFits}
+use Rattle.session.specs.Words.{whole, sessionIn}
 use Rattle.session.proofs.SessionLaws.{from-length}
 use Rattle.session.proofs.CountLaws.{entry-count, within-with}
 use Rattle.entry_ready.specs.Over.{entryOf, askedOver, AskedOver}
@@ -114,11 +113,11 @@ module _ (o : List ℕ) (b : ℕ) (t : Sheet) (lent : ℕ) {x : Answer} {out : L
   walk-accepted = walk-none O t (asked-accepted O lent t plain .0)
 
   -- the answer rows in the words
-  pub rows-held : (rowsIn (x .rows) out ≡ raised b (answers (over o) t (history (over o) t))) × (8 * x .rows ≤ length out)
+  pub rows-held : (rowsOfWords (x .rows) out ≡ raised b (answers (over o) t (history (over o) t))) × (8 * x .rows ≤ length out)
   rows-held =
       let rs : List (List ℕ) = asked (based O b) lent t .rows in
       let are : rs ≡ raised b (answers O t (history O t)) = asked-accepted (based O b) lent t (sym (s .tells .number) ∙ z) .2 in (
-        ap (λ (k : ℕ). rowsIn k out) (s .tells .rows) ∙ ap (rowsIn (length rs)) (s .words) ∙ rows-back rs (replicate (lent - 8 * length rs) 0) (good-asked lent (based O b) t .0) ∙ are,
+        ap (λ (k : ℕ). rowsOfWords k out) (s .tells .rows) ∙ ap (rowsOfWords (length rs)) (s .words) ∙ rows-back rs (replicate (lent - 8 * length rs) 0) (good-asked lent (based O b) t .0) ∙ are,
         omega (
           arith,
           s .tells .rows,

@@ -10,11 +10,11 @@ use Rattle.definition.specs.Sheet.{Sheet}
 use Rattle.definition.specs.Outside.{Outside, based}
 use Rattle.definition.specs.Scope.{history}
 use Rattle.definition.specs.Answer.{answers, raised}
+use Rattle.definition.specs.Outcome.{rowsOfWords}
 use Rattle.outside.specs.Words.{over}
 use Rattle.session.specs.Session.{Accepted, outsideOf, memberCount}
 use Rattle.session.specs.Enter.{classesBy}
 use Rattle.session.specs.Words.{whole, ended, sessionIn, sessionFits}
-use Rattle.raise.specs.RaisedWords.{rowsIn}
 use Rattle.entry_walk.specs.Laid.{leftFrom}
 use Rattle.entry_ready.specs.Over.{entryOf, AskedOver}
 use Rattle.finish.specs.Settled.{Settled}
@@ -35,8 +35,8 @@ pub record AddedBy (O : Outside) (v : List ℕ) (k : ℕ) (out : List ℕ) (rows
   pub names : a .names ≡ new
   pub sized : a .bytes ≡ bytes
   pub laid : (s : Sheet) (n : ℕ) → a .laid ≡ length (leftFrom s n v (length (O .names)) (k - length (O .names)))
-  pub classes : (P : Outside) (s : Sheet) (n : ℕ) → rowsIn rows out ≡ raised n (answers P s (history P s)) → a .classes ≡ length (classesBy (based P n) s)
-  pub members : (P : Outside) (s : Sheet) (n : ℕ) → rowsIn rows out ≡ raised n (answers P s (history P s)) → a .members ≡ total memberCount (classesBy (based P n) s)
+  pub classes : (P : Outside) (s : Sheet) (n : ℕ) → rowsOfWords rows out ≡ raised n (answers P s (history P s)) → a .classes ≡ length (classesBy (based P n) s)
+  pub members : (P : Outside) (s : Sheet) (n : ℕ) → rowsOfWords rows out ≡ raised n (answers P s (history P s)) → a .members ≡ total memberCount (classesBy (based P n) s)
 
 -- Of the session in words w and bytes n, what it is to an entry in words o, and the entry's new names ms, whose number and bytes are known:
 pub record Over (w o : List ℕ) (new bytes : ℕ) (n : List ℕ) (ms : List Name) : Type 0 where

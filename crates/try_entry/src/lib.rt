@@ -9,6 +9,7 @@ ghost use Rattle.entry_walk.specs.Laid.{OneUnit, BodyWalked};
 ghost use Rattle.try_entry.specs.Tried.{AddedBy, TriedOver};
 use answer::Answer;
 use answer::refuse;
+use ast::question;
 use entry_classes::count_classes;
 use lay_over::count_laid;
 use outside::layout;
@@ -19,14 +20,8 @@ use walk::state::Walk;
 use words::word;
 use words::word_at;
 
-// Question 24.
-const SESSION_ROOM: u32 = 24;
-
 // How far the numbers of one entry's functions and classes lie above those of the entry before.
-const ENTRY_NUMBERS: u32 = 2048;
-
-// The word of a session that counts its entries.
-const ENTRIES: usize = 1;
+const ENTRY_NUMBERS: u32 = session::layout::ENTRY_NUMBERS as u32;
 
 // The answer, the walk where it ended, and what the entry adds if it is accepted.
 pub struct Tried {
@@ -59,7 +54,7 @@ pub fn base_of(words: &[u32]) -> u32
     requires { ⌜ getD (now words) 1 0 ≤ 1000 ⌝ }
     ensures { λ x. ⌜ (x ≡ 2048 * getD (now (words .entry)) 1 0) × (x ≤ 2048000) ⌝ }
 {
-    ENTRY_NUMBERS * word_at(words, ENTRIES)
+    ENTRY_NUMBERS * word_at(words, session::layout::ENTRIES)
 }
 
 // What an accepted entry adds: `new` names in `bytes` bytes, what stands among the open entries of its walk, and what its answer rows tell of classes.
@@ -128,7 +123,7 @@ pub fn try_over(
     let added = added_by(outside, entries, env.count, out, answer.rows, new, bytes);
     if !has_room(words, added) {
         return Tried {
-            answer: refuse(SESSION_ROOM, out),
+            answer: refuse(question::SESSION_ROOM, out),
             walk: walk,
             added: added,
         };

@@ -1,1 +1,2 @@
 mod FillLaws
+mod PutLaws

@@ -1,7 +1,8 @@
 // Words of lent slices, read and written without a bound to prove: a word past the end reads as 0, and writing there does nothing.
 ghost use mathlib.Core.Path.{_≡_};
-ghost use Prim.Native.Nat.{_+_, _*_};
+ghost use Prim.Native.Nat.{_+_, _*_, _≤_};
 ghost use lib.ListN.{length, getD, set, replicate};
+ghost use lib.Seq.{sets};
 ghost use Rattle.definition.specs.Sheet.{word as wordAt};
 ghost use Rattle.definition.specs.Outcome.{rowsFit};
 ghost use Rattle.machine.specs.Machine.{oneMore};
@@ -48,6 +49,27 @@ pub fn word_at(words: &[u32], place: usize) -> u32
     ensures { λ x. ⌜ x ≡ getD (now (words .entry)) place 0 ⌝ }
 {
     if place < words.len() { words[place] } else { 0 }
+}
+
+// Writes a word, if its place is there.
+pub fn put_at(words: &mut [u32], place: usize, x: u32)
+    ensures { λ _. ⌜ now (words .exit) ≡ set (now (words .entry)) place x ⌝ }
+{
+    if place < words.len() {
+        words[place] = x;
+    }
+}
+
+// Writes words from a place on, as far as these are there.
+pub fn put_words(words: &mut [u32], place: usize, xs: &[u32])
+    requires { ⌜ place ≤ 4611686018427387904 ⌝ }
+    ensures { λ _. ⌜ now (words .exit) ≡ sets (now (words .entry)) place (now (xs .entry)) ⌝ }
+{
+    let mut i: usize = 0;
+    while i < xs.len() {
+        put_at(words, place + i, xs[i]);
+        i += 1;
+    }
 }
 
 // Writes 0 everywhere.

@@ -1,10 +1,11 @@
 -- What an outcome without a refusal says, and how long the buffer is.
 use mathlib.Core.Path.{_≡_, refl, sym, ap, _∙_, subst}
-use mathlib.Core.List.{List, [], _∷_, _++_, map}
+use mathlib.Core.List.{List, [], _∷_, _++_, map, append-assoc}
 use mathlib.Core.Bool.{Bool, true, false, not, _&&_, _||_}
 use Prim.Native.Nat.{ℕ, suc, _-_, _*_, _<_, _≤_, zero, _+_}
 use native.Mathlib.Omega.{arith}
-use lib.ListN.{length, length-append, length-take, length-replicate, getD, set, length-set}
+use lib.ListN.{length, length-append, length-take, length-replicate, getD, set, take, drop, length-set}
+use lib.Seq.{take-at, drop-at}
 use lib.Dec.{eqb, leb, T, T-not, eqb→eq, leb→le}
 use Rattle.definition.specs.Basics.{if_then_else_, concatMap, from}
 use Rattle.definition.specs.Sheet.{Sheet, rows}
@@ -15,7 +16,7 @@ use Rattle.definition.specs.Scope.{Moment, history}
 use Rattle.definition.specs.Slots.{finalGlobals}
 use Rattle.definition.specs.Question.{Refusal, refusal}
 use Rattle.definition.specs.Answer.{raised, eight, rowsOf, answers, raisedFunction, raisedClass, raisedRow}
-use Rattle.definition.specs.Outcome.{Outcome, refused, refusedAt, rowsFit, answered, asked, outcome, buffer}
+use Rattle.definition.specs.Outcome.{Outcome, refused, refusedAt, rowsFit, answered, asked, outcome, rowsOfWords}
 use Rattle.definition.proofs.Lists.Tests.{and-left, and-right}
 
 -- A sheet that no question refuses, with its names and a buffer.
@@ -144,9 +145,20 @@ eights-raised : (n : ℕ) {rs : List (List ℕ)} → Eights rs → Eights (raise
 eights-raised zero p = p
 eights-raised (suc n) p = raised-eights (suc n) p
 
-flat-length : {rs : List (List ℕ)} → Eights rs → length (concatMap (λ r. r) rs) ≡ 8 * length rs
+-- their words are as many as eight to a row, and read back they are these rows
+pub flat-length : {rs : List (List ℕ)} → Eights rs → length (concatMap (λ r. r) rs) ≡ 8 * length rs
 flat-length none = refl
 flat-length (more {r = r} {rs = rs} e p) = length-append r (concatMap (λ r. r) rs) ∙ omega (arith, e, flat-length p)
+
+pub rows-back : (rs : List (List ℕ)) (w : List ℕ) → Eights rs → rowsOfWords (length rs) (concatMap (λ r. r) rs ++ w) ≡ rs
+unfolding rowsOfWords
+rows-back [] w e = refl
+rows-back (r ∷ rs) w (more e p) =
+    let u : List ℕ = concatMap (λ r. r) rs ++ w in
+    ap (λ (l : List ℕ). take 8 l ∷ rowsOfWords (length rs) (drop 8 l)) (append-assoc r (concatMap (λ r. r) rs) w)
+    ∙ ap (λ (l : List ℕ). l ∷ rowsOfWords (length rs) (drop 8 (r ++ u))) (take-at r u 8 e)
+    ∙ ap (λ (l : List ℕ). r ∷ rowsOfWords (length rs) l) (drop-at r u 8 e)
+    ∙ ap (λ (l : List (List ℕ)). r ∷ l) (rows-back rs w p)
 
 -- The rows of an outcome fit.
 module _ (lent : ℕ) where

@@ -9,9 +9,9 @@ use native.Mathlib.Nat.{zero-add, add-zero}
 use lib.ListN.{getD}
 use lib.Dec.{eqb, ltb, T, eqb→eq, ltb→lt}
 use Rattle.definition.specs.Basics.{if_then_else_, every, all, count, first, concatMap, from, _∈?_}
-use Rattle.definition.specs.Sheet.{Sheet, next, child, rows, chain, kids, is, holder}
+use Rattle.definition.specs.Sheet.{Sheet, next, child, rows, chain, kids, holder}
 use Rattle.definition.specs.Shape.{Shape, shape, never, nought, shapes, shapeOf}
-use Rattle.definition.specs.Format.{tables, at, links, headerFirst, mainMarked, rowClauses, sheetFits}
+use Rattle.definition.specs.Format.{tables, links, headerFirst, mainMarked, rowClauses, sheetFits}
 use Rattle.definition.proofs.Lists.Tests.{true-of, T-and, and-both, T-true, pick}
 use Rattle.definition.proofs.Lists.Members.{count-append}
 use Rattle.definition.proofs.Lists.Counts.{all-below}

@@ -9,7 +9,7 @@ use lib.Dec.{eqb, leb, ltb, T, T-not, eqb→eq, ltb→lt}
 use Rattle.definition.specs.Basics.{if_then_else_, _⇒_, filter, all, count, from, bit, _∈?_}
 use Rattle.definition.specs.Sheet.{Sheet, kind, a, b, rows, kids, is, kidsOf, holder}
 use Rattle.definition.specs.Shape.{Part, one, many, only, holds, fits, shapeOf}
-use Rattle.definition.specs.Format.{tables, at, parentTable, functionEntry, parent, namesApart, unit, function, class, ofUnit}
+use Rattle.definition.specs.Format.{tables, at, parentTable, functionEntry, parent, namesApart, function, class, ofUnit}
 use Rattle.definition.proofs.Lists.Tests.{T-and, and-both, or-cases, T-imp, T-true, eqb-of, ℕ-trichotomy}
 use Rattle.definition.proofs.Lists.Counts.{in-head, in-tail, in-cases, once-some, once-only}
 use Rattle.definition.proofs.Format.Shapes.{everyEdge, edge, fits-named, no-children, one-child, many-children}

@@ -1,6 +1,5 @@
 use Prim.Native.Nat.{_*_}
 use lib.ListN.{getD}
-use Rattle.outside.specs.Words.{over}
 use Rattle.walk.specs.WalkState.{stateOf}
 use Rattle.try_entry.proofs.TryLaws.{walk-accepted, rows-held}
 use Rattle.enter_entry.proofs.LayLaws.{entered-refused, entered-accepted}

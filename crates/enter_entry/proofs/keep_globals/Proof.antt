@@ -17,21 +17,21 @@ returns-2 c =
     let start = c .before .before .before in
     kept-high (start .args .number) (start .args .globals) (start .args .words .now) (if1 .left) (if2 .taken)
 
-put-entry-requires : tie.Need-put-entry-requires
-put-entry-requires c κs = search needs
+put-at-requires : tie.Need-put-at-requires
+put-at-requires c κs = search needs
 
 same-length : tie.Need-same-length
 same-length c = search needs
 
 returns-3 : tie.Need-returns-3
 returns-3 c =
-    let put-entry = c .before .before .put-entry in
+    let put-at = c .before .before .put-at in
     let at-if2 = c .before .before .before .before in
     let if2 = at-if2 .if2 in
     let at-if1 = at-if2 .before in
     let if1 = at-if1 .if1 in
     let start = at-if1 .before .before in
-    put-entry .ensures ∙ kept-walk (start .args .number) (start .args .globals) (start .args .words .now) (if1 .left) (if2 .left)
+    put-at .ensures ∙ kept-walk (start .args .number) (start .args .globals) (start .args .words .now) (if1 .left) (if2 .left)
 
 pub keep-globals-spec : {M : Type 1} → statement M
-keep-globals-spec = tie.close (tie.spec returns returns-2 put-entry-requires same-length returns-3)
+keep-globals-spec = tie.close (tie.spec returns returns-2 put-at-requires same-length returns-3)

@@ -1,6 +1,4 @@
-use mathlib.Core.Path.{sym, _∙_}
 use Rattle.lay_over.proofs.LaidLaws.{function-words, class-words, global-words, let-words, other-words}
-use mathlib.Core.Path.{sym, _∙_}
 use borrow.Author.Needs.{needs}
 use Rattle.lay_over.proofs.LaidLaws.{function-words, class-words, global-words, let-words, other-words}
 use Rattle.lay_over.proofs.left_at.Statement.{statement}

@@ -1,12 +1,4 @@
-use mathlib.Core.Path.{sym, ap, _∙_}
-use mathlib.Core.List.{List, []}
-use Prim.Native.Nat.{ℕ}
 use native.Mathlib.Omega.{arith}
-use lib.ListN.{length}
-use lib.Seq.{sets}
-use Rattle.definition.specs.Meaning.{Named}
-use Rattle.definition.specs.Basics.{concatMap}
-use Rattle.session.specs.Words.{laidWords}
 use Rattle.lay_over.proofs.LaidLaws.{mark-written, name-written}
 use borrow.Author.Needs.{needs}
 use Rattle.lay_over.proofs.put_left.Statement.{statement}

@@ -1,9 +1,8 @@
 -- `place_in` meets its contract. Assumes nothing.
 use Prim.Native.Nat.{ℕ}
-use mathlib.Core.Path.{_≡_, ap}
+use mathlib.Core.Path.{ap}
 use native.Mathlib.Omega.{arith}
 use borrow.Author.Needs.{needs}
-use Rattle.name_place.specs.declared.Place.{Place}
 use Rattle.name_place.proofs.place_in.Statement.{statement}
 use Rattle.name_place.proofs.place_in.Tie as tie
 

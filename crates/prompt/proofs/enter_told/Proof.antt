@@ -1,5 +1,5 @@
 -- `prompt::enter_told` meets its contract. Assumes nothing.
-use mathlib.Core.Path.{refl, sym, ap, _∙_}
+use mathlib.Core.Path.{refl, _∙_}
 use native.Mathlib.Omega.{arith}
 use Rattle.session.specs.Words.{whole, sessionIn}
 use Rattle.prompt.proofs.TellLaws.{all-apart, list-inside, starts-few, first-is, names-good, new-few, numbers-few, last-is}

@@ -12,14 +12,8 @@ returns c =
     let is-fixed = c .before .is-fixed in
     listing-no (fixed-no (start .args .words .now) (start .args .bytes .now) (is-fixed .ensures) (c .if1 .taken))
 
-add-number-at : tie.Need-add-number-at
-add-number-at c = search needs
-
 number-at-requires : tie.Need-number-at-requires
 number-at-requires c κs = search needs
-
-add-number-at-2 : tie.Need-add-number-at-2
-add-number-at-2 c = search needs
 
 number-at-requires-2 : tie.Need-number-at-requires-2
 number-at-requires-2 c κs = search needs
@@ -70,9 +64,7 @@ read-names-spec =
     (tie.spec
     is-fixed-requires
     returns
-    add-number-at
     number-at-requires
-    add-number-at-2
     number-at-requires-2
     index-listed-requires
     add-if2

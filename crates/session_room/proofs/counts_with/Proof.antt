@@ -1,6 +1,3 @@
-use mathlib.Core.Path.{ap, _∙_}
-use mathlib.Core.List.{List, [], _∷_}
-use Prim.Native.Nat.{ℕ, _+_}
 use native.Mathlib.Omega.{arith}
 use Rattle.session_room.proofs.RoomLaws.{roomy}
 use borrow.Author.Needs.{needs}

@@ -2,8 +2,8 @@ use mathlib.Core.Path.{refl, sym, _∙_}
 use native.Mathlib.Omega.{arith}
 use borrow.Author.Needs.{needs}
 use Rattle.session_outside.proofs.NameLaws.{told-known, told-new}
-use Rattle.session_outside.proofs.names.lay_name.Statement.{statement}
-use Rattle.session_outside.proofs.names.lay_name.Tie as tie
+use Rattle.session_outside.proofs.visible.lay_name.Statement.{statement}
+use Rattle.session_outside.proofs.visible.lay_name.Tie as tie
 
 entry-at-requires : tie.Need-entry-at-requires
 entry-at-requires c κs = search needs

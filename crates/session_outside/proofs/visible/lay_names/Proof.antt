@@ -2,8 +2,8 @@ use mathlib.Core.Path.{_∙_}
 use native.Mathlib.Omega.{arith}
 use borrow.Author.Needs.{needs}
 use Rattle.session_outside.proofs.VisibleLaws.{names-laid}
-use Rattle.session_outside.proofs.names.lay_names.Statement.{statement}
-use Rattle.session_outside.proofs.names.lay_names.Tie as tie
+use Rattle.session_outside.proofs.visible.lay_names.Statement.{statement}
+use Rattle.session_outside.proofs.visible.lay_names.Tie as tie
 
 lay-declared-requires : tie.Need-lay-declared-requires
 lay-declared-requires c κs = search needs

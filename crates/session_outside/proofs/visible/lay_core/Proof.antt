@@ -6,8 +6,8 @@ use lib.ListN.{length, drop}
 use Rattle.definition.specs.Outside.{core}
 use Rattle.session_outside.specs.Written.{nameRows, coreName}
 use Rattle.session_outside.proofs.NameLaws.{core-next, core-end}
-use Rattle.session_outside.proofs.names.lay_core.Statement.{statement}
-use Rattle.session_outside.proofs.names.lay_core.Tie as tie
+use Rattle.session_outside.proofs.visible.lay_core.Statement.{statement}
+use Rattle.session_outside.proofs.visible.lay_core.Tie as tie
 
 abbrev Inv-loop : tie.InvT-loop
 Inv-loop first marks₀ out₀ row₀ i₀ marks out row i =

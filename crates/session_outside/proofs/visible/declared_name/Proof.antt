@@ -1,7 +1,7 @@
 use borrow.Author.Needs.{needs}
 use Rattle.session_outside.proofs.NameLaws.{function-told, class-told, global-told}
-use Rattle.session_outside.proofs.names.declared_name.Statement.{statement}
-use Rattle.session_outside.proofs.names.declared_name.Tie as tie
+use Rattle.session_outside.proofs.visible.declared_name.Statement.{statement}
+use Rattle.session_outside.proofs.visible.declared_name.Tie as tie
 
 mul-p : tie.Need-mul-p
 mul-p c = search needs

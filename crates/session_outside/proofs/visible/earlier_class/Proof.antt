@@ -4,8 +4,8 @@ use borrow.Author.Tests.{lt-ltb, le-ltb}
 use borrow.Author.Needs.{needs}
 use Rattle.definition.specs.Basics.{if_then_else_}
 use Rattle.session.specs.Session.{pastRows}
-use Rattle.session_outside.proofs.names.earlier_class.Statement.{statement}
-use Rattle.session_outside.proofs.names.earlier_class.Tie as tie
+use Rattle.session_outside.proofs.visible.earlier_class.Statement.{statement}
+use Rattle.session_outside.proofs.visible.earlier_class.Tie as tie
 
 add-result : tie.Need-add-result
 add-result c = search needs

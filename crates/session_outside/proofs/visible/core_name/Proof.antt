@@ -1,7 +1,7 @@
 use borrow.Author.Needs.{needs}
 use Rattle.session_outside.proofs.NameLaws.{core-told}
-use Rattle.session_outside.proofs.names.core_name.Statement.{statement}
-use Rattle.session_outside.proofs.names.core_name.Tie as tie
+use Rattle.session_outside.proofs.visible.core_name.Statement.{statement}
+use Rattle.session_outside.proofs.visible.core_name.Tie as tie
 
 add-t2 : tie.Need-add-t2
 add-t2 c = search needs

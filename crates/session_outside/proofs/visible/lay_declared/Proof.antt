@@ -8,8 +8,8 @@ use borrow.Author.Needs.{needs}
 use Rattle.session.specs.Words.{whole, laidIn}
 use Rattle.session_outside.specs.Written.{nameRows, namesBelow}
 use Rattle.session_outside.proofs.NameLaws.{below-more, below-none}
-use Rattle.session_outside.proofs.names.lay_declared.Statement.{statement}
-use Rattle.session_outside.proofs.names.lay_declared.Tie as tie
+use Rattle.session_outside.proofs.visible.lay_declared.Statement.{statement}
+use Rattle.session_outside.proofs.visible.lay_declared.Tie as tie
 
 abbrev Inv-loop : tie.InvT-loop
 Inv-loop session marks₀ out₀ row₀ left₀ marks out row left =

@@ -1,8 +1,8 @@
 use mathlib.Core.Path.{sym}
 use lib.Seq.{set-out}
 use borrow.Author.Needs.{needs}
-use Rattle.lay_over.proofs.put_at.Statement.{statement}
-use Rattle.lay_over.proofs.put_at.Tie as tie
+use Rattle.words.proofs.put_at.Statement.{statement}
+use Rattle.words.proofs.put_at.Tie as tie
 
 mul-words : tie.Need-mul-words
 mul-words c = search needs
