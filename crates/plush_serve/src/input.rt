@@ -45,3 +45,18 @@ pub fn skip(n: usize) -> bool {
     }
     true
 }
+
+// A body of a request: how many of its bytes are kept, and whether all of it was there.
+pub struct Body {
+    pub kept: usize,
+    pub whole: bool,
+}
+
+// Reads a body of n bytes. What the lent bytes do not hold is read past.
+pub fn read_body(n: usize, bytes: &mut [u8]) -> Body
+    ensures { λ r. ⌜ Counts (r .kept) (now (bytes .exit)) ⌝ }
+{
+    let kept = read_part(n, bytes);
+    let whole = skip(n - kept);
+    Body { kept, whole }
+}

@@ -1,16 +1,16 @@
 // Answers requests from the standard input on the standard output, one after another.
 //
-// Each verb has its routine here, which reads the bodies of the request, calls the routine of a library and writes the reply. A request that is
-// broken ends the program, with a line on standard error.
+// The bodies of a request are read, a routine of a library makes the reply of its verb, and that is written. A request that is broken ends the
+// program, with a line on standard error.
 mod input;
 mod say;
 
 use columns_text::columns_lent;
+use enter_text::enter_lent;
 use find_text::find_lent;
 use fresh_session::fresh;
 use input::fill;
-use input::read_part;
-use input::skip;
+use input::read_body;
 use libc::STDIN_FILENO;
 use libc::STDOUT_FILENO;
 use name_reply::name_lent;
@@ -41,6 +41,19 @@ fn reply_resolved(sheet: &[u8], names: &[u8], lent: usize, text: &mut [u8]) -> b
     write(&text[..n])
 }
 
+// The reply of a sheet's text and its names entered into the session, with so many answer rows lent.
+fn reply_entered(
+    words: &mut [u32],
+    bytes: &mut [u8],
+    sheet: &[u8],
+    names: &[u8],
+    lent: usize,
+    text: &mut [u8],
+) -> bool {
+    let n = enter_lent(words, bytes, sheet, names, lent, text);
+    write(&text[..n])
+}
+
 // The reply of a sheet's text stored by column, or taken back, with so many rows lent.
 fn reply_columns(sheet: &[u8], back: bool, lent: usize, text: &mut [u8]) -> bool {
     let n = columns_lent(sheet, back, lent, text);
@@ -66,57 +79,43 @@ fn reply_name<'a>(
     write(&text[..n])
 }
 
-// Verb 1: resolves a sheet. Of a body that is too long one byte more than the longest accepted is kept, and the rest is read past.
-fn resolve(request: Request, sheet: &mut [u8], names: &mut [u8], text: &mut [u8]) -> bool {
-    let s = read_part(request.sheet as usize, sheet);
-    if !skip(request.sheet as usize - s) {
-        return complain(broken::CUT_OFF);
-    }
-    let n = read_part(request.names as usize, names);
-    if !skip(request.names as usize - n) {
-        return complain(broken::CUT_OFF);
-    }
-    reply_resolved(&sheet[..s], &names[..n], request.x as usize, text)
-}
-
-// Verb 5: tells the text of a name, of the session or of the entry whose names are handed over.
-fn tell_name(
-    request: Request,
-    words: &[u32],
-    bytes: &[u8],
-    names: &mut [u8],
-    text: &mut [u8],
-) -> bool {
-    let n = read_part(request.names as usize, names);
-    if !skip(request.names as usize - n) {
-        return complain(broken::CUT_OFF);
-    }
-    reply_name(words, bytes, &names[..n], request.x, request.y, text)
-}
-
-// Verb 6: finds a name. The bytes that are looked for, fewer than a sheet's text may have, are kept in its place.
+// Finds a name. The bytes that are looked for, fewer than a sheet's text may have, are kept in its place.
 fn find(request: Request, sought: &mut [u8], names: &mut [u8], text: &mut [u8]) -> bool {
-    let n = read_part(request.names as usize, names);
-    if !skip(request.names as usize - n) {
+    let list = read_body(request.names as usize, names);
+    let name = read_body(request.second_names as usize, sought);
+    if !list.whole {
         return complain(broken::CUT_OFF);
     }
-    let s = read_part(request.second_names as usize, sought);
-    if s < request.second_names as usize {
+    if !name.whole {
         return complain(broken::CUT_OFF);
     }
+    let n = list.kept;
+    let s = name.kept;
     reply_found(&names[..n], &sought[..s], text)
 }
 
-// Verbs 9 and 10: stores a sheet by column, or takes it back.
-fn rearrange(request: Request, back: bool, sheet: &mut [u8], text: &mut [u8]) -> bool {
-    let s = read_part(request.sheet as usize, sheet);
-    if !skip(request.sheet as usize - s) {
-        return complain(broken::CUT_OFF);
+// The reply to a request with these bodies, by its verb.
+fn reply(
+    request: Request,
+    words: &mut [u32],
+    bytes: &mut [u8],
+    sheet: &[u8],
+    names: &[u8],
+    text: &mut [u8],
+) -> bool {
+    let verb = request.verb;
+    let x = request.x;
+    match verb {
+        verb::RESOLVE => reply_resolved(sheet, names, x as usize, text),
+        verb::ENTER => reply_entered(words, bytes, sheet, names, x as usize, text),
+        verb::NAME_TEXT => reply_name(words, bytes, names, x, request.y, text),
+        verb::TO_COLUMNS => reply_columns(sheet, false, x as usize, text),
+        verb::FROM_COLUMNS => reply_columns(sheet, true, x as usize, text),
+        _ => complain(broken::VERB),
     }
-    reply_columns(&sheet[..s], back, request.x as usize, text)
 }
 
-// The request of a header, by its verb.
+// The request of a header. Of a body that is too long one byte more than the longest accepted is kept.
 fn answer(
     header: &[u8],
     words: &mut [u32],
@@ -129,15 +128,20 @@ fn answer(
     if request.broken != 0 {
         return complain(request.broken);
     }
-    let verb = request.verb;
-    match verb {
-        verb::RESOLVE => resolve(request, sheet, names, text),
-        verb::NAME_TEXT => tell_name(request, words, bytes, names, text),
-        verb::FIND_NAME => find(request, sheet, names, text),
-        verb::TO_COLUMNS => rearrange(request, false, sheet, text),
-        verb::FROM_COLUMNS => rearrange(request, true, sheet, text),
-        _ => complain(broken::VERB),
+    if request.verb == verb::FIND_NAME {
+        return find(request, sheet, names, text);
     }
+    let rows = read_body(request.sheet as usize, sheet);
+    let list = read_body(request.names as usize, names);
+    if !rows.whole {
+        return complain(broken::CUT_OFF);
+    }
+    if !list.whole {
+        return complain(broken::CUT_OFF);
+    }
+    let s = rows.kept;
+    let n = list.kept;
+    reply(request, words, bytes, &sheet[..s], &names[..n], text)
 }
 
 // One request. Where there is no byte of a header, there is no request, and nothing is said. Returns false where the program is to end.
@@ -175,13 +179,13 @@ fn run(words: &mut [u32], bytes: &mut [u8], sheet: &mut [u8], names: &mut [u8], 
     }
 }
 
-// Room for a session, for one byte more than the longest sheet and names have, and for the longest report.
+// Room for a session, for one byte more than the longest sheet and names have, and for the longest reply.
 fn main() {
     let mut words = [0u32; 51088];
     let mut bytes = [0u8; 32936];
     let mut sheet = [0u8; 165889];
     let mut names = [0u8; 32769];
-    let mut text = [0u8; 165969];
+    let mut text = [0u8; 166050];
     fresh(&mut words, &mut bytes);
     run(&mut words, &mut bytes, &mut sheet, &mut names, &mut text);
 }

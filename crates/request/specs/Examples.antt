@@ -23,7 +23,7 @@ breaks : map (λ w. requestOf (header w) .broken)
     ((1 ∷ 4294967295 ∷ 4294967295 ∷ 0 ∷ 0 ∷ 0 ∷ 0 ∷ 0 ∷ []) ∷
     (1 ∷ 0 ∷ 0 ∷ 0 ∷ 2049 ∷ 0 ∷ 0 ∷ 0 ∷ []) ∷
     (0 ∷ 0 ∷ 0 ∷ 0 ∷ 0 ∷ 0 ∷ 0 ∷ 0 ∷ []) ∷
-    (2 ∷ 0 ∷ 0 ∷ 0 ∷ 0 ∷ 0 ∷ 0 ∷ 0 ∷ []) ∷
+    (3 ∷ 0 ∷ 0 ∷ 0 ∷ 0 ∷ 0 ∷ 0 ∷ 0 ∷ []) ∷
     (1 ∷ 0 ∷ 0 ∷ 1 ∷ 0 ∷ 0 ∷ 0 ∷ 0 ∷ []) ∷
     (1 ∷ 0 ∷ 0 ∷ 0 ∷ 0 ∷ 1 ∷ 0 ∷ 0 ∷ []) ∷
     (1 ∷ 0 ∷ 0 ∷ 0 ∷ 0 ∷ 0 ∷ 1 ∷ 0 ∷ []) ∷
@@ -31,6 +31,18 @@ breaks : map (λ w. requestOf (header w) .broken)
     ≡ 0 ∷ 4 ∷ 2 ∷ 2 ∷ 3 ∷ 5 ∷ 6 ∷ 6 ∷ []
 unfolding requestOf brokenBy largest told
 breaks = refl
+
+-- verb 2 takes what verb 1 takes
+entry-verb : map (λ w. requestOf (header w) .broken)
+    ((2 ∷ 4294967295 ∷ 4294967295 ∷ 0 ∷ 2048 ∷ 0 ∷ 0 ∷ 0 ∷ []) ∷
+    (2 ∷ 0 ∷ 0 ∷ 0 ∷ 2049 ∷ 0 ∷ 0 ∷ 0 ∷ []) ∷
+    (2 ∷ 0 ∷ 0 ∷ 1 ∷ 0 ∷ 0 ∷ 0 ∷ 0 ∷ []) ∷
+    (2 ∷ 0 ∷ 0 ∷ 0 ∷ 0 ∷ 1 ∷ 0 ∷ 0 ∷ []) ∷
+    (2 ∷ 0 ∷ 0 ∷ 0 ∷ 0 ∷ 0 ∷ 81 ∷ 0 ∷ []) ∷
+    (2 ∷ 0 ∷ 0 ∷ 0 ∷ 0 ∷ 0 ∷ 0 ∷ 2 ∷ []) ∷ [])
+    ≡ 0 ∷ 4 ∷ 3 ∷ 5 ∷ 6 ∷ 6 ∷ []
+unfolding requestOf brokenBy largest told
+entry-verb = refl
 
 -- verb 5: the entry's names; x is at most 1, y any number; no sheet, no second names, no flag
 text-verb : map (λ w. requestOf (header w) .broken)

@@ -1,6 +1,9 @@
 // The verbs.
 pub const RESOLVE: u32 = 1;
 
+// An entry into the program's session.
+pub const ENTER: u32 = 2;
+
 // The text of a name, by its number.
 pub const NAME_TEXT: u32 = 5;
 

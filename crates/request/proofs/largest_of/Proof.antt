@@ -26,9 +26,13 @@ unfolding largest
 returns-5 c = ap largest (sym (c .match .keys5))
 
 returns-6 : tie.Need-returns-6
-returns-6 c =
+unfolding largest
+returns-6 c = ap largest (sym (c .match .keys6))
+
+returns-7 : tie.Need-returns-7
+returns-7 c =
     let rest = c .match .rest in
-    unknown-verb (c .before .args .verb) (rest .0 .0 .0 .0 .1) (rest .0 .0 .0 .1) (rest .0 .0 .1) (rest .0 .1) (rest .1)
+    unknown-verb (c .before .args .verb) (rest .0 .0 .0 .0 .0 .1) (rest .0 .0 .0 .0 .1) (rest .0 .0 .0 .1) (rest .0 .0 .1) (rest .0 .1) (rest .1)
 
 pub largest-of-spec : {M : Type 1} → statement M
-largest-of-spec = tie.close (tie.spec returns returns-2 returns-3 returns-4 returns-5 returns-6)
+largest-of-spec = tie.close (tie.spec returns returns-2 returns-3 returns-4 returns-5 returns-6 returns-7)

@@ -1,0 +1,2 @@
+-- Steps of the proofs.
+mod EntryLaws

@@ -1,0 +1,3 @@
+-- What an entry from text to text promises, and replies computed.
+pub mod Reply
+pub mod Examples
