@@ -9,6 +9,9 @@
 //!   oracle --time N SHEET NAMES         time resolve_syms alone, on a tree that is built
 //!   oracle --time-words N SHEET NAMES   time it from the rows in memory to the answer rows: tree, resolve_syms, rows
 //!   oracle --time-full N SHEET NAMES    time it all, from text to text
+//!   oracle --time-sessions N FILE       as --sessions, with the words fresh, enter and time: entries that must be accepted, and
+//!                                       entries that are timed over the session as it stands, resolve_repl_unit alone and from
+//!                                       the rows in memory to the answer rows; the session stays
 //!
 //! An answer is the program's output, or one line: ERR file line column message; HOST and the same, if the host table
 //! of core methods was asked; PANIC message.
@@ -110,11 +113,15 @@ fn sessions(path: &str) {
     });
 }
 
-fn time(what: &str, count: usize, mut once: impl FnMut() -> u64) {
+fn timed(what: &str, count: usize, mut once: impl FnMut() -> u64) -> String {
     let mut times: Vec<u64> = (0..count).map(|_| once()).collect();
     times.sort();
     let mean = times.iter().sum::<u64>() / count as u64;
-    println!("{what}: {count} times, mean {mean} ns, median {} ns, least {} ns", times[count / 2], times[0]);
+    format!("{what}: {count} times, mean {mean} ns, median {} ns, least {} ns\n", times[count / 2], times[0])
+}
+
+fn time(what: &str, count: usize, once: impl FnMut() -> u64) {
+    print!("{}", timed(what, count, once));
 }
 
 fn time_resolve(count: usize, sheet: &[u8], names: &[u8]) {
@@ -152,6 +159,28 @@ fn time_full(count: usize, sheet: &[u8], names: &[u8]) {
     });
 }
 
+fn time_sessions(count: usize, path: &str) {
+    let mut session = session::Session::new();
+    replies(path, |words, sheet, names| match words {
+        ["fresh"] => {
+            session = session::Session::new();
+            String::new()
+        }
+        ["enter"] => {
+            let answer = session.enter(sheet, names);
+            assert!(answer.starts_with("         0"), "{answer}");
+            String::new()
+        }
+        ["time"] => {
+            let (rows, mut numbers) = (parse_rows(sheet), session.numbers());
+            numbers.reserve(1024);
+            timed("resolve_repl_unit", count, || session.elapsed_unit(rows.clone(), names, numbers.clone()))
+                + &timed("words to words", count, || session.elapsed(rows.clone(), names, numbers.clone()))
+        }
+        _ => panic!("the words of a request stand at the head of main.rs"),
+    });
+}
+
 fn run() {
     let args: Vec<String> = std::env::args().skip(1).collect();
     let args: Vec<&str> = args.iter().map(|arg| arg.as_str()).collect();
@@ -162,6 +191,7 @@ fn run() {
         ["--time", count, sheet, names] => time_resolve(count.parse().unwrap(), &read(sheet), &read(names)),
         ["--time-words", count, sheet, names] => time_words(count.parse().unwrap(), &read(sheet), &read(names)),
         ["--time-full", count, sheet, names] => time_full(count.parse().unwrap(), &read(sheet), &read(names)),
+        ["--time-sessions", count, file] => time_sessions(count.parse().unwrap(), file),
         [sheet, names] => print!("{}", resolve(&read(sheet), &read(names))),
         _ => panic!("the ways to call it stand at the head of main.rs"),
     }

@@ -99,6 +99,11 @@ impl<K: Hash + Eq + Clone, V> OrderedMap<K, V> {
         None
     }
 
+    pub fn retain(&mut self, mut keep: impl FnMut(&K, &mut V) -> bool) {
+        self.entries.retain_mut(|(key, value)| keep(key, value));
+        self.index = self.entries.iter().enumerate().map(|(i, (key, _))| (key.clone(), i)).collect();
+    }
+
     pub fn len(&self) -> usize {
         self.entries.len()
     }

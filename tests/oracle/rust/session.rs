@@ -11,6 +11,7 @@ use crate::symbols::{Decl, Env};
 use std::collections::{HashMap, HashSet};
 use std::fmt::Write as _;
 use std::panic::{catch_unwind, AssertUnwindSafe};
+use std::time::Instant;
 
 /// An accepted entry, with what it added.
 #[derive(Clone)]
@@ -78,6 +79,59 @@ impl Session {
         let mut trial = Session { prog, env, names: self.names.clone(), entries: self.entries.clone() };
         let answer = trial.enter(sheet, list);
         (trial, answer)
+    }
+
+    /// The number of each name.
+    pub fn numbers(&self) -> HashMap<String, u32> {
+        numbered(&self.names)
+    }
+
+    /// How long `resolve_repl_unit` takes, in nanoseconds. The entry must be accepted; the session stays.
+    pub fn elapsed_unit(&mut self, rows: Vec<Row>, list: &[u8], numbers: HashMap<String, u32>) -> u64 {
+        let sheet = Sheet::entry_over(rows, list, self.entries.len(), numbers);
+        self.undone(|key, prog, env| {
+            sheet.add_entry(key, prog);
+            let start = Instant::now();
+            let result = prog.resolve_repl_unit(key, env);
+            let elapsed = start.elapsed().as_nanos() as u64;
+            assert!(result.is_ok());
+            elapsed
+        })
+    }
+
+    /// The same from the rows in memory to the answer rows: tree, `resolve_repl_unit`, rows. `numbers` are those of the session's
+    /// names, and get the new ones.
+    pub fn elapsed(&mut self, rows: Vec<Row>, list: &[u8], numbers: HashMap<String, u32>) -> u64 {
+        let before = self.entries.len();
+        self.undone(|key, prog, env| {
+            let start = Instant::now();
+            let sheet = Sheet::entry_over(rows, list, before, numbers);
+            sheet.add_entry(key, prog);
+            let result = prog.resolve_repl_unit(key, env);
+            let answer = answers::answers(&sheet, prog);
+            let elapsed = start.elapsed().as_nanos() as u64;
+            std::hint::black_box((&result, &answer));
+            elapsed
+        })
+    }
+
+    /// Does something that adds an entry under a key, and takes the entry out again. The program is not copied for that, so that
+    /// it stays in the processor's caches.
+    fn undone<T>(&mut self, enter: impl FnOnce(&str, &mut Program, &mut Env) -> T) -> T {
+        let (prog, raised) = (&mut self.prog, 2048 * self.entries.len());
+        let (key, globals, main) = (prog.units.len().to_string(), prog.num_globals, prog.main_fn);
+        let parents: HashSet<ClassId> = prog.classes.values().filter(|class| class.has_children).map(|class| class.id).collect();
+        let env = copy(&self.env);
+        let out = enter(&key, prog, &mut self.env);
+        self.env = env;
+        (prog.num_globals, prog.main_fn) = (globals, main);
+        prog.units.retain(|each, _| *each != key);
+        prog.funs.retain(|id, _| usize::from(*id) < raised);
+        prog.classes.retain(|id, class| {
+            class.has_children = parents.contains(id);
+            usize::from(*id) < 256 + raised
+        });
+        out
     }
 
     pub fn withdraw(&mut self) {

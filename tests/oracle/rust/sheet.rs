@@ -60,6 +60,17 @@ impl Sheet {
         Sheet { numbers: numbered(names), raised: 2048 * before, ..Sheet::new(rows, list) }
     }
 
+    /// The same over the numbers of the session's names, to which the entry's new ones are added.
+    pub fn entry_over(rows: Vec<Row>, list: &[u8], before: usize, mut numbers: HashMap<String, u32>) -> Sheet {
+        let mut names = fixed_names();
+        for name in listed(list) {
+            let next = numbers.len() as u32;
+            numbers.entry(name.clone()).or_insert(next);
+            names.push(name);
+        }
+        Sheet { rows, names, numbers, raised: 2048 * before }
+    }
+
     pub fn kind(&self, row: usize) -> u32 {
         self.rows[row][0]
     }
