@@ -1,4 +1,4 @@
-"""compare_session.py ORACLE COUNT [SEED]
+"""compare_session.py ORACLE COUNT [SEED [PROGRAM]]
 
 Compares session.py with the unchanged resolve_repl_unit, behind the oracle: the runs of session_directed.py, and random runs
 until they hold COUNT entries and previews. Compared are, for each entry and preview: question, position, name, every word of the
@@ -14,8 +14,17 @@ What the Rust does not say or says otherwise: 16 and 19 are panics, so their pla
 global count after them is the walk's next one that the panic left, less the one that the Rust took for a hoisted let of the unit
 before it found the name taken. Child marks of refused entries stay in the Rust; they must be on classes named there as parents.
 
+With PROGRAM, a built crates/plush_serve, the runs are made of the verbs that it has (session_program.py). Each is sent to a fresh
+process of it in one go, and every reply must be what session.py says, byte by byte; as the Rust says the same of the same
+requests, the program's questions, positions, names, answer rows and counts are the Rust's. After each entry, accepted or
+refused, the program's session is asked for what it shows, in a process of its own: each known name that the Rust does not show
+must be refused by 8, or 9 for null; an entry that uses every name that the Rust shows must be told for each what it means in the
+Rust; the texts of all names by verb 5 must be those of the lists, and that of one number past the last empty. Of runs with more
+than LONG entries only the last LAST sessions are asked.
+
 Prints the counts by question and, of every run that differs, the first request that does. Exit status 1 if one differs.
 """
+import os
 import re
 import subprocess
 import sys
@@ -26,12 +35,15 @@ from distance import distances, source_steps, with_distances, without_distances
 from expected import UNNAMED_CLASH, Reader, clashes, of_answer
 from format_check import FIXED, listed, words_of_text
 from session import (
-    ENTER, FRESH, NAME_TEXT, PREVIEW, STEP, WITHDRAW, all_names, child_marks, classes, entered, outcome, session_row, visible)
+    ENTER, FRESH, NAME_TEXT, PREVIEW, STEP, VERBS, WITHDRAW, all_names, child_marks, classes, entered, outcome, session_row,
+    visible)
 from session_directed import directed_runs, limit_runs
+from session_program import HAS, Driven
 from session_runs import random_run
 from tree import B, KIND
 
 BATCH = 200
+LONG, LAST = 50, 8
 NOT_ASKED = (1, 2, 3, 4, 23)
 NOT_RUST = (22, 24)
 # entries, names, bytes of names, declarations, classes, fields and methods
@@ -83,10 +95,11 @@ def run_oracle(oracle, requests):
 
 
 class Step:
-    """A request of a run, what the model says of it, and what the oracle is asked."""
+    """A request of a run, what the model says of it, and what the oracle is asked. `upto` is how many requests there are up to it;
+    `told` is the Rust's session after it, as the row of counts and what the visible names mean."""
 
-    def __init__(self, session, request):
-        self.request, self.before = request, session
+    def __init__(self, session, request, upto):
+        self.request, self.before, self.upto, self.told = request, session, upto, None
         self.out, self.after = outcome(session, request)
         self.question = self.out[0][0]
         self.as_entered = entered(session, request.text, request.names, request.x)[1] if self.is_entry else self.after
@@ -117,10 +130,10 @@ class Step:
 
 class Run:
     def __init__(self, what, requests):
-        self.what, self.steps, session = what, [], FRESH
-        for request in requests:
+        self.what, self.requests, self.steps, session = what, requests, [], FRESH
+        for upto, request in enumerate(requests, 1):
             if request.verb != NAME_TEXT:
-                self.steps.append(Step(session, request))
+                self.steps.append(Step(session, request, upto))
                 session = self.steps[-1].after
         self.refused_parents, self.kept_marks, self.panics = set(), 0, 0
 
@@ -150,6 +163,19 @@ class Run:
             if found:
                 return number, found
             self.kept_marks += told.marks != child_marks(step.after)
+            step.told = [told.row[0] - taken, *told.row[1:]], told.visible
+        return None
+
+    def program_difference(self, driven):
+        """The same of the program, once the Rust has been asked."""
+        number = driven.differing_replies()
+        if number is not None:
+            return sum(step.upto <= number for step in self.steps), f"the program's reply {number}"
+        steps = list(enumerate(self.steps))
+        for number, step in steps if len(steps) <= LONG else steps[-LAST:]:
+            found = driven.differing_session(step.upto, step.after, *step.told)
+            if found:
+                return number, f"the program after it: {found}"
         return None
 
     def differing_entry(self, step, reader, answer, told, taken):
@@ -215,13 +241,17 @@ def differing_answer(step, reader, answer):
     return None
 
 
-def compared(oracle, runs):
-    """(run, number of the request, what differs) of each run that differs."""
+def compared(oracle, runs, program=None, numbers=None):
+    """(run, number of the request, what differs) of each run that differs; `numbers` counts what the program is asked."""
     asked = [run.asked() for run in runs]
     replies = run_oracle(oracle, [request for each in asked for request in each])
     for run, each in zip(runs, asked):
         found = run.difference(replies[:len(each)])
         replies = replies[len(each):]
+        if program and not found:
+            driven = Driven(program, run.requests)
+            found = run.program_difference(driven)
+            numbers.update(replies=len(run.requests), sessions=driven.sessions, probes=driven.entries, texts=driven.texts)
         if found:
             yield run, *found
 
@@ -233,12 +263,12 @@ def show(run, number, what):
         print(each.request.text.decode("latin-1"), end="")
 
 
-def batches(count, seed):
-    yield [Run(what, requests) for what, requests in directed_runs()]
-    yield [Run(what, requests) for what, requests in limit_runs()]
+def batches(count, seed, verbs):
+    yield [Run(what, requests) for what, requests in directed_runs(verbs)]
+    yield [Run(what, requests) for what, requests in limit_runs(verbs)]
     made = 0
     while made < count:
-        runs, seed = [Run(f"run {each}", random_run(each)) for each in range(seed, seed + BATCH)], seed + BATCH
+        runs, seed = [Run(f"run {each}", random_run(each, verbs)) for each in range(seed, seed + BATCH)], seed + BATCH
         made += sum(step.is_entry for run in runs for step in run.steps)
         yield runs
 
@@ -246,9 +276,10 @@ def batches(count, seed):
 def main():
     oracle, count = sys.argv[1], int(sys.argv[2])
     seed = (int(sys.argv[3]) if len(sys.argv) > 3 else 1) * 1_000_000
+    program = os.path.abspath(sys.argv[4]) if len(sys.argv) > 4 else None
     verbs, questions, found, numbers = Counter(), Counter(), [], Counter()
-    for runs in batches(count, seed):
-        found += compared(oracle, runs)
+    for runs in batches(count, seed, HAS if program else VERBS):
+        found += compared(oracle, runs, program, numbers)
         for run in runs:
             steps = run.steps
             verbs.update(step.request.verb for step in steps)
@@ -261,6 +292,9 @@ def main():
     print(f"{numbers['runs']} runs: {verbs[ENTER]} entries, {verbs[PREVIEW]} previews, {verbs[WITHDRAW]} withdrawals; "
           f"the Rust asked {numbers['rust']} times, {numbers['panics']} panics; {len(found)} runs differ; "
           f"child marks of refused entries in {numbers['marks']} sessions of the Rust")
+    if program:
+        print(f"the program: {numbers['replies']} replies to these; {numbers['sessions']} sessions asked with "
+              f"{numbers['probes']} entries and {numbers['texts']} texts of names")
     sys.exit(1 if found else 0)
 
 

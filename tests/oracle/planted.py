@@ -1,8 +1,9 @@
 """planted.py [WORD]
 
-Plants the faults of faults.py in copies of second.py, format_check.py, columns_cases.py and find_cases.py, one at a time, and counts the
-recorded cases that notice each: those of crates/plush_serve whose reply changes, and those of crates/question_tests and
-crates/columns_tests whose answer changes.
+Plants the faults of faults.py in copies of second.py, format_check.py, columns_cases.py and find_cases.py, and those of
+session_faults.py in copies of session.py, one at a time, and counts the recorded cases that notice each: those of
+crates/plush_serve whose reply changes, and those of crates/question_tests and crates/columns_tests whose answer changes. A copy
+of session.py goes through all requests of verbs 2 and 5 over one session, which may differ from the first difference on.
 Prints a line for each fault, first those that no case notices; exit status 1 if there is one, or if a copy without a fault
 answers a case otherwise. With WORD only faults that have it in their line are planted. A fault that stops the copy with an
 error counts as noticed there.
@@ -12,13 +13,17 @@ import types
 from pathlib import Path
 
 import faults
+import session_faults
 from question_cases import cases_of
+from session_program import HAS, SHOWN
 from tree import text_of
 
 HERE = Path(__file__).resolve().parent
 CRATES = HERE.parents[1] / "crates"
 RESOLVE = 1
 FIND = 6
+# verbs whose reply has a row that tells the session
+TELLING = 2, 3, 4
 TO_COLUMNS, FROM_COLUMNS = 9, 10
 
 
@@ -37,16 +42,17 @@ def altered(file, changes):
 # The recorded cases
 
 def serve_cases():
-    """(verb, text of a sheet, names, rows lent, second names, reply) of each case of crates/plush_serve."""
+    """(verb, text of a sheet, names, x, y, second names, reply) of each case of crates/plush_serve."""
     data, out = ((CRATES / "plush_serve" / name).read_bytes() for name in ("stdin", "stdout"))
     cases, at, replied = [], 0, 0
     while at < len(data):
-        verb, sheet_bytes, name_bytes, _, lent, _, _, second_bytes = (int(data[at + i:at + i + 10]) for i in range(0, 80, 10))
+        verb, sheet_bytes, name_bytes, _, x, y, _, second_bytes = (int(data[at + i:at + i + 10]) for i in range(0, 80, 10))
         start = at + 81
         middle, second = start + sheet_bytes, start + sheet_bytes + name_bytes
         at = second + second_bytes
-        end = replied + 81 * (1 + int(out[replied + 50:replied + 60]))
-        cases.append((verb, data[start:middle], data[middle:second], lent, data[second:at], out[replied:end]))
+        rows, text_bytes = (int(out[i:i + 10]) for i in (replied + 50, replied + 70))
+        end = replied + 81 * (1 + rows + (verb in TELLING)) + text_bytes
+        cases.append((verb, data[start:middle], data[middle:second], x, y, data[second:at], out[replied:end]))
         replied = end
     assert replied == len(out)
     return cases
@@ -72,10 +78,11 @@ class Recorded:
     def __init__(self):
         self.format = altered("format_check.py", ())
         cases = serve_cases()
-        self.serve = [(text, names, lent, out) for verb, text, names, lent, _, out in cases if verb == RESOLVE]
-        self.columns = [(verb, self.format.words_of_text(text), lent, out) for verb, text, _, lent, _, out in cases
+        self.serve = [(text, names, lent, out) for verb, text, names, lent, _, _, out in cases if verb == RESOLVE]
+        self.columns = [(verb, self.format.words_of_text(text), lent, out) for verb, text, _, lent, _, _, out in cases
                         if verb in (TO_COLUMNS, FROM_COLUMNS)]
-        self.found = [(names, name, out) for verb, _, names, _, name, out in cases if verb == FIND]
+        self.found = [(names, name, out) for verb, _, names, _, _, name, out in cases if verb == FIND]
+        self.session = [(case[:5], out) for *case, _, out in cases if case[0] in HAS]
         self.column_tests = column_tests()
         self.questions = question_cases()
         self.sheets = []
@@ -109,6 +116,15 @@ class Recorded:
         """How many cases of crates/plush_serve in which a name is looked for the module answers otherwise."""
         return sum(outcome(lambda: module.reply(names, name)) != out for names, name, out in self.found)
 
+    def session_notices(self, module):
+        """How many requests of verbs 2 and 5 the module answers otherwise."""
+        session, count = module.FRESH, 0
+        for request, out in self.session:
+            reply = outcome(lambda: module.replied(session, module.Request(*request), SHOWN))
+            count += isinstance(reply, Exception) or reply[0] != out
+            session = session if isinstance(reply, Exception) else reply[1]
+        return count
+
     def column_tests_notice(self, module):
         """How many cases of crates/columns_tests the module answers otherwise."""
         return sum(outcome(lambda: module.expected(case)) != line for case, line in self.column_tests)
@@ -136,6 +152,7 @@ def planted(recorded, word):
         ("question_tests", "format_check.py", faults.format_faults(source), recorded.format_notices),
         ("plush_serve", "columns_cases.py", [*faults.COLUMNS, *faults.COLUMN_REPLIES], recorded.columns_notice),
         ("plush_serve", "find_cases.py", faults.FINDING, recorded.finding_notices),
+        ("plush_serve", "session.py", session_faults.SESSION, recorded.session_notices),
         ("columns_tests", "columns_cases.py", [*faults.COLUMNS, *faults.COLUMN_SIZES], recorded.column_tests_notice),
     ]
     for program, file, group, notices in groups:
@@ -151,14 +168,16 @@ def main():
              recorded.format_notices(recorded.format)]
     wrong += [notices(altered("columns_cases.py", ())) for notices in (recorded.columns_notice, recorded.column_tests_notice)]
     wrong.append(recorded.finding_notices(altered("find_cases.py", ())))
+    wrong.append(recorded.session_notices(altered("session.py", ())))
     if any(wrong):
         sys.exit(f"without a fault, cases answered otherwise: {wrong}")
     found = list(planted(recorded, sys.argv[1] if len(sys.argv) > 1 else ""))
     for count, line in sorted(found, key=lambda each: each[0] > 0):
         print(f"{count:5} {line}")
     missed = sum(count == 0 for count, _ in found)
-    print(f"{len(recorded.serve) + len(recorded.columns) + len(recorded.found)} cases of plush_serve, {len(recorded.questions)} of question_tests,"
-          f" {len(recorded.column_tests)} of columns_tests")
+    serve = sum(map(len, (recorded.serve, recorded.columns, recorded.found, recorded.session)))
+    print(f"{serve} cases of plush_serve, {len(recorded.questions)} of question_tests, {len(recorded.column_tests)} of "
+          "columns_tests")
     print(f"{len(found)} faults planted, {missed} not noticed")
     sys.exit(1 if missed else 0)
 

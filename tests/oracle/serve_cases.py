@@ -7,9 +7,11 @@ an identifier's row, distance.py.
 The cases are the samples of document 01, the small programs of directed.py, some sheets at the limits, and random sheets of
 at most MOST_ROWS rows; of each question from 5 to 21 at least LEAST. The later ones follow these in order: small programs
 that planted.py asks for, sheets and texts at the limits, bodies that are too long, sheets with few answer rows lent, and small
-programs for distances. Of those that questions 1 to 4 refuse, format_check.py says so; the oracle is not asked. Last come sheets
-to store by column and to take back, with the replies of columns_cases.py, and names to find, with those of find_cases.py. Prints
-the counts by question and by kind of row.
+programs for distances. Of those that questions 1 to 4 refuse, format_check.py says so; the oracle is not asked. Then come
+sheets to store by column and to take back, with the replies of columns_cases.py, and names to find, with those of find_cases.py.
+Last comes a run of entries and texts of names over the program's one session, by session_cases.py, which is compared with the
+Rust as compare_session.py does; in its middle stand requests of other verbs once more. Prints the counts by question and by
+kind of row.
 """
 import random
 import sys
@@ -19,6 +21,8 @@ from pathlib import Path
 import columns_cases
 import directed
 import find_cases
+import session_cases
+from compare_session import Run, compared
 from distance import distances
 from expected import all_of_rust, completed, split
 from format_check import first_no, words_of_text
@@ -169,6 +173,15 @@ def column_cases():
     yield Columns(FROM_COLUMNS, text(rows), 2048)
 
 
+def session_run(oracle, others):
+    """The run over the session, with other requests in its middle."""
+    cases = session_cases.recorded()
+    for _, number, what in compared(oracle, [Run("recorded", [case.request for case in cases])]):
+        sys.exit(f"the Rust differs in entry {number} of the run over the session: {what}")
+    middle = len(cases) // 2
+    return [*cases[:middle], *others, *cases[middle:]]
+
+
 def random_cases(rng, seeds, sizes, most_rows):
     for seed in seeds:
         sheet = generate(seed, rng.choice(sizes), 0.85)
@@ -199,7 +212,9 @@ def make_cases(oracle, count, seed):
     rng.shuffle(cases)
     cases += expect(oracle, list(later_cases()))
     cases += expect(oracle, [*lent_cases(cases), *distance_cases()])
-    return [*cases, *column_cases(), *find_cases.directed()]
+    columns, found = list(column_cases()), find_cases.directed()
+    accepted = [case for case in cases if case.question == 0 and case.answer_rows]
+    return [*cases, *columns, *found, *session_run(oracle, [min(accepted, key=lambda case: len(case.text)), columns[0], found[0]])]
 
 
 def summary(cases):

@@ -11,7 +11,7 @@ from format_check import COLUMN_A, COLUMN_B, FIXED, MAX_GLOBALS, MAX_ROWS, first
 from second import CLASS, CORE, CORE_FIELDS, FUNCTION, GLOBAL, Decl, No, Resolver
 from tree import text_of
 
-ENTER, PREVIEW, WITHDRAW, NAME_TEXT = 2, 3, 4, 5
+VERBS = ENTER, PREVIEW, WITHDRAW, NAME_TEXT = 2, 3, 4, 5
 # names, bytes of names, declarations, classes, fields and methods
 LIMITS = [1024, 32768, 4096, 1024, 8192]
 MAX_ENTRIES = 1000
@@ -300,9 +300,9 @@ def outcome(session, request):
 
 
 def dialogue(requests, shown=True):
-    """The bytes of requests, from a fresh session on, and those of their replies."""
+    """The replies to requests, from a fresh session on."""
     session, replies = FRESH, []
     for request in requests:
         reply, session = replied(session, request, shown)
         replies.append(reply)
-    return b"".join(map(request_bytes, requests)), b"".join(replies)
+    return replies

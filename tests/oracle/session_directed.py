@@ -1,6 +1,7 @@
 """Runs of requests at the prompt for single points of F-1, F-5, F-7 and F-8, and runs at the limits of question 24.
 
-`directed_runs()` and `limit_runs()` give what each shows, and its requests. Trees are made as in directed.py.
+`directed_runs()` and `limit_runs()` give what each shows, and its requests, of the verbs that are given. Trees are made as in
+directed.py.
 """
 import random
 
@@ -8,23 +9,28 @@ from directed import (
     A, B, C, DICT, NAMES, STRING, UI_EVENT, a, array, b, block, bring, c, call, declare, do, f, g, give, host, is_a, let, lit,
     loop, m, member, method, n, nil, nil_body, p, put, q, record, static, stop, unit, use, var, when)
 from format_check import COLUMN_A, COLUMN_B, FIXED, MAX_GLOBALS, MAX_ROWS
-from session import ENTER, FRESH, NAME_TEXT, PREVIEW, WITHDRAW, Request, outcome
+from session import ENTER, FRESH, NAME_TEXT, PREVIEW, VERBS, WITHDRAW, Request, outcome
 from sheets import INIT, MAIN_UNIT, NULL, Sheet
 from tree import Node, text_of
 
 
+ORDERS = "preorder", "random", "runs"
+
+
 class Plan:
     """A request to be. An entry without a start begins at the session's global count, and `gap` above. Its list has the names
-    that its tree uses, in some order, and `more`, unless `names` says it; trees have the name numbers of directed.py."""
+    that its tree uses, in some order, and `more`, unless `names` says it, each with an ending; trees have the name numbers of
+    directed.py."""
 
     def __init__(self, verb, root=None, start=None, gap=0, lent=MAX_ROWS, more=(), names=None):
         self.verb, self.root, self.start, self.gap, self.lent, self.more, self.names = verb, root, start, gap, lent, more, names
 
-    def request(self, session, rng, order):
+    def request(self, session, rng, order, ending=b""):
         if self.root is None:
             return Request(self.verb)
         self.root.a = session.globals + self.gap if self.start is None else self.start
-        sheet = Sheet(self.root, relisted(self.root, rng, self.more, self.names), rng, order)
+        names = [name + ending for name in relisted(self.root, rng, self.more, self.names)]
+        sheet = Sheet(self.root, names, rng, order)
         return Request(self.verb, text_of(sheet.rows).encode(), sheet.names, self.lent)
 
 
@@ -32,9 +38,9 @@ class Asked:
     """A request that is the same in every session."""
 
     def __init__(self, request):
-        self.made = request
+        self.verb, self.made = request.verb, request
 
-    def request(self, session, rng, order):
+    def request(self, session, rng, order, ending=b""):
         return self.made
 
 
@@ -66,8 +72,8 @@ def preview(*stmts, **rest):
     return plan
 
 
-def units(*each, start=None):
-    return Plan(ENTER, Node(0, 0, 0, each), start)
+def units(*each, gap=0):
+    return Plan(ENTER, Node(0, 0, 0, each), gap=gap)
 
 
 def withdraw():
@@ -111,8 +117,8 @@ def what_is_seen():
         yield f"not left by {what}", [entry(stmt, var(b)), entry(do(use(a)))]
     exporting = unit(consts=[Node(8, b, 0)])
     exporting.kids.insert(0, Node(7, a, exporting.kids[-1]))
-    yield "exports declare nothing", [units(exporting, start=1), entry(do(use(a))), entry(do(use(b)))]
-    yield "assigned by name", [entry(let(a), var(b), let(f, literal()), var(g, literal()), let(c, nil(), 2), start=1)] + [
+    yield "exports declare nothing", [units(exporting, gap=1), entry(do(use(a))), entry(do(use(b)))]
+    yield "assigned by name", [entry(let(a), var(b), let(f, literal()), var(g, literal()), let(c, nil(), 2), gap=1)] + [
         entry(put(use(name), nil())) for name in (a, b, f, g, c)]
     yield "nothing earlier is captured", [
         entry(var(a), let(f, literal()), classes=[record(A)]),
@@ -243,7 +249,7 @@ def no_entries():
     itself.kids.insert(0, bring(itself))
     yield "an import of itself", [units(itself)]
     yield "a start below", [
-        entry(let(a), var(b)), entry(stop(), start=1), entry(let(c), start=2), entry(let(g), start=4), entry(start=4)]
+        entry(let(a), var(b)), entry(stop(), gap=-1), entry(let(c)), entry(let(g), gap=1), entry(gap=-1)]
     deep = nil()
     for _ in range(61):
         deep = array(deep)
@@ -272,23 +278,27 @@ def texts_of_names():
     yield "in sessions", [*asked, entry(let(b), more=[b"z2", b"z3"]), *asked, withdraw(), *asked]
 
 
-def made(plans, rng, order):
+def made(plans, rng, order, verbs):
+    """The requests of the plans that have one of these verbs, each over the session after the one before."""
     session, run = FRESH, []
-    for plan in plans:
+    for plan in (plan for plan in plans if plan.verb in verbs):
         run.append(plan.request(session, rng, order))
         if run[-1].verb != NAME_TEXT:
             session = outcome(session, run[-1])[1]
     return run
 
 
-def directed_runs():
+def directed_plans():
     groups = [what_is_seen, declared_again, numbers, classes_of_earlier_entries, counts, no_entries, previews_and_withdrawals,
               texts_of_names]
-    i = 0
     for group in groups:
         for what, plans in group():
-            i += 1
-            yield f"{group.__name__}: {what}", made(plans, random.Random(i), ("preorder", "random", "runs")[i % 3])
+            yield f"{group.__name__}: {what}", plans
+
+
+def directed_runs(verbs=VERBS):
+    for i, (what, plans) in enumerate(directed_plans(), 1):
+        yield what, made(plans, random.Random(i), ORDERS[i % 3], verbs)
 
 
 # Runs at the limits of question 24
@@ -345,6 +355,6 @@ def limits_of_session():
         entry(start=MAX_GLOBALS)]
 
 
-def limit_runs():
+def limit_runs(verbs=VERBS):
     for i, (what, plans) in enumerate(limits_of_session()):
-        yield f"limits: {what}", made(plans, random.Random(i), "preorder")
+        yield f"limits: {what}", made(plans, random.Random(i), "preorder", verbs)

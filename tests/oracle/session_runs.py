@@ -1,14 +1,14 @@
 """Random runs of requests at the prompt: entries over earlier entries, previews and withdrawals.
 
-`random_run(seed)` makes one. session.py says what the session is before each request; entries use the names that it shows,
-declare some of them again, and declare new ones. Some entries are none: they have no unit, or several, or imports, or start too
-low, or are damaged.
+`random_run(seed)` makes one, of the verbs that are given. session.py says what the session is before each request; entries use
+the names that it shows, declare some of them again, and declare new ones. Some entries are none: they have no unit, or several, or
+imports, or start too low, or are damaged.
 """
 import random
 
 from damage import WAYS, damaged, damaged_text
 from format_check import FIXED, MAX_GLOBALS, MAX_ROWS
-from session import ENTER, FRESH, PREVIEW, WITHDRAW, Request, all_names, classes, outcome, visible
+from session import ENTER, FRESH, PREVIEW, VERBS, WITHDRAW, Request, all_names, classes, outcome, visible
 from sheets import LISTED, ORDERS, Class, Decl, Generator, Sheet, Unit, add_tower, generate
 from tree import Node, text_of
 
@@ -138,20 +138,21 @@ def random_text(rng, session, words):
     return text_of(sheet.rows).encode(), sheet.names
 
 
-def random_request(rng, session, words):
+def random_request(rng, session, words, verbs):
+    """An entry where the verb is not to be had."""
     share = rng.random()
-    if share < 0.08:
+    if share < 0.08 and WITHDRAW in verbs:
         return Request(WITHDRAW)
     text, names = random_text(rng, session, words)
     lent = rng.randrange(FEW_LENT) if rng.random() < 0.06 else MAX_ROWS
-    return Request(PREVIEW if share < 0.18 else ENTER, text, names, lent)
+    return Request(PREVIEW if share < 0.18 and PREVIEW in verbs else ENTER, text, names, lent)
 
 
-def random_run(seed):
+def random_run(seed, verbs=VERBS):
     rng = random.Random(seed)
     words = rng.sample(LISTED, rng.randrange(4, 17))
     session, run = FRESH, []
     for _ in range(rng.randrange(1, MOST_REQUESTS + 1)):
-        run.append(random_request(rng, session, words))
+        run.append(random_request(rng, session, words, verbs))
         session = outcome(session, run[-1])[1]
     return run
