@@ -88,6 +88,12 @@ void plush_session_fresh(uint32_t *words, size_t session_words, uint8_t *bytes, 
 uint32_t plush_enter(uint32_t *words, size_t session_words, uint8_t *bytes, size_t session_bytes, const uint32_t *sheet, size_t sheet_words,
                      const uint8_t *names, size_t name_bytes, uint32_t *answer, size_t answer_words, uint32_t *report, size_t report_words);
 
+/* Previews an entry: what plush_enter would return, and write into answer and report. The session is only read, so that it has afterwards the words and bytes
+ * that it had before, its number of globals included. The parameters and what is returned are those of plush_enter.
+ */
+uint32_t plush_preview(const uint32_t *words, size_t session_words, const uint8_t *bytes, size_t session_bytes, const uint32_t *sheet, size_t sheet_words,
+                       const uint8_t *names, size_t name_bytes, uint32_t *answer, size_t answer_words, uint32_t *report, size_t report_words);
+
 /* Tells where the text of a name stands, without copying it.
  *
  * words, session_words   the words of a session

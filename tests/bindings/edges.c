@@ -219,19 +219,29 @@ static void check_session(const uint32_t counts[8], const char *listed, const ch
     }
 }
 
-/* Enters a sheet into the session's first words, with lent words that hold something else before and go on behind those lent. */
+/* Previews a sheet and then enters it, in the session's first words, with lent words that hold something else before and go on behind those lent: both answer
+ * alike, and the preview leaves the session as it is. */
 static void check_entry(size_t words, const uint32_t *sheet, size_t sheet_words, const char *names, size_t lent, const uint32_t line[8], const uint32_t *rows,
                         const char *what) {
-    static uint32_t answered[512];
+    static uint32_t answered[512], session_before[sizeof session / sizeof *session];
+    static uint8_t bytes_before[sizeof session_bytes];
     size_t count = 8 * line[PLUSH_REPORT_ROWS];
-    memset(answered, 0xA5, sizeof answered);
-    memset(report, 0xA5, sizeof report);
-    uint32_t question = plush_enter(session, words, session_bytes, PLUSH_SESSION_BYTES, sheet, sheet_words, (const uint8_t *)names, strlen(names), answered, lent,
-                                    report, 10);
-    check(question == line[PLUSH_REPORT_QUESTION] && memcmp(report, line, 8 * sizeof *report) == 0, what);
-    check(all(report + 8, 2, 0) && all(report + 10, 6, STALE), "zeros after the eighth word of the lent report, and as before after the last");
-    check(count == 0 || memcmp(answered, rows, count * sizeof *rows) == 0, what);
-    check(all(answered + count, lent - count, 0) && all(answered + lent, 512 - lent, STALE), "zeros after the answer rows, and as before after the last");
+    memcpy(session_before, session, sizeof session);
+    memcpy(bytes_before, session_bytes, sizeof session_bytes);
+    for (int entered = 0; entered < 2; entered++) {
+        memset(answered, 0xA5, sizeof answered);
+        memset(report, 0xA5, sizeof report);
+        uint32_t question = entered ? plush_enter(session, words, session_bytes, PLUSH_SESSION_BYTES, sheet, sheet_words, (const uint8_t *)names, strlen(names),
+                                                  answered, lent, report, 10)
+                                    : plush_preview(session, words, session_bytes, PLUSH_SESSION_BYTES, sheet, sheet_words, (const uint8_t *)names, strlen(names),
+                                                    answered, lent, report, 10);
+        check(question == line[PLUSH_REPORT_QUESTION] && memcmp(report, line, 8 * sizeof *report) == 0, what);
+        check(all(report + 8, 2, 0) && all(report + 10, 6, STALE), "zeros after the eighth word of the lent report, and as before after the last");
+        check(count == 0 || memcmp(answered, rows, count * sizeof *rows) == 0, what);
+        check(all(answered + count, lent - count, 0) && all(answered + lent, 512 - lent, STALE), "zeros after the answer rows, and as before after the last");
+        check(entered || (memcmp(session, session_before, sizeof session) == 0 && memcmp(session_bytes, bytes_before, sizeof session_bytes) == 0),
+              "a preview leaves the session as it is");
+    }
 }
 
 static void check_entries(void) {
@@ -269,6 +279,7 @@ static void check_entries(void) {
     check_entry(PLUSH_SESSION_WORDS, ENTRY_3, 80, NAMES_3, 480, no_session, NULL, "so an entry that starts at 2 is refused");
     check_session(counts_3, listed_2, "and nothing changes");
     check(plush_enter(session, 0, session_bytes, 0, ENTRY_4, 48, NAMES, 2, answer, 0, report, 0) == PLUSH_QUESTION_SESSION, "nothing lent at all");
+    check(plush_preview(session, 0, session_bytes, 0, ENTRY_4, 48, NAMES, 2, answer, 0, report, 0) == PLUSH_QUESTION_SESSION, "nor to a preview");
     check_session(counts_3, listed_2, "nothing written");
 }
 

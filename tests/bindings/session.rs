@@ -36,6 +36,11 @@ const NAMES_2: &[u8] = b"f\nA\nb\nm\nB\n";
 fn entries() {
     let mut session = Session::new();
     let mut answer = vec![7; 480];
+    // A preview answers as the entry does, and changes nothing.
+    let told = session.preview(&ENTRY_1, NAMES_1, &mut answer).expect("a preview of the first entry");
+    assert_eq!((told.words(), told.globals()), (&ANSWER_1[..], 1));
+    assert_eq!(session, Session::new());
+    answer.fill(7);
     let told = session.enter(&ENTRY_1, NAMES_1, &mut answer).expect("the first entry");
     assert_eq!((told.words(), told.globals()), (&ANSWER_1[..], 1));
     assert_eq!(session.words()[..8], [1, 1, 0, 7, 14, 3, 1, 3]);
@@ -51,6 +56,10 @@ fn entries() {
     let before = session.clone();
     let refusal = session.enter(&ENTRY_2, NAMES_2, &mut answer[..79]).expect_err("79 words for 10 rows");
     assert_eq!((refusal.question, &session), (Question::Room, &before));
+    let refusal = session.preview(&ENTRY_2, NAMES_2, &mut answer[..79]).expect_err("79 words for the preview of 10 rows");
+    assert_eq!((refusal.question, &session), (Question::Room, &before));
+    let told = session.preview(&ENTRY_2, NAMES_2, &mut answer[..80]).expect("a preview of the second entry");
+    assert_eq!((told.words(), told.globals(), &session), (&ANSWER_2[..], 2, &before));
     let told = session.enter(&ENTRY_2, NAMES_2, &mut answer[..80]).expect("the second entry");
     assert_eq!((told.words(), told.globals()), (&ANSWER_2[..], 2));
     assert_eq!(told.rows().nth(6), Some(AnswerRow { row: 9, answer: Answer::Class { class: 258 } }));

@@ -1,4 +1,4 @@
-"""The recorded requests of verbs 2 and 5 for the program crates/plush_serve, as one run over its one session.
+"""The recorded requests of verbs 2, 3 and 5 for the program crates/plush_serve, as one run over its one session.
 
 `recorded()` makes the requests, with the replies that session.py gives; serve_cases.py holds them to the Rust. First come the
 runs of session_directed.py, each with names of its own so that it finds none of them declared: those that lay over core names or
@@ -6,15 +6,17 @@ runs of session_directed.py, each with names of its own so that it finds none of
 classes and entries would take some 1 MB of requests, and compare_session.py has them. Last come the largest starts, after which
 no entry is accepted. Between these stand requests for the texts of names, bodies that are longer than any accepted, entries with
 just as many answer rows lent as there are, and entries that use every visible name. 15 needs an import, so no entry meets it.
+Before some entries of each question, and of those that are accepted, stands a preview of the same request.
 """
 import random
+from collections import Counter
 
 from directed import (
     A, B, DICT, STRING, UI_EVENT, a, array, b, block, bring, c, call, do, f, g, give, host, is_a, let, lit, m, method, nil, p,
     put, q, record, static, stop, unit, use, var)
 from format_check import FIXED, MAX_GLOBALS, MAX_ROWS, listed
 from session import (
-    ENTER, FRESH, LIMITS, NAME_TEXT, Request, all_names, declarations, listed_names, outcome, replied, request_bytes, sizes,
+    ENTER, FRESH, LIMITS, NAME_TEXT, PREVIEW, Request, all_names, declarations, listed_names, outcome, replied, request_bytes, sizes,
     visible)
 from session_directed import ORDERS, directed_plans, directed_runs, entry, literal, name_text, tree, units
 from session_program import HAS, SHOWN
@@ -22,6 +24,10 @@ from sheets import MAIN_UNIT, NULL, Sheet
 from tree import text_of
 
 MAX_NAME = 255
+# so many entries of each question are previewed first, and of the accepted ones those after them whose number this divides
+PREVIEWED = 4
+# bytes of a sheet that is previewed besides
+SHORT = 4000
 # fields of a class with many children, and how many of these an entry can have: each is told with all its fields
 WIDE, CHILDREN = 250, 8
 
@@ -269,13 +275,23 @@ def all_runs():
     return numbered + [(what, plans, numbered[1][2]) for what, plans in last] + [("texts at the end", texts_of_session(), b"")]
 
 
+def with_previews(session, request, seen):
+    """The request and, if it is an entry that is to be previewed first, the preview before it. `seen` counts entries by question."""
+    if request.verb != ENTER:
+        return [request]
+    question = outcome(session, request)[0][0][0]
+    seen[question] += 1
+    first = seen[question] <= PREVIEWED or question == 0 and seen[question] % PREVIEWED == 0 and len(request.text) < SHORT
+    return [request._replace(verb=PREVIEW), request] if first else [request]
+
+
 def recorded():
-    session, cases = FRESH, []
+    session, cases, seen = FRESH, [], Counter()
     for i, (what, plans, ending) in enumerate(all_runs()):
         rng = random.Random(i)
         for plan in plans:
             if plan.verb in HAS:
-                request = plan.request(session, rng, ORDERS[i % 3], ending)
-                reply, session = replied(session, request, SHOWN)
-                cases.append(Case(what, request, reply))
+                for request in with_previews(session, plan.request(session, rng, ORDERS[i % 3], ending), seen):
+                    reply, session = replied(session, request, SHOWN)
+                    cases.append(Case(what, request, reply))
     return cases

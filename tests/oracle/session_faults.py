@@ -1,6 +1,6 @@
-"""Faults to plant in session.py, in the form of faults.py, for the recorded requests of verbs 2 and 5.
+"""Faults to plant in session.py, in the form of faults.py, for the recorded requests of verbs 2, 3 and 5.
 
-Left out are faults in what only previews and withdrawals show, in question 23 of a session, which no request reaches, in the
+Left out are faults in what only withdrawals show, in question 23 of a session, which no request reaches, in the
 limits on declarations, classes and entries, which the recorded run does not reach, and in the kept parents of classes, which no
 reply tells.
 """
@@ -416,6 +416,40 @@ TEXT_FAULTS = [
     ("the number is told", TEXT_ROW, TEXT_ROW.replace("[0] * 7", "[0] * 4 + [request.y, 0, 0]")),
 ]
 
+PREVIEW = "return out, after if request.verb == ENTER else session"
+REFUSED_ENTRY = "out[0][0]"
+
+PREVIEW_FAULTS = [
+    ("a preview is entered", PREVIEW, "return out, after"),
+    ("a preview keeps the globals of a refusal", PREVIEW, f"return out, after if request.verb == ENTER or {REFUSED_ENTRY} else session"),
+    ("a preview keeps the global count", PREVIEW,
+     "return out, after if request.verb == ENTER else session._replace(globals=after.globals)"),
+    ("an accepted preview keeps the global count", PREVIEW,
+     "return out, after if request.verb == ENTER else session if out[0][0] else session._replace(globals=after.globals)"),
+    ("a preview keeps new names", PREVIEW,
+     "return out, after if request.verb == ENTER or out[0][0] else "
+     + kept_names("after.entries[-1].names")),
+    ("a preview keeps declarations", PREVIEW,
+     "return out, after if request.verb == ENTER or out[0][0] else " + kept("declarations=(*session.entries[-1].declarations, *after.entries[-1].declarations)")),
+    ("a preview uses a number", PREVIEW,
+     "return out, after if request.verb == ENTER or out[0][0] else session._replace(entries=(*session.entries, Entry((), (), ())))"),
+    ("an entry is previewed", PREVIEW, "return out, session"),
+    ("a preview has no rows", PREVIEW,
+     "return out if request.verb == ENTER else [[*out[0][:5], 0, *out[0][6:]]], after if request.verb == ENTER else session"),
+    ("a preview tells no globals", PREVIEW,
+     "return out if request.verb == ENTER else [[*out[0][:6], 0, 0], *out[1:]], after if request.verb == ENTER else session"),
+    ("a preview has no position", PREVIEW,
+     "return out if request.verb == ENTER else [[out[0][0], 0, 0, 0, *out[0][4:]], *out[1:]], after if request.verb == ENTER else session"),
+    ("a preview has no name", PREVIEW,
+     "return out if request.verb == ENTER else [[*out[0][:4], 0, *out[0][5:]], *out[1:]], after if request.verb == ENTER else session"),
+    ("the session after it is told of a preview", REPLY,
+     "text_of([*out, session_row(outcome(session, request._replace(verb=ENTER))[1], shown)]).encode(), after"),
+    *((f"a preview is not asked {question}", PREVIEW,
+       f"return (out, after) if request.verb == ENTER else (refused(0) if out[0][0] == {question} else out, session)")
+      for question in (*range(1, 15), *range(16, 25))),
+]
+
 SESSION = [(f"session: {what}", *changes) for what, *changes in [
-    *LAID_FAULTS, *SEEN_FAULTS, *NUMBER_FAULTS, *COUNT_FAULTS, *QUESTION_FAULTS, *REPLY_FAULTS, *TEXT_FAULTS]]
+    *LAID_FAULTS, *SEEN_FAULTS, *NUMBER_FAULTS, *COUNT_FAULTS, *QUESTION_FAULTS, *REPLY_FAULTS, *TEXT_FAULTS,
+    *PREVIEW_FAULTS]]
 

@@ -61,6 +61,20 @@ extern "C" {
         report: *mut u32,
         report_words: usize,
     ) -> u32;
+    fn plush_preview(
+        words: *const u32,
+        session_words: usize,
+        bytes: *const u8,
+        session_bytes: usize,
+        sheet: *const u32,
+        sheet_words: usize,
+        names: *const u8,
+        name_bytes: usize,
+        answer: *mut u32,
+        answer_words: usize,
+        report: *mut u32,
+        report_words: usize,
+    ) -> u32;
     fn plush_name_text(
         words: *const u32,
         session_words: usize,

@@ -1,5 +1,5 @@
 //! A session: what accepted entries at a prompt declared, in words and bytes that this crate owns.
-use crate::{plush_enter, plush_name_text, plush_session_fresh, told, Refusal, Resolved, REPORT_WORDS};
+use crate::{plush_enter, plush_name_text, plush_preview, plush_session_fresh, told, Refusal, Resolved, REPORT_WORDS};
 
 /// The words of a session.
 pub const SESSION_WORDS: usize = 51088;
@@ -63,6 +63,29 @@ impl Session {
                 self.words.as_mut_ptr(),
                 self.words.len(),
                 self.bytes.as_mut_ptr(),
+                self.bytes.len(),
+                sheet.as_ptr(),
+                sheet.len(),
+                names.as_ptr(),
+                names.len(),
+                answer.as_mut_ptr(),
+                answer.len(),
+                report.as_mut_ptr(),
+                report.len(),
+            )
+        };
+        told(report, answer)
+    }
+
+    /// What `enter` would answer, with the same rows in the lent words. The session stays as it is.
+    pub fn preview<'a>(&self, sheet: &[u32], names: &[u8], answer: &'a mut [u32]) -> Result<Resolved<'a>, Refusal> {
+        let mut report = [0; REPORT_WORDS];
+        // All pointers are those of slices that live to the end of the call; the two that are written are lent to it alone.
+        unsafe {
+            plush_preview(
+                self.words.as_ptr(),
+                self.words.len(),
+                self.bytes.as_ptr(),
                 self.bytes.len(),
                 sheet.as_ptr(),
                 sheet.len(),

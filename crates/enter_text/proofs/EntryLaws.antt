@@ -131,6 +131,13 @@ module _ (w b : List ℕ) (lent : ℕ) where
       ∙ same-names-cut (λ t. resultOf (sheetOf s) t) (idle (if not (sessionFits whole w b) then refused 23 else if not (rowsFit (sheetOf s)) then refused 1 else refused 2))
       (λ t e. names-none (sheetOf s) t e) ns
 
+  pub outcome-read : (sheet ns : List ℕ) (k : ℕ) (ws : List ℕ) → SheetRead sheet 16384 k ws
+      → enterOutcome whole w b (take (8 * k) ws) ns lent ≡ enterOutcome whole w b (sheetOf sheet) ns lent
+  outcome-read sheet ns k ws read = ap (λ (r : Result). r .outcome) (result-read sheet ns k ws read)
+
+  pub outcome-cut : (s ns : List ℕ) → enterOutcome whole w b (sheetOf (take 165889 s)) (take 32769 ns) lent ≡ enterOutcome whole w b (sheetOf s) ns lent
+  outcome-cut s ns = ap (λ (r : Result). r .outcome) (result-cut s ns)
+
   pub entered-text : (sheet ns : List ℕ) (k : ℕ) (ws : List ℕ) (x : Answer) (out w′ b′ : List ℕ) → SheetRead sheet 16384 k ws
       → Entered w b (take (8 * k) ws) ns lent x out w′ b′ → EnteredText w b sheet ns lent x out w′ b′
   entered-text sheet ns k ws x out w′ b′ read h =
@@ -203,17 +210,23 @@ module _ (lent : ℕ) (w b sheet names before : List ℕ) where
     bytes = sym (ap (λ (t : Bool). if t then bytesOf lent w b sheet names else b) e);
   })
 
-  pub lent-many : 2048 < lent → RepliedOfEntry lent w b sheet names before 0 w b before
+  pub many : 2048 < lent → isLent lent (length before) ≡ false
   unfolding isLent
-  lent-many l = not-entered (ap (λ (t : Bool). t && leb 166050 (length before)) (lt-leb lent 2048 l))
+  many l = ap (λ (t : Bool). t && leb 166050 (length before)) (lt-leb lent 2048 l)
 
-  pub lent-short : length before < 166050 → RepliedOfEntry lent w b sheet names before 0 w b before
+  pub short : length before < 166050 → isLent lent (length before) ≡ false
   unfolding isLent
-  lent-short l = not-entered (ap (λ (t : Bool). leb lent 2048 && t) (lt-leb 166050 (length before) l) ∙ never (leb lent 2048))
+  short l = ap (λ (t : Bool). leb lent 2048 && t) (lt-leb 166050 (length before) l) ∙ never (leb lent 2048)
     where
       never : (t : Bool) → (t && false) ≡ false
       never true = refl
       never false = refl
+
+  pub lent-many : 2048 < lent → RepliedOfEntry lent w b sheet names before 0 w b before
+  lent-many l = not-entered (many l)
+
+  pub lent-short : length before < 166050 → RepliedOfEntry lent w b sheet names before 0 w b before
+  lent-short l = not-entered (short l)
 
   -- it is entered, with the answer rows in m words after the first eight of `rep`
   module _ (low : lent ≤ 2048) (room : 166050 ≤ length before) (rep out w′ b′ : List ℕ) (m : ℕ) (x : Answer) (size : length rep ≡ 16392) (e : m ≡ 8 * lent)
@@ -221,7 +234,7 @@ module _ (lent : ℕ) (w b sheet names before : List ℕ) where
     abbrev o : Outcome
     o = outcomeOf lent w b sheet names
 
-    has : lends ≡ true
+    pub has : isLent lent (length before) ≡ true
     unfolding isLent
     has = ap (λ (t : Bool). t && leb 166050 (length before)) (le-leb lent 2048 low) ∙ le-leb 166050 (length before) room
 
@@ -237,7 +250,7 @@ module _ (lent : ℕ) (w b sheet names before : List ℕ) where
     there : take (8 * x .rows) (drop 8 (putMid 8 m rep out)) ≡ concatMap (λ r. r) (o .rows)
     there = rows-there o x m rep out (here .tells) (good .0) (omega arith) (here .words ∙ ap (λ (k : ℕ). buffer k o) (sym e))
 
-    told : answerText x (putMid 8 m rep out) ≡ textOf (report o)
+    pub told : answerText x (putMid 8 m rep out) ≡ textOf (report (outcomeOf lent w b sheet names))
     told = ap textOf (rows-told o x (putMid 8 m rep out) (here .tells) (good .0) (omega (arith, good .1)) there)
 
     pub entry-replied : {n : ℕ} {after : List ℕ} → Begins (answerText x (putMid 8 m rep out) ++ sessionRow w′) before n after

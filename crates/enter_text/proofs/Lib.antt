@@ -1,2 +1,2 @@
 -- Steps of the proofs.
-mod EntryLaws
+pub mod EntryLaws

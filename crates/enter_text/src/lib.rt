@@ -45,8 +45,8 @@ fn print_session(words: &[u32], text: &mut [u8])
     write_rows(&row, text);
 }
 
-// Writes the report of an answer and the row of the session after it. Returns the number of bytes.
-fn print_entry(x: Answer, words: &[u32], report: &mut [u32], text: &mut [u8]) -> usize
+// Writes the report of an answer and the row of the session after it. Returns the number of bytes. A preview is told in the same form.
+pub fn print_entry(x: Answer, words: &[u32], report: &mut [u32], text: &mut [u8]) -> usize
     requires { ⌜ (8 * (x .rows + 1) ≤ length (now report)) × (81 * (x .rows + 2) ≤ length (now text)) ⌝ }
     ensures { λ n. ⌜ Begins (answerText x (now (report .entry)) ++ sessionRow (now (words .entry))) (now (text .entry)) n (now (text .exit)) ⌝ }
 {

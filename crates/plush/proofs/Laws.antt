@@ -22,10 +22,12 @@ use Rattle.session.specs.Session.{outsideOf}
 use Rattle.session.specs.Entry.{entrySheet}
 use Rattle.session.specs.Words.{whole, nameText, sessionIn, enterOutcome}
 use Rattle.prompt.specs.Entered.{Entered}
+use Rattle.preview.specs.Previewed.{Previewed}
 use Rattle.name_place.specs.declared.Place.{Place}
 use Rattle.name_place.specs.Place.{bytesBefore, nowhere, placeOf, textAt, NamePlaced}
 use Rattle.plush.specs.Resolved.{Resolved}
 use Rattle.plush.specs.SessionEntered.{SessionEntered}
+use Rattle.plush.specs.SessionPreviewed.{SessionPreviewed}
 use Rattle.plush.specs.Found.{NameFound}
 use Rattle.plush.specs.Named.{placeWords, NameTold}
 
@@ -55,6 +57,18 @@ session-entered w n s ns lent room x out line r w′ n′ a e f = record {
   bytes = a .bytes;
   fits = a .fits;
   held = a .held;
+  closures =
+      λ z.
+      subst (λ (k : ℕ). Demand3 (outsideOf (sessionIn whole w n)) (entrySheet (sessionIn whole w n) ns s) (rowsOfWords k out)) (a .tells .rows) (a .closures z);
+}
+
+-- what `preview` answers, with its line in the report words
+pub session-previewed : (w n : List ℕ) (s : Sheet) (ns : List ℕ) (lent room : ℕ) (x : Answer) (out line r : List ℕ)
+    → Previewed w n s ns lent x out → line ≡ toldBy x → r ≡ fitted room line → SessionPreviewed w n s ns lent room (x .number) out r
+session-previewed w n s ns lent room x out line r a e f = record {
+  number = a .tells .number;
+  words = a .words;
+  report = f ∙ ap (fitted room) (e ∙ told-line (enterOutcome whole w n s ns lent) x (a .tells));
   closures =
       λ z.
       subst (λ (k : ℕ). Demand3 (outsideOf (sessionIn whole w n)) (entrySheet (sessionIn whole w n) ns s) (rowsOfWords k out)) (a .tells .rows) (a .closures z);

@@ -8,11 +8,13 @@ ghost use Rattle.plush.specs.Found.{NameFound};
 ghost use Rattle.plush.specs.Named.{NameTold};
 ghost use Rattle.plush.specs.Resolved.{Resolved};
 ghost use Rattle.plush.specs.SessionEntered.{SessionEntered};
+ghost use Rattle.plush.specs.SessionPreviewed.{SessionPreviewed};
 use columns::from_columns;
 use columns::to_columns;
 use fresh_session::fresh;
 use name_index::find_name;
 use name_place::name_place;
+use preview::preview;
 use prompt::enter;
 use report::first_line;
 use report::write_fitted;
@@ -87,6 +89,25 @@ pub extern "C" fn plush_enter(
         (length (now (report .entry))) n (now (out .exit)) (now (report .exit)) (now (words .exit)) (now (bytes .exit)) ⌝ }
 {
     let x = enter(words, bytes, sheet, names, out);
+    let line = first_line(x);
+    write_fitted(&line, report);
+    x.number
+}
+
+// What `plush_enter` would return and write into the lent answer and report words. The session is only read.
+#[no_mangle]
+pub extern "C" fn plush_preview(
+    words: &[u32],
+    bytes: &[u8],
+    sheet: &[u32],
+    names: &[u8],
+    out: &mut [u32],
+    report: &mut [u32],
+) -> u32
+    ensures { λ n. ⌜ SessionPreviewed (now (words .entry)) (now (bytes .entry)) (now (sheet .entry)) (now (names .entry)) (length (now (out .entry)))
+        (length (now (report .entry))) n (now (out .exit)) (now (report .exit)) ⌝ }
+{
+    let x = preview(words, bytes, sheet, names, out);
     let line = first_line(x);
     write_fitted(&line, report);
     x.number

@@ -14,6 +14,7 @@ use input::read_body;
 use libc::STDIN_FILENO;
 use libc::STDOUT_FILENO;
 use name_reply::name_lent;
+use preview_text::preview_lent;
 use request::Request;
 use request::broken;
 use request::read_request;
@@ -51,6 +52,19 @@ fn reply_entered(
     text: &mut [u8],
 ) -> bool {
     let n = enter_lent(words, bytes, sheet, names, lent, text);
+    write(&text[..n])
+}
+
+// The reply of a sheet's text and its names as if they were entered: the session is only read.
+fn reply_previewed(
+    words: &[u32],
+    bytes: &[u8],
+    sheet: &[u8],
+    names: &[u8],
+    lent: usize,
+    text: &mut [u8],
+) -> bool {
+    let n = preview_lent(words, bytes, sheet, names, lent, text);
     write(&text[..n])
 }
 
@@ -108,6 +122,7 @@ fn reply(
     match verb {
         verb::RESOLVE => reply_resolved(sheet, names, x as usize, text),
         verb::ENTER => reply_entered(words, bytes, sheet, names, x as usize, text),
+        verb::PREVIEW => reply_previewed(words, bytes, sheet, names, x as usize, text),
         verb::NAME_TEXT => reply_name(words, bytes, names, x, request.y, text),
         verb::TO_COLUMNS => reply_columns(sheet, false, x as usize, text),
         verb::FROM_COLUMNS => reply_columns(sheet, true, x as usize, text),

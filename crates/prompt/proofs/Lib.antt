@@ -1,2 +1,1 @@
 mod EnteredLaws
-mod TellLaws

@@ -4,6 +4,9 @@ pub const RESOLVE: u32 = 1;
 // An entry into the program's session.
 pub const ENTER: u32 = 2;
 
+// The same without entering it.
+pub const PREVIEW: u32 = 3;
+
 // The text of a name, by its number.
 pub const NAME_TEXT: u32 = 5;
 

@@ -1,22 +1,16 @@
--- `prompt::enter` meets its contract. Assumes nothing.
 use mathlib.Core.Path.{sym}
-use mathlib.Core.Logic.{inr}
 use native.Mathlib.Omega.{arith}
 use lib.Seq.{length-take-le}
-use Rattle.session_names.proofs.NameLaws.{listing-some, listing-none}
-use Rattle.prompt.proofs.EnteredLaws.{entered-no, unfit}
+use Rattle.prompt.proofs.EnteredLaws.{entered-no}
 use borrow.Author.Needs.{needs}
 use Rattle.prompt.proofs.enter.Statement.{statement}
 use Rattle.prompt.proofs.enter.Tie as tie
 
-slice-aggregate-check-session : tie.Need-slice-aggregate-check-session
-slice-aggregate-check-session c = search needs
+slice-aggregate-prepare : tie.Need-slice-aggregate-prepare
+slice-aggregate-prepare c = search needs
 
-slice-aggregate-check-session-2 : tie.Need-slice-aggregate-check-session-2
-slice-aggregate-check-session-2 c = search needs
-
-check-session-requires : tie.Need-check-session-requires
-check-session-requires c κs = search needs
+prepare-requires : tie.Need-prepare-requires
+prepare-requires c κs = search needs
 
 refuse-requires : tie.Need-refuse-requires
 refuse-requires c κs = search needs
@@ -32,37 +26,36 @@ same-length-3 c = search needs
 
 returns : tie.Need-returns
 returns c =
-    let refuse = c .before .before .refuse in
+    let at-refuse = c .before .before in
+    let refuse = at-refuse .refuse in
+    let at-if1 = at-refuse .before .before in
+    let if1 = at-if1 .if1 in
+    let at-prepare = at-if1 .before .before .before in
+    let prepare = at-prepare .prepare in
+    let start = at-prepare .before .before .before .before .before .before .before .before .before in
+    entered-no (start .args .words .now) (start .args .bytes .now) (start .args .sheet .now) (start .args .names .now) _
+    (prepare .ensures .no) (if1 .taken) (refuse .ensures .0) (refuse .ensures .1)
+
+array-share-prefix-numbers : tie.Need-array-share-prefix-numbers
+array-share-prefix-numbers c =
+    let at-if1 = c .before .before in
+    let if1 = at-if1 .if1 in
+    let prepare = at-if1 .before .before .before .prepare in
+    omega (arith, prepare .kept .1 .1 .1 .1 .0, prepare .ensures .few (if1 .left))
+
+slice-aggregate-enter-told : tie.Need-slice-aggregate-enter-told
+slice-aggregate-enter-told c =
+    let at-if1 = c .before .before .before in
+    let if1 = at-if1 .if1 in
+    let prepare = at-if1 .before .before .before .prepare in
+    sym (length-take-le (prepare .result .names) (prepare .last .1 .1 .1 .1 .0) (omega (arith, prepare .kept .1 .1 .1 .1 .0, prepare .ensures .few (if1 .left))))
+
+enter-told-requires : tie.Need-enter-told-requires
+enter-told-requires c κs =
     let at-if1 = c .before .before .before .before in
     let if1 = at-if1 .if1 in
-    let at-check-session = at-if1 .before .before .before in
-    let check-session = at-check-session .check-session in
-    let start = at-check-session .before .before .before .before .before .before .before .before .before .before in
-    let w = start .args .words .now in
-    let n = start .args .bytes .now in
-    let s = start .args .sheet .now in
-    let ns = start .args .names .now in
-    entered-no w n s ns _ 23 (omega arith) (inr (omega arith))
-    (unfit w n s ns _ (listing-none (check-session .ensures) (if1 .taken))) (refuse .ensures .0) (refuse .ensures .1)
-
-array-share-prefix-table : tie.Need-array-share-prefix-table
-array-share-prefix-table c = search needs
-
-slice-aggregate-enter-checked : tie.Need-slice-aggregate-enter-checked
-slice-aggregate-enter-checked c =
-    let check-session = c .before .before .before .before .before .before .check-session in
-    sym (length-take-le (check-session .result) (check-session .last .1 .1 .0) (omega (arith, check-session .ensures .few, check-session .kept .1 .1 .0)))
-
-slice-aggregate-enter-checked-2 : tie.Need-slice-aggregate-enter-checked-2
-slice-aggregate-enter-checked-2 c = search needs
-
-enter-checked-requires : tie.Need-enter-checked-requires
-enter-checked-requires c κs =
-    let at-if1 = c .before .before .before .before .before in
-    let if1 = at-if1 .if1 in
-    let check-session = at-if1 .before .before .before .check-session in
-    let fit = listing-some (check-session .ensures) (if1 .left) in
-    (fit, check-session .ensures .started fit, check-session .ensures .held fit)
+    let prepare = at-if1 .before .before .before .prepare in
+    (prepare .ensures .told (if1 .left), prepare .ensures .first (if1 .left))
 
 same-length-4 : tie.Need-same-length-4
 same-length-4 c = search needs
@@ -80,18 +73,16 @@ pub enter-spec : {M : Type 1} → statement M
 enter-spec =
     tie.close
     (tie.spec
-    slice-aggregate-check-session
-    slice-aggregate-check-session-2
-    check-session-requires
+    slice-aggregate-prepare
+    prepare-requires
     refuse-requires
     same-length
     same-length-2
     same-length-3
     returns
-    array-share-prefix-table
-    slice-aggregate-enter-checked
-    slice-aggregate-enter-checked-2
-    enter-checked-requires
+    array-share-prefix-numbers
+    slice-aggregate-enter-told
+    enter-told-requires
     same-length-4
     same-length-5
     same-length-6

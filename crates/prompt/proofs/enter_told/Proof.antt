@@ -1,8 +1,7 @@
--- `prompt::enter_told` meets its contract. Assumes nothing.
 use mathlib.Core.Path.{refl, _∙_}
 use native.Mathlib.Omega.{arith}
+use Rattle.prepare_entry.proofs.ToldLaws.{all-apart, list-inside, first-few, names-good, new-few, numbers-few, last-is}
 use Rattle.session.specs.Words.{whole, sessionIn}
-use Rattle.prompt.proofs.TellLaws.{all-apart, list-inside, starts-few, first-is, names-good, new-few, numbers-few, last-is}
 use Rattle.prompt.proofs.EnteredLaws.{entered-yes, entered-on}
 use borrow.Author.Needs.{needs}
 use Rattle.prompt.proofs.enter_told.Statement.{statement}
@@ -20,33 +19,22 @@ add-at c = search needs
 enter-sheet-requires : tie.Need-enter-sheet-requires
 enter-sheet-requires c κs = search needs
 
-add-first : tie.Need-add-first
-add-first c =
-    let start = c .before .before .before .before .before .before .before .before .before .before .before .before .before .before .before in
-    let w = start .args .words .now in
-    let n = start .args .bytes .now in
-    omega (arith, starts-few w n (start .pre .0 .fits) (start .pre .1))
-
 sub-entry-number : tie.Need-sub-entry-number
 sub-entry-number c = search needs
 
-add-entry-number : tie.Need-add-entry-number
-add-entry-number c =
-    let start = c .before .before .before .before .before .before .before .before .before .before .before .before .before .before .before in
-    let w = start .args .words .now in
-    let n = start .args .bytes .now in
-    omega (arith, starts-few w n (start .pre .0 .fits) (start .pre .1), new-few (start .pre .0))
-
 cast-entry-number : tie.Need-cast-entry-number
 cast-entry-number c =
-    let start = c .before .before .before .before .before .before .before .before .before .before .before .before .before .before .before in
-    let w = start .args .words .now in
-    let n = start .args .bytes .now in
-    omega (arith, starts-few w n (start .pre .0 .fits) (start .pre .1), new-few (start .pre .0))
+    let start = c .before .before .before .before .before .before .before .before .before .before .before .before .before .before .before .before .before in
+    omega (arith, new-few (start .pre .0))
+
+add-entry-number : tie.Need-add-entry-number
+add-entry-number c =
+    let start = c .before .before .before .before .before .before .before .before .before .before .before .before .before .before .before .before .before in
+    omega (arith, first-few (start .args .words .now) (start .args .bytes .now) (start .pre .0 .fits) (start .pre .1), new-few (start .pre .0))
 
 entry-number-requires : tie.Need-entry-number-requires
 entry-number-requires c κs =
-    let start = c .before .before .before .before .before .before .before .before .before .before .before .before .before .before .before in
+    let start = c .before .before .before .before .before .before .before .before .before .before .before .before .before .before .before .before .before in
     numbers-few (start .pre .0)
 
 same-length : tie.Need-same-length
@@ -58,36 +46,26 @@ same-length-2 c = search needs
 returns : tie.Need-returns
 returns c =
     let if1 = c .if1 in
-    let entry-number = c .before .before .entry-number in
-    let at-enter-sheet = c .before .before .before .before .before .before .before in
+    let at-entry-number = c .before .before in
+    let entry-number = at-entry-number .entry-number in
+    let at-enter-sheet = at-entry-number .before .before .before .before .before .before .before in
     let enter-sheet = at-enter-sheet .enter-sheet in
     let start = at-enter-sheet .before .before .before .before .before .before .before .before .before .before .before in
     let w = start .args .words .now in
     let n = start .args .bytes .now in
     let s = start .args .sheet .now in
     let ns = start .args .names .now in
-    entered-on w n s ns _ (start .pre .0 .fits) (start .pre .0 .none)
-    (enter-sheet .ensures n ns (start .pre .0)) refl
+    entered-on w n s ns _ (start .pre .0 .fits) (start .pre .0 .none) (enter-sheet .ensures n ns (start .pre .0)) refl
     (entry-number .ensures (sessionIn whole w n) ns (all-apart w n (start .pre .0 .fits)) (names-good (start .pre .0)) (start .pre .0 .told)
     (last-is (start .pre .0) (start .pre .1)))
     (if1 .taken)
 
-cast-append-names : tie.Need-cast-append-names
-cast-append-names c =
-    let start = c .before .before .before .before .before .before .before .before .before .before .before .before .before .before
-    .before .before .before .before in
-    let w = start .args .words .now in
-    let n = start .args .bytes .now in
-    omega (arith, starts-few w n (start .pre .0 .fits) (start .pre .1))
-
 append-names-requires : tie.Need-append-names-requires
 append-names-requires c κs =
-    let at-word-at = c .before .before .before .before .before .before .before .before .before .before .before in
+    let at-word-at = c .before .before .before .before .before .before .before .before .before .before .before .before .before in
     let word-at = at-word-at .word-at in
     let start = at-word-at .before .before .before .before .before .before .before .before in
-    let w = start .args .words .now in
-    let n = start .args .bytes .now in
-    (names-good (start .pre .0), omega (arith, word-at .ensures, list-inside w n (start .pre .0 .fits)))
+    (names-good (start .pre .0), omega (arith, word-at .ensures, list-inside (start .args .words .now) (start .args .bytes .now) (start .pre .0 .fits)))
 
 same-length-3 : tie.Need-same-length-3
 same-length-3 c = search needs
@@ -100,12 +78,13 @@ same-length-5 c = search needs
 
 returns-2 : tie.Need-returns-2
 returns-2 c =
-    let append-names = c .before .before .append-names in
-    let at-if1 = c .before .before .before .before in
+    let at-append-names = c .before .before in
+    let append-names = at-append-names .append-names in
+    let at-if1 = at-append-names .before .before in
     let if1 = at-if1 .if1 in
     let at-entry-number = at-if1 .before .before in
     let entry-number = at-entry-number .entry-number in
-    let at-enter-sheet = at-entry-number .before .before .before .before .before in
+    let at-enter-sheet = at-entry-number .before .before .before .before .before .before .before in
     let enter-sheet = at-enter-sheet .enter-sheet in
     let at-word-at = at-enter-sheet .before .before .before in
     let word-at = at-word-at .word-at in
@@ -114,12 +93,10 @@ returns-2 c =
     let n = start .args .bytes .now in
     let s = start .args .sheet .now in
     let ns = start .args .names .now in
-    entered-yes w n s ns _ (start .pre .0 .fits) (start .pre .0 .none)
-    (enter-sheet .ensures n ns (start .pre .0)) refl
+    entered-yes w n s ns _ (start .pre .0 .fits) (start .pre .0 .none) (enter-sheet .ensures n ns (start .pre .0)) refl
     (entry-number .ensures (sessionIn whole w n) ns (all-apart w n (start .pre .0 .fits)) (names-good (start .pre .0)) (start .pre .0 .told)
     (last-is (start .pre .0) (start .pre .1)))
-    (if1 .left)
-    (append-names .ensures (sessionIn whole w n) (start .pre .0 .told) (first-is w n (start .pre .0 .fits) (start .pre .1)) ∙ rw (word-at .ensures))
+    (if1 .left) (append-names .ensures (sessionIn whole w n) (start .pre .0 .told) (start .pre .1) ∙ rw (word-at .ensures))
 
 pub enter-told-spec : {M : Type 1} → statement M
 enter-told-spec =
@@ -129,15 +106,13 @@ enter-told-spec =
     cast-at
     add-at
     enter-sheet-requires
-    add-first
     sub-entry-number
-    add-entry-number
     cast-entry-number
+    add-entry-number
     entry-number-requires
     same-length
     same-length-2
     returns
-    cast-append-names
     append-names-requires
     same-length-3
     same-length-4
