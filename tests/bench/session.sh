@@ -1,6 +1,6 @@
 #!/bin/sh
 # session.sh PLUSH OUT [COUNT [ROUNDS]]
-# Times entries into sessions, by the Rattle crates and by the Rust, on the runs of make_session_cases.py. PLUSH holds src/symbols.rs; all is
+# Times entries into sessions and previews of them, by the Rattle crates, and the entries by the Rust, on the runs of make_session_cases.py. PLUSH holds src/symbols.rs; all is
 # built in OUT. COUNT runs of each measurement in a round (200), ROUNDS rounds in turn (5). Prints tables of times and ratios, then the stack
 # that an entry needs.
 set -e
@@ -19,10 +19,11 @@ mkdir -p "$bench/src" "$bench/proofs/bench_outside"
 # the libraries, and one more that exports what is timed
 cp -R "$top"/crates/* "$out/repository/crates/"
 grep -v -E '^(question_tests|columns_tests|plush_resolve|plush_serve):' "$top/crates.txt" > "$out/repository/crates.txt"
-echo 'session_bench: definition answer session fresh_session session_names session_check session_outside prompt' >> "$out/repository/crates.txt"
+echo 'session_bench: definition answer session fresh_session session_names session_check session_outside prompt preview' >> "$out/repository/crates.txt"
 (cd "$out/repository/crates" && rm -rf question_tests columns_tests plush_resolve plush_serve)
 cat > "$bench/src/lib.rt" <<'END_OF_CRATE'
 use fresh_session::fresh;
+use preview::preview;
 use prompt::enter;
 use session_check::check_session;
 use session_outside::outside_size;
@@ -36,6 +37,12 @@ pub extern "C" fn bench_fresh(words: &mut [u32], bytes: &mut [u8]) {
 #[no_mangle]
 pub extern "C" fn bench_enter(words: &mut [u32], bytes: &mut [u8], sheet: &[u32], names: &[u8], out: &mut [u32]) -> u32 {
     let answer = enter(words, bytes, sheet, names, out);
+    answer.number
+}
+
+#[no_mangle]
+pub extern "C" fn bench_preview(words: &[u32], bytes: &[u8], sheet: &[u32], names: &[u8], out: &mut [u32]) -> u32 {
+    let answer = preview(words, bytes, sheet, names, out);
     answer.number
 }
 

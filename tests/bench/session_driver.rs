@@ -1,7 +1,7 @@
-//! session_driver COUNT FILE: goes through runs of entries of make_session_cases.py and times those to be timed: `enter`, question 23 alone, the writing of
-//! the outside alone. Prints a line for each measurement: the request, what it is, the median and the least time in nanoseconds.
+//! session_driver COUNT FILE: goes through runs of entries of make_session_cases.py and times those to be timed: `enter`, `preview`, question 23 alone, the
+//! writing of the outside alone. `enter` and `preview` are timed in turn. Prints a line for each measurement: the request, what it is, the median and the least time in nanoseconds.
 //! session_driver --sessions FILE: prints the eight counts of the session that each is entered into, and the question that refuses it.
-//! session_driver --stack BYTES ID FILE: enters the one of that identifier once, in a thread with a stack of that size.
+//! session_driver --stack BYTES ID FILE: previews the one of that identifier and enters it, once, in a thread with a stack of that size.
 use std::hint::black_box;
 use std::time::Instant;
 
@@ -10,6 +10,8 @@ extern "C" {
     fn bench_fresh(words: *mut u32, word_count: usize, bytes: *mut u8, byte_count: usize);
     fn bench_enter(words: *mut u32, word_count: usize, bytes: *mut u8, byte_count: usize, sheet: *const u32, sheet_words: usize,
                    names: *const u8, name_bytes: usize, out: *mut u32, out_words: usize) -> u32;
+    fn bench_preview(words: *const u32, word_count: usize, bytes: *const u8, byte_count: usize, sheet: *const u32, sheet_words: usize,
+                     names: *const u8, name_bytes: usize, out: *mut u32, out_words: usize) -> u32;
     fn bench_check(words: *const u32, word_count: usize, bytes: *const u8, byte_count: usize) -> usize;
     fn bench_outside(words: *const u32, word_count: usize, bytes: *const u8, byte_count: usize, out: *mut u32, out_words: usize) -> usize;
 }
@@ -39,6 +41,13 @@ impl Session {
         let (words, word_count, bytes, byte_count) = (words.as_mut_ptr(), words.len(), bytes.as_mut_ptr(), bytes.len());
         let (sheet, sheet_words, names, name_bytes) = (sheet.as_ptr(), sheet.len(), names.as_ptr(), names.len());
         unsafe { bench_enter(words, word_count, bytes, byte_count, sheet, sheet_words, names, name_bytes, out.as_mut_ptr(), out.len()) }
+    }
+
+    fn preview(&self, entry: &Entry, out: &mut [u32]) -> u32 {
+        let (Session { words, bytes }, Entry { sheet, names }) = (self, entry);
+        let (words, word_count, bytes, byte_count) = (words.as_ptr(), words.len(), bytes.as_ptr(), bytes.len());
+        let (sheet, sheet_words, names, name_bytes) = (sheet.as_ptr(), sheet.len(), names.as_ptr(), names.len());
+        unsafe { bench_preview(words, word_count, bytes, byte_count, sheet, sheet_words, names, name_bytes, out.as_mut_ptr(), out.len()) }
     }
 
     fn check(&self) -> usize {
@@ -88,24 +97,36 @@ fn each_timed(path: &str, mut timed: impl FnMut(&str, &Session, &Entry)) {
     }
 }
 
+fn timed<T>(times: &mut Vec<u64>, (start, answer): (Instant, T)) {
+    times.push(start.elapsed().as_nanos() as u64);
+    black_box(answer);
+}
+
+fn print(what: &str, mut times: Vec<u64>) {
+    times.sort();
+    println!("{what} {} {}", times[times.len() / 2], times[0]);
+}
+
 fn time<T>(what: &str, count: usize, mut once: impl FnMut() -> (Instant, T)) {
     let mut times = Vec::with_capacity(count);
     for _ in 0..count {
-        let (start, answer) = once();
-        times.push(start.elapsed().as_nanos() as u64);
-        black_box(answer);
+        timed(&mut times, once());
     }
-    times.sort();
-    println!("{what} {} {}", times[count / 2], times[0]);
+    print(what, times);
 }
 
 fn time_all(count: usize, id: &str, before: &Session, entry: &Entry) {
     let mut session = before.clone();
     let (mut out, mut outside) = (vec![0; ANSWER_WORDS], vec![0; OUTSIDE_WORDS]);
-    time(&format!("{id} enter"), count, || {
+    let (mut entered, mut previewed) = (Vec::with_capacity(count), Vec::with_capacity(count));
+    for _ in 0..count {
         session.copy_from(before);
-        (Instant::now(), black_box(&mut session).enter(black_box(entry), &mut out))
-    });
+        timed(&mut previewed, (Instant::now(), black_box(&session).preview(black_box(entry), &mut out)));
+        session.copy_from(before);
+        timed(&mut entered, (Instant::now(), black_box(&mut session).enter(black_box(entry), &mut out)));
+    }
+    print(&format!("{id} enter"), entered);
+    print(&format!("{id} preview"), previewed);
     session.copy_from(before);
     time(&format!("{id} check"), count, || (Instant::now(), black_box(&session).check()));
     time(&format!("{id} outside"), count, || (Instant::now(), black_box(&session).outside(&mut outside)));
@@ -120,7 +141,7 @@ fn run_in_stack(size: usize, before: &Session, entry: &Entry) {
     let (mut session, mut out) = (before.clone(), vec![0; ANSWER_WORDS]);
     std::thread::scope(|scope| {
         let thread = std::thread::Builder::new().stack_size(size);
-        let run = thread.spawn_scoped(scope, || session.enter(entry, &mut out)).unwrap();
+        let run = thread.spawn_scoped(scope, || session.preview(entry, &mut out) + session.enter(entry, &mut out)).unwrap();
         run.join().unwrap();
     });
 }

@@ -33,14 +33,15 @@ def halves(times, part):
 def main():
     times = times_of(sys.argv[1])
     print("| session | entries | rows | `enter` | Rust, words to words | part | `resolve_repl_unit` alone | question 23 |"
-          " outside | rest |")
-    print("|---|---|---|---|---|---|---|---|---|---|")
+          " outside | rest | `preview` | part of `enter` |")
+    print("|---|---|---|---|---|---|---|---|---|---|---|---|")
     for entry, found in times.items():
         if "rust_words" not in found:
             continue
         rust, alone = found["rust_words"], found["rust_resolve_repl_unit:"]
         whole, rust_whole, rust_alone, *parts = (f"{time / 1000:.1f}" for time in (found["enter"], rust, alone, *ours(found)[1:]))
-        cells = [*entry.rsplit("_", 2), whole, rust_whole, f"{found['enter'] / rust:.2f}", rust_alone, *parts]
+        cells = [*entry.rsplit("_", 2), whole, rust_whole, f"{found['enter'] / rust:.2f}", rust_alone, *parts,
+                 f"{found['preview'] / 1000:.1f}", f"{found['preview'] / found['enter']:.3f}"]
         print(f"| {' | '.join(cells)} |")
     print()
     print("| one more of these, in ns | `enter` | question 23 | outside | rest |")

@@ -23,7 +23,7 @@ BATCH = 1000
 SIZES = [5, 10, 15, 25, 25, 40, 60, 100, 400]
 DAMAGED = 0.1
 LINE = 81
-STACK = 2048  # KiB
+STACK = 3072  # KiB, as docs/FORMAT.md 8 says for plush_serve
 RESOLVE = 1  # the verb
 
 
