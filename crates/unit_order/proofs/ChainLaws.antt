@@ -52,16 +52,16 @@ module _ (imports : ℕ → List ℕ) where
   longer (w ∷ ws) u x v e m h =
       ⊎-elim
       (λ (p : x ≡ w).
-        or-right (leads imports ws u v) (leads imports ws u w && leads imports ws w v)
-        (and-both (leads imports ws u w) (leads imports ws w v) (import-leads ws u w (subst (λ (y : ℕ). T (y ∈? imports u)) p e))
-        (leads-from w ws v (subst (λ (y : ℕ). T (leads imports (w ∷ ws) y v)) p h))))
+      or-right (leads imports ws u v) (leads imports ws u w && leads imports ws w v)
+      (and-both (leads imports ws u w) (leads imports ws w v) (import-leads ws u w (subst (λ (y : ℕ). T (y ∈? imports u)) p e))
+      (leads-from w ws v (subst (λ (y : ℕ). T (leads imports (w ∷ ws) y v)) p h))))
       (λ k.
-        ⊎-elim (λ b. or-left (leads imports ws u v) (leads imports ws u w && leads imports ws w v) (longer ws u x v e k b))
-        (λ b.
-          let q = T-and (leads imports ws x w) (leads imports ws w v) b in
-          or-right (leads imports ws u v) (leads imports ws u w && leads imports ws w v)
-          (and-both (leads imports ws u w) (leads imports ws w v) (longer ws u x w e k (q .0)) (q .1)))
-        (or-cases (leads imports ws x v) (leads imports ws x w && leads imports ws w v) h))
+      ⊎-elim (λ b. or-left (leads imports ws u v) (leads imports ws u w && leads imports ws w v) (longer ws u x v e k b))
+      (λ b.
+      let q = T-and (leads imports ws x w) (leads imports ws w v) b in
+      or-right (leads imports ws u v) (leads imports ws u w && leads imports ws w v)
+      (and-both (leads imports ws u w) (leads imports ws w v) (longer ws u x w e k (q .0)) (q .1)))
+      (or-cases (leads imports ws x v) (leads imports ws x w && leads imports ws w v) h))
       (in-cases x w ws m)
 
   -- and it finds every chain from a unit of a closed list
@@ -82,6 +82,6 @@ module _ (imports : ℕ → List ℕ) where
       let q = step r (in-head r r rs refl) in
       ⊎-elim (λ (e : q .0 ≡ r). (r, in-head r r rs refl, subst (Chain imports r) e (q .2)))
       (λ k.
-        let found = comes-back rs (q .0) k (around r rs (q .0) k (q .2) step) in
-        (found .0, in-tail (found .0) r rs (found .1), found .2))
+      let found = comes-back rs (q .0) k (around r rs (q .0) k (q .2) step) in
+      (found .0, in-tail (found .0) r rs (found .1), found .2))
       (in-cases (q .0) r rs (q .1))

@@ -18,26 +18,26 @@ bit-last : (x y : ℕ) (xs : List ℕ) → (T (y ∈? xs) → ⊥) → bit (x �
 bit-last x y xs new =
     ⊎-elim
     (λ m.
-      let apart : T (eqb x y) → ⊥ = λ h. new (subst (λ (z : ℕ). T (z ∈? xs)) (eqb→eq x y h) m) in
-      omega (arith, ap bit (true-of (x ∈? (xs ++ y ∷ [])) (in-before x y xs m)), ap bit (true-of (x ∈? xs) m), bit-not (eqb x y) apart))
+    let apart : T (eqb x y) → ⊥ = λ h. new (subst (λ (z : ℕ). T (z ∈? xs)) (eqb→eq x y h) m) in
+    omega (arith, ap bit (true-of (x ∈? (xs ++ y ∷ [])) (in-before x y xs m)), ap bit (true-of (x ∈? xs) m), bit-not (eqb x y) apart))
     (λ f.
-      ⊎-elim
-      (λ h.
-        omega (
-          arith,
-          ap bit (true-of (x ∈? (xs ++ y ∷ [])) (in-last x y xs (eqb→eq x y h))),
-          bit-not (x ∈? xs) (T-not (x ∈? xs) f),
-          ap bit (true-of (eqb x y) h),
-        ))
-      (λ g.
-        let apart : x ≡ y → ⊥ = λ e. T-not (eqb x y) g (eqb-of x y e) in
-        omega (
-          arith,
-          bit-not (x ∈? (xs ++ y ∷ [])) (λ m. ⊎-elim (T-not (x ∈? xs) f) apart (in-either x y xs m)),
-          bit-not (x ∈? xs) (T-not (x ∈? xs) f),
-          bit-not (eqb x y) (T-not (eqb x y) g),
-        ))
-      (decide (eqb x y)))
+    ⊎-elim
+    (λ h.
+    omega (
+      arith,
+      ap bit (true-of (x ∈? (xs ++ y ∷ [])) (in-last x y xs (eqb→eq x y h))),
+      bit-not (x ∈? xs) (T-not (x ∈? xs) f),
+      ap bit (true-of (eqb x y) h),
+    ))
+    (λ g.
+    let apart : x ≡ y → ⊥ = λ e. T-not (eqb x y) g (eqb-of x y e) in
+    omega (
+      arith,
+      bit-not (x ∈? (xs ++ y ∷ [])) (λ m. ⊎-elim (T-not (x ∈? xs) f) apart (in-either x y xs m)),
+      bit-not (x ∈? xs) (T-not (x ∈? xs) f),
+      bit-not (eqb x y) (T-not (eqb x y) g),
+    ))
+    (decide (eqb x y)))
     (decide (x ∈? xs))
 
 module _ (imports : ℕ → List ℕ) (us : List ℕ) where
@@ -105,20 +105,24 @@ module _ (imports : ℕ → List ℕ) (us : List ℕ) where
     goes-on : (n : ℕ) → ((u : ℕ) → T (u ∈? us) → T (u ∈? startedAfter imports us n)) → (j i : ℕ) → j + i ≡ n
         → (xs : List ℕ) × OrderFrom imports us (startedAfter imports us i) xs × (startedAfter imports us i ++ xs ≡ startedAfter imports us n)
     goes-on n whole zero i e =
-        let same : n ≡ i = omega arith in
-        ([], ends (subst (λ (k : ℕ). (u : ℕ) → T (u ∈? us) → T (u ∈? startedAfter imports us k)) same whole),
-        append-nil (startedAfter imports us i) ∙ ap (startedAfter imports us) (sym same))
+        let same : n ≡ i = omega arith in (
+          [],
+          ends (subst (λ (k : ℕ). (u : ℕ) → T (u ∈? us) → T (u ∈? startedAfter imports us k)) same whole),
+          append-nil (startedAfter imports us i) ∙ ap (startedAfter imports us) (sym same),
+        )
     goes-on n whole (suc j) i e =
         let started = startedAfter imports us i in
         let later = goes-on n whole j (suc i) (omega arith) in
         ⊎-elim
         (λ r.
-          let same = stuck-same imports us rise i (r .1) in
-          (later .0, subst (λ (x : List ℕ). OrderFrom imports us x (later .0)) same (later .1), ap (λ (x : List ℕ). x ++ later .0) (sym same) ∙ later .2))
+        let same = stuck-same imports us rise i (r .1) in
+        (later .0, subst (λ (x : List ℕ). OrderFrom imports us x (later .0)) same (later .1), ap (λ (x : List ℕ). x ++ later .0) (sym same) ∙ later .2))
         (λ r.
-          let grow : startedAfter imports us (suc i) ≡ started ++ r .0 ∷ [] = ap (λ (x : List ℕ). started ++ x) (r .1) in
-          (r .0 ∷ later .0, next (r .2) (subst (λ (x : List ℕ). OrderFrom imports us x (later .0)) grow (later .1)),
-          sym (append-assoc started (r .0 ∷ []) (later .0)) ∙ ap (λ (x : List ℕ). x ++ later .0) (sym grow) ∙ later .2))
+        let grow : startedAfter imports us (suc i) ≡ started ++ r .0 ∷ [] = ap (λ (x : List ℕ). started ++ x) (r .1) in (
+          r .0 ∷ later .0,
+          next (r .2) (subst (λ (x : List ℕ). OrderFrom imports us x (later .0)) grow (later .1)),
+          sym (append-assoc started (r .0 ∷ []) (later .0)) ∙ ap (λ (x : List ℕ). x ++ later .0) (sym grow) ∙ later .2,
+        ))
         (passing (ready imports started) rise)
 
     -- where all units start, what has started is the order

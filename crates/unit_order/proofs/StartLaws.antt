@@ -52,13 +52,15 @@ passing p (rising-one {u} {us} above rise) = go (p u) (λ h. h) (λ h. h) (passi
     go false f g (inl r) =
         inl (λ v m h. ⊎-elim (λ (e : v ≡ u). g (subst (λ (x : ℕ). T (p x)) e h)) (λ k. r .0 v k h) (in-cases v u us m), r .1)
     go false f g (inr r) =
-        inr
-        (r .0, r .1,
-        record {
-          listed = in-tail (r .0) u us (r .2 .listed);
-          passes = r .2 .passes;
-          least = λ v m h. ⊎-elim (λ (e : v ≡ u). absurd (g (subst (λ (x : ℕ). T (p x)) e h))) (λ k. r .2 .least v k h) (in-cases v u us m);
-        })
+        inr (
+          r .0,
+          r .1,
+          record {
+            listed = in-tail (r .0) u us (r .2 .listed);
+            passes = r .2 .passes;
+            least = λ v m h. ⊎-elim (λ (e : v ≡ u). absurd (g (subst (λ (x : ℕ). T (p x)) e h))) (λ k. r .2 .least v k h) (in-cases v u us m);
+          },
+        )
 
 -- all of a list pass, or one that does not
 pub all-or-one : (p : ℕ → Bool) (xs : List ℕ) → T (all p xs) ⊎ ((x : ℕ) × T (x ∈? xs) × T (not (p x)))
@@ -108,12 +110,12 @@ module _ (imports : ℕ → List ℕ) (us : List ℕ) where
         record {
           listed = λ v m. ⊎-elim (h .listed v) (λ (e : v ≡ u). subst (λ (x : ℕ). T (x ∈? us)) (sym e) (low .listed)) (in-either v u started m);
           closed = λ v w m e.
-            in-before w u started
-            (⊎-elim (λ k. h .closed v w k e) (λ (p : v ≡ u). imported w (subst (λ (x : ℕ). T (w ∈? imports x)) p e)) (in-either v u started m));
+              in-before w u started
+              (⊎-elim (λ k. h .closed v w k e) (λ (p : v ≡ u). imported w (subst (λ (x : ℕ). T (w ∈? imports x)) p e)) (in-either v u started m));
           free = λ v m c.
-            ⊎-elim (λ k. h .free v k c) (λ (p : v ≡ u). new (no-circle (subst (λ (x : ℕ). Chain imports x x) p c))) (in-either v u started m);
+              ⊎-elim (λ k. h .free v k c) (λ (p : v ≡ u). new (no-circle (subst (λ (x : ℕ). Chain imports x x) p c))) (in-either v u started m);
           once = nodup-append (h .once) (nodup-one (λ q. absurd (mem-test u [] q)) nodup-none)
-            (λ x k q. new (subst (λ (y : ℕ). T (y ∈? started)) (same x (mem-test x (u ∷ []) q)) (mem-test x started k)));
+              (λ x k q. new (subst (λ (y : ℕ). T (y ∈? started)) (same x (mem-test x (u ∷ []) q)) (mem-test x started k)));
         }
       where
         same : (x : ℕ) → T (x ∈? (u ∷ [])) → x ≡ u
@@ -145,9 +147,9 @@ module _ (imports : ℕ → List ℕ) (us : List ℕ) where
         ⊎-elim
         (λ r. inl (subst Stuck (sym (stuck-same n (r .1))) (r .0)))
         (λ r.
-          ⊎-elim (λ (s : Stuck started). absurd (s (r .0) (r .2 .listed) (r .2 .passes)))
-          (λ l. inr (ap (λ (x : List ℕ). length (started ++ x)) (r .1) ∙ length-append started (r .0 ∷ []) ∙ omega arith))
-          (grown n))
+        ⊎-elim (λ (s : Stuck started). absurd (s (r .0) (r .2 .listed) (r .2 .passes)))
+        (λ l. inr (ap (λ (x : List ℕ). length (started ++ x)) (r .1) ∙ length-append started (r .0 ∷ []) ∙ omega arith))
+        (grown n))
         (next-ready n)
 
     -- after as many steps as there are numbers below which all units lie, none is ready

@@ -1,0 +1,3 @@
+pub mod ReadyLaws
+pub mod NoteLaws
+pub mod StartedLaws

@@ -1,0 +1,68 @@
+use mathlib.Core.Path.{_≡_, refl, sym, _∙_}
+use Prim.Native.Nat.{_-_, _≤_}
+use native.Mathlib.Omega.{arith}
+use lib.ListN.{length}
+use borrow.Author.Needs.{needs}
+use Rattle.definition.specs.Sheet.{rows as rowsOf}
+use Rattle.start_units.proofs.StartedLaws.{Looking, looking-more, looking-found, looking-none}
+use Rattle.start_units.specs.Starting.{Waits}
+use Rattle.start_units.proofs.lowest_ready.Tie as tie
+use Rattle.start_units.proofs.lowest_ready.Statement.{statement}
+
+abbrev Inv-loop : tie.InvT-loop
+Inv-loop sheet start marks waits₀ u₀ waits u = Looking sheet marks start u × (length waits ≡ length waits₀) × Waits sheet marks waits × (u ≤ 4294967295)
+
+abbrev μ-loop : tie.MeasureT-loop
+μ-loop sheet start marks waits₀ u₀ waits u = rowsOf sheet - u
+
+loop-holds : tie.Need-loop-holds Inv-loop μ-loop
+loop-holds c = ((omega arith, λ v l b. absurd (omega arith)), refl, c .before .before .before .pre .1, search needs)
+
+cast-loop : tie.Need-cast-loop Inv-loop μ-loop
+cast-loop c = omega (arith, c .loop .inv .3)
+
+is-ready-requires : tie.Need-is-ready-requires Inv-loop μ-loop
+is-ready-requires c κs = (c .before .before .before .before .before .before .pre .0, c .before .loop-test .taken, c .before .before .loop .inv .2)
+
+same-length : tie.Need-same-length Inv-loop μ-loop
+same-length c = c .before .before .before .is-ready .kept .1 .1 .1 .0 ∙ c .before .before .before .before .before .before .loop .inv .1
+
+returns : tie.Need-returns Inv-loop μ-loop
+returns c = (looking-found (c .before .before .before .before .before .before .before .before .before .before .args .sheet .now) (c .before .before .before .before .before .before .before .before .before .before .args .marks .now) (c .before .before .before .before .before .before .before .before .before .before .args .start) (c .before .before .before .before .before .before .loop .u) (c .before .before .before .before .before .before .loop .inv .0) (c .before .before .before .before .before .before .before .before .before .before .pre .0) (c .before .before .before .before .before .loop-test .taken) (sym (c .before .before .before .is-ready .ensures .0) ∙ c .if1 .taken), c .before .before .before .is-ready .ensures .1)
+
+add-u : tie.Need-add-u Inv-loop μ-loop
+add-u c = omega (arith, c .before .before .before .before .before .loop-test .taken, c .before .before .before .before .before .before .before .before .before .before .pre .0 .few)
+
+loop-less : tie.Need-loop-less Inv-loop μ-loop
+loop-less c = omega (arith, c .before .before .before .before .before .loop-test .taken)
+
+loop-again : tie.Need-loop-again Inv-loop μ-loop
+loop-again c = (
+  looking-more (c .before .before .before .before .before .before .before .before .before .before .args .sheet .now) (c .before .before .before .before .before .before .before .before .before .before .args .marks .now) (c .before .before .before .before .before .before .before .before .before .before .args .start) (c .before .before .before .before .before .before .loop .u) (c .before .before .before .before .before .before .loop .inv .0) (sym (c .before .before .before .is-ready .ensures .0) ∙ c .if1 .left),
+  c .before .before .before .is-ready .kept .1 .1 .1 .0 ∙ c .before .before .before .before .before .before .loop .inv .1,
+  c .before .before .before .is-ready .ensures .1,
+  omega (arith, c .before .before .before .before .before .loop-test .taken, c .before .before .before .before .before .before .before .before .before .before .pre .0 .few),
+)
+
+same-length-2 : tie.Need-same-length-2 Inv-loop μ-loop
+same-length-2 c = c .before .loop .inv .1
+
+returns-2 : tie.Need-returns-2 Inv-loop μ-loop
+returns-2 c = (looking-none (c .before .before .before .before .before .args .sheet .now) (c .before .before .before .before .before .args .marks .now) (c .before .before .before .before .before .args .start) (c .before .loop .u) (c .before .loop .inv .0) (c .loop-test .left), c .before .loop .inv .2)
+
+pub lowest-ready-spec : {M : Type 1} → statement M
+lowest-ready-spec =
+    tie.close
+    (tie.spec
+    Inv-loop
+    μ-loop
+    loop-holds
+    cast-loop
+    is-ready-requires
+    same-length
+    returns
+    add-u
+    loop-less
+    loop-again
+    same-length-2
+    returns-2)
