@@ -10,16 +10,27 @@ add-result : tie.Need-add-result
 add-result c = search needs
 
 returns : tie.Need-returns
-returns c = after-none (c .before .before .before .args .low .now) (c .before .before .before .args .u) (c .before .entry-at .ensures) (c .if1 .taken)
+returns c =
+    let entry-at = c .before .entry-at in
+    let a = c .before .before .before .args in
+    after-none (a .low .now) (a .u) (entry-at .ensures) (c .if1 .taken)
 
 add-result-2 : tie.Need-add-result-2
 add-result-2 c = search needs
 
 returns-2 : tie.Need-returns-2
-returns-2 c = after-lower (c .before .before .before .before .args .low .now) (c .before .before .before .before .args .u) (c .before .before .entry-at .ensures) (c .before .if1 .left) (c .if2 .taken)
+returns-2 c =
+    let if1 = c .before .if1 in
+    let entry-at = c .before .before .entry-at in
+    let a = c .before .before .before .before .args in
+    after-lower (a .low .now) (a .u) (entry-at .ensures) (if1 .left) (c .if2 .taken)
 
 returns-3 : tie.Need-returns-3
-returns-3 c = after-higher (c .before .before .before .before .args .low .now) (c .before .before .before .before .args .u) (c .before .before .entry-at .ensures) (c .before .if1 .left) (c .if2 .left)
+returns-3 c =
+    let if1 = c .before .if1 in
+    let entry-at = c .before .before .entry-at in
+    let a = c .before .before .before .before .args in
+    after-higher (a .low .now) (a .u) (entry-at .ensures) (if1 .left) (c .if2 .left)
 
 pub after-start-spec : {M : Type 1} → statement M
 after-start-spec =

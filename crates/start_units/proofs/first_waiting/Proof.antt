@@ -21,20 +21,47 @@ waits-for-requires : tie.Need-waits-for-requires Inv-loop μ-loop
 waits-for-requires c κs = search needs
 
 returns : tie.Need-returns Inv-loop μ-loop
-returns c = passed-here (c .before .before .before .before .before .before .args .sheet .now) (c .before .before .before .before .before .before .pre .0) (c .before .before .before .before .before .before .args .marks .now) (c .before .before .before .before .before .before .args .from) (c .before .before .before .loop .k) (c .before .before .before .loop .inv) (c .before .before .loop-test .taken) (sym (c .before .waits-for .ensures) ∙ c .if1 .taken)
+returns c =
+    let waits-for = c .before .waits-for in
+    let loop-test = c .before .before .loop-test in
+    let loop = c .before .before .before .loop in
+    let start = c .before .before .before .before .before .before in
+    let a = start .args in
+    let pre = start .pre in
+    passed-here (a .sheet .now) (pre .0) (a .marks .now) (a .from) (loop .k) (loop .inv) (loop-test .taken) (sym (waits-for .ensures) ∙ c .if1 .taken)
 
 word-requires : tie.Need-word-requires Inv-loop μ-loop
 word-requires c κs = search needs
 
 loop-less : tie.Need-loop-less Inv-loop μ-loop
-loop-less c = let q = next-row (c .before .before .before .before .before .before .before .args .sheet .now) (c .before .before .before .before .before .before .before .pre .0) (c .before .before .before .before .loop .k) (c .before .before .before .loop-test .taken) (c .before .before .before .before .loop .inv .0) in
-    ⊎-elim (λ e. omega (arith, e, c .word .ensures)) (λ e. omega (arith, e, q .0, c .word .ensures, c .before .before .before .before .before .before .before .pre .0 .few)) (q .1)
+loop-less c =
+    let loop-test = c .before .before .before .loop-test in
+    let loop = c .before .before .before .before .loop in
+    let start = c .before .before .before .before .before .before .before in
+    let a = start .args in
+    let pre = start .pre in
+    let q = next-row (a .sheet .now) (pre .0) (loop .k) (loop-test .taken) (loop .inv .0) in
+    ⊎-elim (λ e. omega (arith, e, c .word .ensures)) (λ e. omega (arith, e, q .0, c .word .ensures, pre .0 .few)) (q .1)
 
 loop-again : tie.Need-loop-again Inv-loop μ-loop
-loop-again c = passed-more (c .before .before .before .before .before .before .before .args .sheet .now) (c .before .before .before .before .before .before .before .pre .0) (c .before .before .before .before .before .before .before .args .marks .now) (c .before .before .before .before .before .before .before .args .from) (c .before .before .before .before .loop .k) (c .before .before .before .before .loop .inv) _ (c .before .before .before .loop-test .taken) (sym (c .before .before .waits-for .ensures) ∙ c .before .if1 .left) (c .word .ensures)
+loop-again c =
+    let if1 = c .before .if1 in
+    let waits-for = c .before .before .waits-for in
+    let loop-test = c .before .before .before .loop-test in
+    let loop = c .before .before .before .before .loop in
+    let start = c .before .before .before .before .before .before .before in
+    let a = start .args in
+    let pre = start .pre in
+    passed-more (a .sheet .now) (pre .0) (a .marks .now) (a .from) (loop .k) (loop .inv) _ (loop-test .taken)
+    (sym (waits-for .ensures) ∙ if1 .left) (c .word .ensures)
 
 returns-2 : tie.Need-returns-2 Inv-loop μ-loop
-returns-2 c = passed-all (c .before .before .before .before .args .sheet .now) (c .before .before .before .before .pre .0) (c .before .before .before .before .args .marks .now) (c .before .before .before .before .args .from) (c .before .loop .k) (c .before .loop .inv) (c .loop-test .left)
+returns-2 c =
+    let loop = c .before .loop in
+    let start = c .before .before .before .before in
+    let a = start .args in
+    let pre = start .pre in
+    passed-all (a .sheet .now) (pre .0) (a .marks .now) (a .from) (loop .k) (loop .inv) (c .loop-test .left)
 
 pub first-waiting-spec : {M : Type 1} → statement M
 first-waiting-spec =

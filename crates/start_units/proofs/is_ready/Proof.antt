@@ -13,19 +13,35 @@ word-requires : tie.Need-word-requires
 word-requires c κs = search needs
 
 returns : tie.Need-returns
-returns c = (not-unit (c .before .before .before .before .before .args .sheet .now) (c .before .before .before .before .before .args .marks .now) (c .before .before .before .before .before .args .u) (λ e. c .if1 .taken (c .before .word .ensures ∙ e)), c .before .before .before .before .before .pre .2)
+returns c =
+    let word = c .before .word in
+    let start = c .before .before .before .before .before in
+    let a = start .args in
+    let pre = start .pre in
+    (not-unit (a .sheet .now) (a .marks .now) (a .u) (λ e. c .if1 .taken (word .ensures ∙ e)), pre .2)
 
 entry-at-requires : tie.Need-entry-at-requires
 entry-at-requires c κs = search needs
 
 returns-2 : tie.Need-returns-2
-returns-2 c = (not-free (c .before .before .before .before .before .before .before .args .sheet .now) (c .before .before .before .before .before .before .before .args .marks .now) (c .before .before .before .before .before .before .before .args .u) (sym (c .before .before .before .word .ensures) ∙ c .before .before .if1 .left) (λ e. c .if2 .taken (c .before .entry-at .ensures ∙ e)), c .before .before .before .before .before .before .before .pre .2)
+returns-2 c =
+    let entry-at = c .before .entry-at in
+    let if1 = c .before .before .if1 in
+    let word = c .before .before .before .word in
+    let start = c .before .before .before .before .before .before .before in
+    let a = start .args in
+    let pre = start .pre in
+    (not-free (a .sheet .now) (a .marks .now) (a .u) (sym (word .ensures) ∙ if1 .left) (λ e. c .if2 .taken (entry-at .ensures ∙ e)), pre .2)
 
 waiting-from-requires : tie.Need-waiting-from-requires
 waiting-from-requires c κs = search needs
 
 first-waiting-requires : tie.Need-first-waiting-requires
-first-waiting-requires c κs = (c .before .before .before .before .before .before .before .before .before .pre .0, rw (c .waiting-from .ensures) (waiting-row (c .before .before .before .before .before .before .before .before .before .args .sheet .now) (c .before .before .before .before .before .before .before .before .before .pre .0) (c .before .before .before .before .before .before .before .before .before .args .marks .now) (c .before .before .before .before .before .before .before .before .before .args .waits .now) (c .before .before .before .before .before .before .before .before .before .args .u) (c .before .before .before .before .before .before .before .before .before .pre .1) (c .before .before .before .before .before .before .before .before .before .pre .2)))
+first-waiting-requires c κs =
+    let start = c .before .before .before .before .before .before .before .before .before in
+    let pre = start .pre in
+    let a = start .args in
+    (pre .0, rw (c .waiting-from .ensures) (waiting-row (a .sheet .now) (pre .0) (a .marks .now) (a .waits .now) (a .u) (pre .1) (pre .2)))
 
 put-entry-requires : tie.Need-put-entry-requires
 put-entry-requires c κs = search needs
@@ -34,13 +50,26 @@ same-length : tie.Need-same-length
 same-length c = search needs
 
 returns-3 : tie.Need-returns-3
-returns-3 c = let s = c .before .before .before .before .before .before .before .before .before .before .before .before .before .before .args .sheet .now in
-    let m = c .before .before .before .before .before .before .before .before .before .before .before .before .before .before .args .marks .now in
-    let w = c .before .before .before .before .before .before .before .before .before .before .before .before .before .before .args .waits .now in
-    let unit = eqb-of (kind s (c .before .before .before .before .before .before .before .before .before .before .before .before .before .before .args .u)) UNIT (sym (c .before .before .before .before .before .before .before .before .before .before .word .ensures) ∙ c .before .before .before .before .before .before .before .before .before .if1 .left) in
-    let waits = subst (λ (i : ℕ). WaitsAt s m i (c .before .before .before .before .first-waiting .result)) (c .before .before .before .before .before .waiting-from .ensures) (c .before .before .before .before .first-waiting .ensures) in (
-      ready-by s (c .before .before .before .before .before .before .before .before .before .before .before .before .before .before .pre .0) m w (c .before .before .before .before .before .before .before .before .before .before .before .before .before .before .args .u) (c .before .before .before .before .before .before .before .before .before .before .before .before .before .before .pre .1) (c .before .before .before .before .before .before .before .before .before .before .before .before .before .before .pre .2) unit (c .before .before .before .before .first-waiting .result) waits (sym (c .before .before .before .before .before .before .before .before .entry-at .ensures) ∙ c .before .before .before .before .before .before .before .if2 .left),
-      subst (Waits s m) (sym (c .before .before .put-entry .ensures)) (waits-kept s (c .before .before .before .before .before .before .before .before .before .before .before .before .before .before .pre .0) m w (c .before .before .before .before .before .before .before .before .before .before .before .before .before .before .args .u) (c .before .before .before .before .before .before .before .before .before .before .before .before .before .before .pre .1) (c .before .before .before .before .before .before .before .before .before .before .before .before .before .before .pre .2) unit (c .before .before .before .before .first-waiting .result) waits),
+returns-3 c =
+    let put-entry = c .before .before .put-entry in
+    let at-first-waiting = c .before .before .before .before in
+    let first-waiting = at-first-waiting .first-waiting in
+    let waiting-from = at-first-waiting .before .waiting-from in
+    let if2 = at-first-waiting .before .before .before .if2 in
+    let entry-at = at-first-waiting .before .before .before .before .entry-at in
+    let if1 = at-first-waiting .before .before .before .before .before .if1 in
+    let word = at-first-waiting .before .before .before .before .before .before .word in
+    let start = at-first-waiting .before .before .before .before .before .before .before .before .before .before in
+    let a = start .args in
+    let pre = start .pre in
+    let s = a .sheet .now in
+    let m = a .marks .now in
+    let w = a .waits .now in
+    let k = first-waiting .result in
+    let unit = eqb-of (kind s (a .u)) UNIT (sym (word .ensures) ∙ if1 .left) in
+    let waits = subst (λ (i : ℕ). WaitsAt s m i k) (waiting-from .ensures) (first-waiting .ensures) in (
+      ready-by s (pre .0) m w (a .u) (pre .1) (pre .2) unit k waits (sym (entry-at .ensures) ∙ if2 .left),
+      subst (Waits s m) (sym (put-entry .ensures)) (waits-kept s (pre .0) m w (a .u) (pre .1) (pre .2) unit k waits),
     )
 
 pub is-ready-spec : {M : Type 1} → statement M

@@ -22,33 +22,61 @@ cast-loop : tie.Need-cast-loop Inv-loop μ-loop
 cast-loop c = omega (arith, c .loop .inv .3)
 
 is-ready-requires : tie.Need-is-ready-requires Inv-loop μ-loop
-is-ready-requires c κs = (c .before .before .before .before .before .before .pre .0, c .before .loop-test .taken, c .before .before .loop .inv .2)
+is-ready-requires c κs =
+    let loop-test = c .before .loop-test in
+    let loop = c .before .before .loop in
+    let pre = c .before .before .before .before .before .before .pre in
+    (pre .0, loop-test .taken, loop .inv .2)
 
 same-length : tie.Need-same-length Inv-loop μ-loop
-same-length c = c .before .before .before .is-ready .kept .1 .1 .1 .0 ∙ c .before .before .before .before .before .before .loop .inv .1
+same-length c =
+    let is-ready = c .before .before .before .is-ready in
+    let loop = c .before .before .before .before .before .before .loop in
+    is-ready .kept .1 .1 .1 .0 ∙ loop .inv .1
 
 returns : tie.Need-returns Inv-loop μ-loop
-returns c = (looking-found (c .before .before .before .before .before .before .before .before .before .before .args .sheet .now) (c .before .before .before .before .before .before .before .before .before .before .args .marks .now) (c .before .before .before .before .before .before .before .before .before .before .args .start) (c .before .before .before .before .before .before .loop .u) (c .before .before .before .before .before .before .loop .inv .0) (c .before .before .before .before .before .before .before .before .before .before .pre .0) (c .before .before .before .before .before .loop-test .taken) (sym (c .before .before .before .is-ready .ensures .0) ∙ c .if1 .taken), c .before .before .before .is-ready .ensures .1)
+returns c =
+    let is-ready = c .before .before .before .is-ready in
+    let loop-test = c .before .before .before .before .before .loop-test in
+    let loop = c .before .before .before .before .before .before .loop in
+    let start = c .before .before .before .before .before .before .before .before .before .before in
+    let a = start .args in
+    let pre = start .pre in (
+      looking-found (a .sheet .now) (a .marks .now) (a .start) (loop .u) (loop .inv .0) (pre .0) (loop-test .taken) (sym (is-ready .ensures .0) ∙ c .if1 .taken),
+      is-ready .ensures .1,
+    )
 
 add-u : tie.Need-add-u Inv-loop μ-loop
-add-u c = omega (arith, c .before .before .before .before .before .loop-test .taken, c .before .before .before .before .before .before .before .before .before .before .pre .0 .few)
+add-u c =
+    let loop-test = c .before .before .before .before .before .loop-test in
+    let pre = c .before .before .before .before .before .before .before .before .before .before .pre in
+    omega (arith, loop-test .taken, pre .0 .few)
 
 loop-less : tie.Need-loop-less Inv-loop μ-loop
 loop-less c = omega (arith, c .before .before .before .before .before .loop-test .taken)
 
 loop-again : tie.Need-loop-again Inv-loop μ-loop
-loop-again c = (
-  looking-more (c .before .before .before .before .before .before .before .before .before .before .args .sheet .now) (c .before .before .before .before .before .before .before .before .before .before .args .marks .now) (c .before .before .before .before .before .before .before .before .before .before .args .start) (c .before .before .before .before .before .before .loop .u) (c .before .before .before .before .before .before .loop .inv .0) (sym (c .before .before .before .is-ready .ensures .0) ∙ c .if1 .left),
-  c .before .before .before .is-ready .kept .1 .1 .1 .0 ∙ c .before .before .before .before .before .before .loop .inv .1,
-  c .before .before .before .is-ready .ensures .1,
-  omega (arith, c .before .before .before .before .before .loop-test .taken, c .before .before .before .before .before .before .before .before .before .before .pre .0 .few),
-)
+loop-again c =
+    let is-ready = c .before .before .before .is-ready in
+    let loop-test = c .before .before .before .before .before .loop-test in
+    let loop = c .before .before .before .before .before .before .loop in
+    let start = c .before .before .before .before .before .before .before .before .before .before in
+    let a = start .args in
+    let pre = start .pre in (
+      looking-more (a .sheet .now) (a .marks .now) (a .start) (loop .u) (loop .inv .0) (sym (is-ready .ensures .0) ∙ c .if1 .left),
+      is-ready .kept .1 .1 .1 .0 ∙ loop .inv .1,
+      is-ready .ensures .1,
+      omega (arith, loop-test .taken, pre .0 .few),
+    )
 
 same-length-2 : tie.Need-same-length-2 Inv-loop μ-loop
 same-length-2 c = c .before .loop .inv .1
 
 returns-2 : tie.Need-returns-2 Inv-loop μ-loop
-returns-2 c = (looking-none (c .before .before .before .before .before .args .sheet .now) (c .before .before .before .before .before .args .marks .now) (c .before .before .before .before .before .args .start) (c .before .loop .u) (c .before .loop .inv .0) (c .loop-test .left), c .before .loop .inv .2)
+returns-2 c =
+    let loop = c .before .loop in
+    let a = c .before .before .before .before .before .args in
+    (looking-none (a .sheet .now) (a .marks .now) (a .start) (loop .u) (loop .inv .0) (c .loop-test .left), loop .inv .2)
 
 pub lowest-ready-spec : {M : Type 1} → statement M
 lowest-ready-spec =

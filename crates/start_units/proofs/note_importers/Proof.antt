@@ -14,32 +14,53 @@ abbrev μ-loop : tie.MeasureT-loop
 μ-loop sheet low₀ u₀ low u = rowsOf sheet - u
 
 loop-holds : tie.Need-loop-holds Inv-loop μ-loop
-loop-holds c = (omega arith, refl, noting-none (c .before .before .args .sheet .now) (c .before .before .args .low .now) (c .before .before .pre .1))
+loop-holds c =
+    let start = c .before .before in
+    let a = start .args in
+    let pre = start .pre in
+    (omega arith, refl, noting-none (a .sheet .now) (a .low .now) (pre .1))
 
 cast-loop : tie.Need-cast-loop Inv-loop μ-loop
-cast-loop c = omega (arith, c .loop .inv .0, c .before .before .before .pre .0 .few)
+cast-loop c =
+    let pre = c .before .before .before .pre in
+    omega (arith, c .loop .inv .0, pre .0 .few)
 
 note-unit-requires : tie.Need-note-unit-requires Inv-loop μ-loop
-note-unit-requires c κs = (c .before .before .before .before .before .pre .0, c .before .loop-test .taken)
+note-unit-requires c κs =
+    let loop-test = c .before .loop-test in
+    let pre = c .before .before .before .before .before .pre in
+    (pre .0, loop-test .taken)
 
 add-u : tie.Need-add-u Inv-loop μ-loop
-add-u c = omega (arith, c .before .before .before .before .before .loop .inv .0, c .before .before .before .before .before .before .before .before .pre .0 .few)
+add-u c =
+    let loop = c .before .before .before .before .before .loop in
+    let pre = c .before .before .before .before .before .before .before .before .pre in
+    omega (arith, loop .inv .0, pre .0 .few)
 
 loop-less : tie.Need-loop-less Inv-loop μ-loop
 loop-less c = omega (arith, c .before .before .before .before .loop-test .taken)
 
 loop-again : tie.Need-loop-again Inv-loop μ-loop
-loop-again c = (
-  omega (arith, c .before .before .before .before .loop-test .taken),
-  c .before .before .note-unit .kept .1 .1 .0 ∙ c .before .before .before .before .before .loop .inv .1,
-  noting-more (c .before .before .before .before .before .before .before .before .args .sheet .now) (c .before .before .before .before .before .before .before .before .pre .0) (c .before .before .before .before .before .loop .u) (c .before .before .before .before .before .loop .low) _ (c .before .before .before .before .loop-test .taken) (c .before .before .before .before .before .loop .inv .2) (c .before .before .note-unit .ensures),
-)
+loop-again c =
+    let note-unit = c .before .before .note-unit in
+    let loop-test = c .before .before .before .before .loop-test in
+    let loop = c .before .before .before .before .before .loop in
+    let start = c .before .before .before .before .before .before .before .before in
+    let a = start .args in
+    let pre = start .pre in (
+      omega (arith, loop-test .taken),
+      note-unit .kept .1 .1 .0 ∙ loop .inv .1,
+      noting-more (a .sheet .now) (pre .0) (loop .u) (loop .low) _ (loop-test .taken) (loop .inv .2) (note-unit .ensures),
+    )
 
 same-length : tie.Need-same-length Inv-loop μ-loop
 same-length c = c .before .loop .inv .1
 
 returns : tie.Need-returns Inv-loop μ-loop
-returns c = noting-all (c .before .before .before .before .args .sheet .now) (c .before .loop .u) (c .before .loop .low) (c .before .loop .inv .2) (c .loop-test .left)
+returns c =
+    let loop = c .before .loop in
+    let a = c .before .before .before .before .args in
+    noting-all (a .sheet .now) (loop .u) (loop .low) (loop .inv .2) (c .loop-test .left)
 
 pub note-importers-spec : {M : Type 1} → statement M
 note-importers-spec =

@@ -7,7 +7,12 @@ note-importers-requires : tie.Need-note-importers-requires
 note-importers-requires c κs = search needs
 
 start-all-requires : tie.Need-start-all-requires
-start-all-requires c κs = (c .before .before .before .before .before .before .before .before .before .before .before .before .before .pre .0, c .before .before .before .before .before .before .note-importers .ensures, c .before .before .before .before .before .before .before .before .before .before .before .before .before .pre .3, waits-none (c .before .before .before .before .before .before .before .before .before .before .before .before .before .args .sheet .now) (c .before .before .before .before .before .before .before .before .before .before .before .before .before .args .marks .now) (c .before .before .before .before .before .before .before .before .before .before .before .before .before .args .waits .now) (c .before .before .before .before .before .before .before .before .before .before .before .before .before .pre .0 .some) (c .before .before .before .before .before .before .before .before .before .before .before .before .before .pre .2))
+start-all-requires c κs =
+    let note-importers = c .before .before .before .before .before .before .note-importers in
+    let start = c .before .before .before .before .before .before .before .before .before .before .before .before .before in
+    let pre = start .pre in
+    let a = start .args in
+    (pre .0, note-importers .ensures, pre .3, waits-none (a .sheet .now) (a .marks .now) (a .waits .now) (pre .0 .some) (pre .2))
 
 same-length : tie.Need-same-length
 same-length c = search needs

@@ -10,7 +10,11 @@ slice-aggregate-start-in-2 : tie.Need-slice-aggregate-start-in-2
 slice-aggregate-start-in-2 c = search needs
 
 start-in-requires : tie.Need-start-in-requires
-start-in-requires c κs = (c .before .before .before .before .before .before .before .pre .0, unnoted-zeros (c .before .before .before .before .before .before .before .args .sheet .now) 2048 (c .before .before .before .before .before .before .before .pre .0 .few), unnoted-zeros (c .before .before .before .before .before .before .before .args .sheet .now) 2048 (c .before .before .before .before .before .before .before .pre .0 .few), c .before .before .before .before .before .before .before .pre .1)
+start-in-requires c κs =
+    let start = c .before .before .before .before .before .before .before in
+    let pre = start .pre in
+    let a = start .args in
+    (pre .0, unnoted-zeros (a .sheet .now) 2048 (pre .0 .few), unnoted-zeros (a .sheet .now) 2048 (pre .0 .few), pre .1)
 
 same-length : tie.Need-same-length
 same-length c = search needs

@@ -10,10 +10,17 @@ word-requires : tie.Need-word-requires
 word-requires c κs = search needs
 
 returns : tie.Need-returns
-returns c = waiting-child (c .before .before .before .before .before .args .sheet .now) (c .before .before .before .before .before .args .waits .now) (c .before .before .before .before .before .args .u) (c .before .before .entry-at .ensures) (c .before .if1 .taken) (c .word .ensures)
+returns c =
+    let if1 = c .before .if1 in
+    let entry-at = c .before .before .entry-at in
+    let a = c .before .before .before .before .before .args in
+    waiting-child (a .sheet .now) (a .waits .now) (a .u) (entry-at .ensures) (if1 .taken) (c .word .ensures)
 
 returns-2 : tie.Need-returns-2
-returns-2 c = waiting-kept (c .before .before .before .before .args .sheet .now) (c .before .before .before .before .args .waits .now) (c .before .before .before .before .args .u) (c .before .entry-at .ensures) (c .if1 .left)
+returns-2 c =
+    let entry-at = c .before .entry-at in
+    let a = c .before .before .before .before .args in
+    waiting-kept (a .sheet .now) (a .waits .now) (a .u) (entry-at .ensures) (c .if1 .left)
 
 pub waiting-from-spec : {M : Type 1} → statement M
 waiting-from-spec = tie.close (tie.spec entry-at-requires word-requires returns returns-2)

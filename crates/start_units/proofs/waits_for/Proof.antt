@@ -8,7 +8,10 @@ word-requires : tie.Need-word-requires
 word-requires c κs = search needs
 
 returns : tie.Need-returns
-returns c = waits-other (c .before .before .before .before .args .sheet .now) (c .before .before .before .before .args .marks .now) (c .before .before .before .before .args .k) (λ e. c .if1 .taken (c .before .word .ensures ∙ e))
+returns c =
+    let word = c .before .word in
+    let a = c .before .before .before .before .args in
+    waits-other (a .sheet .now) (a .marks .now) (a .k) (λ e. c .if1 .taken (word .ensures ∙ e))
 
 word-requires-2 : tie.Need-word-requires-2
 word-requires-2 c κs = search needs
@@ -17,7 +20,12 @@ entry-at-requires : tie.Need-entry-at-requires
 entry-at-requires c κs = search needs
 
 returns-2 : tie.Need-returns-2
-returns-2 c = waits-import (c .before .before .before .before .before .before .args .sheet .now) (c .before .before .before .before .before .before .args .marks .now) (c .before .before .before .before .before .before .args .k) (sym (c .before .before .before .word .ensures) ∙ c .before .before .if1 .left) (c .before .word2 .ensures) (c .entry-at .ensures)
+returns-2 c =
+    let word2 = c .before .word2 in
+    let if1 = c .before .before .if1 in
+    let word = c .before .before .before .word in
+    let a = c .before .before .before .before .before .before .args in
+    waits-import (a .sheet .now) (a .marks .now) (a .k) (sym (word .ensures) ∙ if1 .left) (word2 .ensures) (c .entry-at .ensures)
 
 pub waits-for-spec : {M : Type 1} → statement M
 waits-for-spec =
