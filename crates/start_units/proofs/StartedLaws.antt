@@ -102,7 +102,7 @@ module _ (s : Sheet) (m started : List ℕ) (h : Marks s m started) where
       (all-more (λ x. x ∈? started) (marked m) (importsOf s v) (λ x y. subst T (sym (h .same x)) y) (q .1))
 
 -- a list with one more at its end, as a test
-in-more : (v u : ℕ) (xs : List ℕ) → (v ≡ u → ⊥) → (v ∈? xs) ≡ (v ∈? (xs ++ u ∷ []))
+pub in-more : (v u : ℕ) (xs : List ℕ) → (v ≡ u → ⊥) → (v ∈? xs) ≡ (v ∈? (xs ++ u ∷ []))
 in-more v u xs f =
     ⊎-elim (λ h. true-of (v ∈? xs) h ∙ sym (true-of (v ∈? (xs ++ u ∷ [])) (in-before v u xs h)))
     (λ h.
