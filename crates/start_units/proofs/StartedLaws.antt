@@ -170,6 +170,7 @@ module _ (s before m w list : List ℕ) (start n : ℕ) (h : Running s before m 
       let same : startedBy s n ≡ order s = ap (startedBy s) e in
       record {
         count = sym (h .long) ∙ ap length same;
+        few = h .few;
         marks = subst (Marks s m) same (h .marks);
         list = h .written ∙ ap (sets before 0) same;
       }
@@ -183,6 +184,7 @@ module _ (s before m w list : List ℕ) (start n : ℕ) (h : Running s before m 
       ∙ ap (startedBy s) steps in
       record {
         count = sym (h .long) ∙ ap length same;
+        few = h .few;
         marks = subst (Marks s m) same (h .marks);
         list = h .written ∙ ap (sets before 0) same;
       }

@@ -94,5 +94,6 @@ pub record Marks (s : Sheet) (m started : List ℕ) : Type 0 where
 -- After all units that ever get ready have started: n is their number, the marks are theirs, and they stand first in the list, as far as it goes.
 pub record Started (s before : List ℕ) (n : ℕ) (m after : List ℕ) : Type 0 where
   pub count : n ≡ length (order s)
+  pub few : n ≤ rows s
   pub marks : Marks s m (order s)
   pub list : after ≡ sets before 0 (order s)
