@@ -25,7 +25,7 @@ use Rattle.first_four.proofs.Asking.{sized}
 use Rattle.unit_order.specs.Imports.{OrderFrom}
 use Rattle.unit_order.specs.Order.{units, importsOf, circles, order, unitRow, orderAsked, orderOutcome, listAfter}
 use Rattle.unit_order.proofs.OrderLaws.{started-order}
-use Rattle.unit_order.proofs.SheetLaws.{units-rising, unit-row, row-unit, imports-closed, first-lowest}
+use Rattle.unit_order.proofs.SheetLaws.{units-rising, unit-row, row-unit, imports-closed, unit-next, first-lowest}
 use Rattle.unit_order.proofs.Theorems.{told-units, circles-chain, order-free, left-circles, order-claims}
 use Rattle.start_units.specs.Starting.{Importing, marked, Marks}
 use Rattle.start_units.proofs.ReadyLaws.{either, false-of, same-or}
@@ -71,6 +71,7 @@ module _ (s : Sheet) (ok : Fitting s) where
         header = not-T (is s UNIT 0) (λ h. subst T (ap (λ (k : ℕ). eqb k UNIT) (header-kind (ok .last) s known)) h);
         nexts = next-rises (ok .last) s known;
         children = child-rises (ok .last) s known;
+        in-line = unit-next (ok .last) s known;
         closed = imports-closed (ok .last) s known;
       }
 

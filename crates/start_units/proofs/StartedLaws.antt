@@ -1,6 +1,6 @@
 -- One unit after another: the steps of the definition, by the tables.
 use mathlib.Core.Path.{_≡_, refl, sym, ap, _∙_, subst}
-use mathlib.Core.Logic.{_⊎_, inl, inr, ⊎-elim}
+use mathlib.Core.Logic.{⊎-elim}
 use mathlib.Core.Bool.{Bool, true, false, not, _&&_}
 use mathlib.Core.List.{List, [], _∷_, _++_}
 use Prim.Native.Nat.{ℕ, zero, suc, _+_, _-_, _<_, _≤_}
@@ -9,52 +9,84 @@ use native.Mathlib.Numerals.{add-one}
 use lib.Dec.{T, T-not, not-T, eqb, ltb}
 use lib.ListN.{length, getD, set, take, replicate, length-set, length-append, length-replicate}
 use lib.Seq.{sets, getD-set-same, getD-set-other}
-use borrow.Author.Tests.{eq-eqb, ne-eqb, eqb-true, lt-ltb, le-ltb, ltb-true, ltb-false}
+use borrow.Author.Tests.{eq-eqb, ne-eqb, eqb-true, eqb-false, lt-ltb, le-ltb, ltb-true, ltb-false}
 use Rattle.definition.specs.Basics.{if_then_else_, filter, all, _∈?_}
 use Rattle.definition.specs.Kind.{UNIT}
-use Rattle.definition.specs.Sheet.{Sheet, rows, is}
+use Rattle.definition.specs.Sheet.{Sheet, kind, next, rows, is}
 use Rattle.definition.proofs.Lists.Tests.{T-and, and-both, true-of, T-true, decide}
 use Rattle.machine.proofs.Words.{sets-more}
 use Rattle.unit_order.specs.Imports.{ready, startedAfter}
 use Rattle.unit_order.specs.Order.{units, importsOf, order}
 use Rattle.unit_order.proofs.StartLaws.{passing, stuck-same, in-before, in-last, in-either, all-member, all-or-one}
 use Rattle.unit_order.proofs.SheetLaws.{units-rising, unit-row, row-unit}
-use Rattle.start_units.specs.Starting.{Importing, marked, startable, Waits, LowestFrom, Unnoted, Importers, afterStart, Marks, Started}
+use Rattle.start_units.specs.Starting.{Importing, marked, startable, Waits, following, LowestFrom, Unnoted, Importers, afterStart, Marks, Started}
 use Rattle.start_units.proofs.ReadyLaws.{all-more, either, false-of, same-or}
 
--- Where the next unit is looked for, as the routine finds it.
-module _ (low : List ℕ) (u : ℕ) {x : ℕ} (at : x ≡ getD low u 0) where
-  pub after-none : x ≡ 0 → u + 1 ≡ afterStart low u
-  unfolding afterStart
-  after-none e = rw (eq-eqb (getD low u 0) 0 (sym at ∙ e))
+-- The row to look at after row u, as the routine finds it.
+module _ (s : Sheet) (u : ℕ) where
+  pub following-other : (kind s u ≡ UNIT → ⊥) → u + 1 ≡ following s u
+  unfolding following
+  following-other f = rw (ne-eqb (kind s u) UNIT f)
 
-  pub after-lower : (x ≡ 0 → ⊥) → x < u → x ≡ afterStart low u
+  module _ (e : kind s u ≡ UNIT) {x : ℕ} (to : x ≡ next s u) where
+    pub following-none : x ≡ 0 → 4294967295 ≡ following s u
+    unfolding following
+    following-none z = rw (eq-eqb (kind s u) UNIT e, eq-eqb (next s u) 0 (sym to ∙ z))
+
+    pub following-next : (x ≡ 0 → ⊥) → x ≡ following s u
+    unfolding following
+    following-next f = to ∙ rw (eq-eqb (kind s u) UNIT e, ne-eqb (next s u) 0 (λ z. f (to ∙ z)))
+
+  -- it lies above u, and no unit lies between
+  module _ (ok : Importing s) (l : u < rows s) where
+    pub following-above : (u < following s u) × (following s u ≤ 4294967295)
+    unfolding following
+    following-above = go (is s UNIT u) (eqb (next s u) 0) refl
+      where
+        rise : (next s u ≡ 0 → ⊥) → (u < next s u) × (next s u < rows s)
+        rise f = ⊎-elim (λ e. absurd (f e)) (λ q. q) (ok .nexts u l)
+
+        go : (t w : Bool) → eqb (next s u) 0 ≡ w
+            → (u < (if t then (if w then 4294967295 else next s u) else u + 1)) × ((if t then (if w then 4294967295 else next s u) else u + 1) ≤ 4294967295)
+        go false w e = (omega arith, omega (arith, ok .few))
+        go true true e = (omega (arith, ok .few), omega arith)
+        go true false e = let q = rise (eqb-false (next s u) 0 e) in (q .0, omega (arith, q .1, ok .few))
+
+    pub following-most : (v : ℕ) → T (v ∈? units s) → u < v → following s u ≤ v
+    unfolding following
+    following-most v m b = go (is s UNIT u) refl (eqb (next s u) 0) refl
+      where
+        go : (t : Bool) → is s UNIT u ≡ t → (w : Bool) → eqb (next s u) 0 ≡ w → (if t then (if w then 4294967295 else next s u) else u + 1) ≤ v
+        go false p w e = omega arith
+        go true p true e = absurd (ok .in-line u v (row-unit s u l (T-true (is s UNIT u) p)) m b .0 (eqb-true (next s u) 0 e))
+        go true p false e = ok .in-line u v (row-unit s u l (T-true (is s UNIT u) p)) m b .1
+
+-- Where the next unit is looked for, as the routine finds it.
+module _ (s low : List ℕ) (u : ℕ) {x : ℕ} (at : x ≡ getD low u 0) where
+  pub after-none : {y : ℕ} → x ≡ 0 → y ≡ following s u → y ≡ afterStart s low u
+  unfolding afterStart
+  after-none e to = to ∙ rw (eq-eqb (getD low u 0) 0 (sym at ∙ e))
+
+  pub after-lower : (x ≡ 0 → ⊥) → x < u → x ≡ afterStart s low u
   unfolding afterStart
   after-lower f l = at ∙ rw (ne-eqb (getD low u 0) 0 (λ e. f (at ∙ e)), lt-ltb (getD low u 0) u (omega arith))
 
-  pub after-higher : (x ≡ 0 → ⊥) → u ≤ x → u + 1 ≡ afterStart low u
+  pub after-higher : {y : ℕ} → (x ≡ 0 → ⊥) → u ≤ x → y ≡ following s u → y ≡ afterStart s low u
   unfolding afterStart
-  after-higher f l = rw (ne-eqb (getD low u 0) 0 (λ e. f (at ∙ e)), le-ltb (getD low u 0) u (omega arith))
+  after-higher f l to = to ∙ rw (ne-eqb (getD low u 0) 0 (λ e. f (at ∙ e)), le-ltb (getD low u 0) u (omega arith))
 
--- it lies at most one above u, and above no unit that imports u
-after-most : (low : List ℕ) (u : ℕ) → afterStart low u ≤ u + 1
+-- it is no later than the next row to look at, and a lower unit noted at u
+after-most : (s low : List ℕ) (u : ℕ) → u < following s u → afterStart s low u ≤ following s u
 unfolding afterStart
-after-most low u = go (eqb (getD low u 0) 0) (ltb (getD low u 0) u) refl
+after-most s low u l = go (eqb (getD low u 0) 0) (ltb (getD low u 0) u) refl
   where
-    go : (t w : Bool) → ltb (getD low u 0) u ≡ w → (if t then u + 1 else if w then getD low u 0 else u + 1) ≤ u + 1
+    go : (t w : Bool) → ltb (getD low u 0) u ≡ w → (if t then following s u else if w then getD low u 0 else following s u) ≤ following s u
     go true w e = omega arith
     go false true e = omega (arith, ltb-true (getD low u 0) u e)
     go false false e = omega arith
 
-after-low : (low : List ℕ) (u : ℕ) → 0 < getD low u 0 → (afterStart low u ≤ getD low u 0) ⊎ (getD low u 0 ≡ u)
-unfolding afterStart
-after-low low u p = go (eqb (getD low u 0) 0) refl (ltb (getD low u 0) u) refl
-  where
-    go : (t : Bool) → eqb (getD low u 0) 0 ≡ t → (w : Bool) → ltb (getD low u 0) u ≡ w
-        → ((if t then u + 1 else if w then getD low u 0 else u + 1) ≤ getD low u 0) ⊎ (getD low u 0 ≡ u)
-    go true e w f = absurd (omega (arith, eqb-true (getD low u 0) 0 e))
-    go false e true f = inl (omega arith)
-    go false e false f = ⊎-elim inr (λ g. inl (omega (arith, ltb-false (getD low u 0) u f))) (same-or (getD low u 0) u)
+after-low : (s low : List ℕ) (u : ℕ) → 0 < getD low u 0 → getD low u 0 < u → afterStart s low u ≡ getD low u 0
+after-low s low u p l = sym (after-lower s low u refl (λ z. omega (arith, z)) l)
 
 startable-unit : (s : Sheet) (m : List ℕ) (u : ℕ) → T (startable s m u) → T (is s UNIT u)
 unfolding startable
@@ -62,24 +94,35 @@ startable-unit s m u h = T-and (is s UNIT u) (not (marked m u)) (T-and (is s UNI
 
 -- The search for the lowest ready unit stands at row u.
 abbrev pub Looking : Sheet → List ℕ → ℕ → ℕ → Type 0
-Looking s m start u = (start ≤ u) × ((v : ℕ) → start ≤ v → v < u → T (startable s m v) → ⊥)
+Looking s m start u = (start ≤ u) × ((v : ℕ) → start ≤ v → v < u → v < rows s → T (startable s m v) → ⊥)
 
 module _ (s : Sheet) (m : List ℕ) (start u : ℕ) (h : Looking s m start u) where
-  pub looking-more : startable s m u ≡ false → Looking s m start (u + 1)
-  looking-more e = (
-    omega (arith, h .0),
-    λ v l b t. ⊎-elim (λ (q : v ≡ u). subst T (ap (startable s m) q ∙ e) t) (λ f. h .1 v l (omega arith) t) (same-or v u),
-  )
+  pub looking-more : Importing s → u < rows s → startable s m u ≡ false → {x : ℕ} → x ≡ following s u → Looking s m start x
+  looking-more ok l e to =
+      let up = following-above s u ok l .0 in
+      rw to (
+        omega (arith, h .0, up),
+        λ v j b r t.
+            ⊎-elim (λ (q : v ≡ u). subst T (ap (startable s m) q ∙ e) t)
+            (λ f.
+            ⊎-elim (λ c. h .1 v j (ltb-true v u c) r t)
+            (λ c.
+            let after : u < v = omega (arith, ltb-false v u c, f) in
+            let most : following s u ≤ v = following-most s u ok l v (row-unit s v r (startable-unit s m v t)) after in
+            omega arith)
+            (either (ltb v u)))
+            (same-or v u),
+      )
 
   pub looking-found : Importing s → u < rows s → startable s m u ≡ true → LowestFrom s m start u
   looking-found ok l e =
-      record { none = λ z. absurd (header z); some = λ f. (h .0, l, T-true (startable s m u) e); least = λ f. h .1 }
+      record { none = λ z. absurd (header z); some = λ f. (h .0, l, T-true (startable s m u) e); least = λ f v j b. h .1 v j b (omega arith) }
     where
       header : u ≡ 0 → ⊥
       header z = T-not (is s UNIT 0) (ok .header) (subst (λ (i : ℕ). T (is s UNIT i)) z (startable-unit s m u (T-true (startable s m u) e)))
 
   pub looking-none : rows s ≤ u → LowestFrom s m start 0
-  looking-none l = record { none = λ z v b k. h .1 v b (omega arith); some = λ f. absurd (f refl); least = λ f. absurd (f refl) }
+  looking-none l = record { none = λ z v b k. h .1 v b (omega arith) k; some = λ f. absurd (f refl); least = λ f. absurd (f refl) }
 
 -- By marks that are those of the units started: ready is startable.
 module _ (s : Sheet) (m started : List ℕ) (h : Marks s m started) where
@@ -155,7 +198,7 @@ pub record Running (s before m w list : List ℕ) (start n : ℕ) : Type 0 where
   pub marks : Marks s m (startedBy s n)
   pub waits : Waits s m w
   pub written : list ≡ sets before 0 (startedBy s n)
-  pub below : (v : ℕ) → v < start → T (startable s m v) → ⊥
+  pub below : (v : ℕ) → v < start → v < rows s → T (startable s m v) → ⊥
 
 pub running-start : (s before m w : List ℕ) → Marks s m [] → Waits s m w → Running s before m w before 0 0
 running-start s before m w h k =
@@ -192,7 +235,7 @@ module _ (s before m w list : List ℕ) (start n : ℕ) (h : Running s before m 
       none : (v : ℕ) → T (v ∈? units s) → T (ready (importsOf s) (startedBy s n) v) → ⊥
       none v k g =
           let t = ready-startable s m (startedBy s n) (h .marks) v k g in
-          ⊎-elim (λ b. h .below v (ltb-true v start b) t) (λ b. low .none e v (ltb-false v start b) (unit-row s v k .0) t) (either (ltb v start))
+          ⊎-elim (λ b. h .below v (ltb-true v start b) (unit-row s v k .0) t) (λ b. low .none e v (ltb-false v start b) (unit-row s v k .0) t) (either (ltb v start))
 
   -- unit u starts
   module _ (u : ℕ) (low : LowestFrom s m start u) (f : u ≡ 0 → ⊥) where
@@ -200,7 +243,7 @@ module _ (s before m w list : List ℕ) (start n : ℕ) (h : Running s before m 
     found = low .some f
 
     first-ready : (v : ℕ) → v < u → T (startable s m v) → ⊥
-    first-ready v l t = ⊎-elim (λ b. h .below v (ltb-true v start b) t) (λ b. low .least f v (ltb-false v start b) l t) (either (ltb v start))
+    first-ready v l t = ⊎-elim (λ b. h .below v (ltb-true v start b) (omega (arith, found .1)) t) (λ b. low .least f v (ltb-false v start b) l t) (either (ltb v start))
 
     pub next-is : startedBy s (n + 1) ≡ startedBy s n ++ u ∷ []
     next-is =
@@ -219,11 +262,12 @@ module _ (s before m w list : List ℕ) (start n : ℕ) (h : Running s before m 
     started-more = subst (Marks s (set m u (n + 1))) (sym next-is) (marks-more s m (startedBy s n) (h .marks) u n (found .1))
 
     -- a unit below the next place to look is not ready: it was not before, and it does not import u
-    module _ (importers : List ℕ) (low-is : Importers s importers) (v : ℕ) (l : v < afterStart importers u) (t : T (startable s (set m u (n + 1)) v)) where
+    module _ (importers : List ℕ) (low-is : Importers s importers) (ok : Importing s) (v : ℕ) (l : v < afterStart s importers u) (r : v < rows s)
+        (t : T (startable s (set m u (n + 1)) v)) where
       now : T (v ∈? units s) × T (ready (importsOf s) (startedBy s n ++ u ∷ []) v)
       now =
           subst (λ (x : List ℕ). T (v ∈? units s) × T (ready (importsOf s) x v)) next-is
-          (startable-ready s (set m u (n + 1)) (startedBy s (n + 1)) started-more v (omega (arith, found .1, after-most importers u)) t)
+          (startable-ready s (set m u (n + 1)) (startedBy s (n + 1)) started-more v r t)
 
       tests : T (not (v ∈? (startedBy s n ++ u ∷ []))) × T (all (λ x. x ∈? (startedBy s n ++ u ∷ [])) (importsOf s v))
       tests = T-and (not (v ∈? (startedBy s n ++ u ∷ []))) (all (λ x. x ∈? (startedBy s n ++ u ∷ [])) (importsOf s v)) (now .1)
@@ -232,13 +276,18 @@ module _ (s before m w list : List ℕ) (start n : ℕ) (h : Running s before m 
       apart e = T-not (v ∈? (startedBy s n ++ u ∷ [])) (tests .0) (in-last v u (startedBy s n) e)
 
       lower : v < u
-      lower = omega (arith, after-most importers u, apart)
+      lower =
+          ⊎-elim (λ c. ltb-true v u c)
+          (λ c.
+          let after : u < v = omega (arith, ltb-false v u c, apart) in
+          absurd
+          (omega (arith, after-most s importers u (following-above s u ok (found .1) .0), following-most s u ok (found .1) v (now .0) after)))
+          (either (ltb v u))
 
       importing : T (u ∈? importsOf s v) → ⊥
       importing k =
           let p = low-is .lowest v u (now .0) k in
-          ⊎-elim (λ (b : afterStart importers u ≤ getD importers u 0). omega (arith, p .1)) (λ (b : getD importers u 0 ≡ u). omega (arith, p .1, lower))
-          (after-low importers u (p .0))
+          omega (arith, p .1, lower, after-low s importers u (p .0) (omega (arith, p .1, lower)))
 
       was-ready : T (ready (importsOf s) (startedBy s n) v)
       was-ready =
@@ -253,9 +302,9 @@ module _ (s before m w list : List ℕ) (start n : ℕ) (h : Running s before m 
       none-below : ⊥
       none-below = first-ready v lower (ready-startable s m (startedBy s n) (h .marks) v (now .0) was-ready)
 
-    pub running-more : n < rows s → {importers m′ w′ list′ : List ℕ} {x : ℕ} → Importers s importers → Waits s m w′
-        → m′ ≡ set m u (n + 1) → list′ ≡ set list n u → x ≡ afterStart importers u → Running s before m′ w′ list′ x (n + 1)
-    running-more l {importers} {m′} {w′} {list′} {x} low-is k mark write to =
+    pub running-more : Importing s → n < rows s → {importers m′ w′ list′ : List ℕ} {x : ℕ} → Importers s importers → Waits s m w′
+        → m′ ≡ set m u (n + 1) → list′ ≡ set list n u → x ≡ afterStart s importers u → Running s before m′ w′ list′ x (n + 1)
+    running-more ok l {importers} {m′} {w′} {list′} {x} low-is k mark write to =
         rw (mark, write, to)
         (record {
           few = omega arith;
@@ -266,7 +315,7 @@ module _ (s before m w list : List ℕ) (start n : ℕ) (h : Running s before m 
               ap (λ (y : List ℕ). set y n u) (h .written)
               ∙ sym (sets-more before 0 (startedBy s n) (u ∷ []) {q = n} (omega (arith, h .long)))
               ∙ ap (sets before 0) (sym next-is);
-          below = λ v b t. none-below importers low-is v b t;
+          below = λ v b r t. none-below importers low-is ok v b r t;
         })
 
 -- tables of zeros

@@ -19,6 +19,7 @@ pub record Importing (s : Sheet) : Type 0 where
   pub header : T (not (is s UNIT 0))
   pub nexts : (r : ℕ) → r < rows s → Rises s r (next s r)
   pub children : (r : ℕ) → r < rows s → Rises s r (child s r)
+  pub in-line : (u v : ℕ) → T (u ∈? units s) → T (v ∈? units s) → u < v → (next s u ≡ 0 → ⊥) × (next s u ≤ v)
   pub closed : (u v : ℕ) → T (u ∈? units s) → T (v ∈? importsOf s u) → T (v ∈? units s)
 
 -- has unit v a mark? Those that have started do
@@ -54,6 +55,10 @@ pub record Waits (s : Sheet) (m w : List ℕ) : Type 0 where
 unfoldable pub waitingFrom : Sheet → List ℕ → ℕ → ℕ
 waitingFrom s w u = if eqb (getD w u 0) 0 then child s u else getD w u 0
 
+-- the row to look at after row u for a unit: after a unit the next one, or none; else the row after it
+unfoldable pub following : Sheet → ℕ → ℕ
+following s u = if is s UNIT u then (if eqb (next s u) 0 then 4294967295 else next s u) else u + 1
+
 -- x is the lowest unit from row `start` on that is ready, or 0
 pub record LowestFrom (s : Sheet) (m : List ℕ) (start x : ℕ) : Type 0 where
   pub none : x ≡ 0 → (v : ℕ) → start ≤ v → v < rows s → T (startable s m v) → ⊥
@@ -83,8 +88,8 @@ pub record Importers (s : Sheet) (low : List ℕ) : Type 0 where
   pub lowest : (u v : ℕ) → T (u ∈? units s) → T (v ∈? importsOf s u) → (0 < getD low v 0) × (getD low v 0 ≤ u)
 
 -- the row from which the next ready unit is looked for, after unit u has started: none below it has become ready
-unfoldable pub afterStart : List ℕ → ℕ → ℕ
-afterStart low u = if eqb (getD low u 0) 0 then u + 1 else if ltb (getD low u 0) u then getD low u 0 else u + 1
+unfoldable pub afterStart : Sheet → List ℕ → ℕ → ℕ
+afterStart s low u = if eqb (getD low u 0) 0 then following s u else if ltb (getD low u 0) u then getD low u 0 else following s u
 
 -- the marks are those of the units that have started
 pub record Marks (s : Sheet) (m started : List ℕ) : Type 0 where

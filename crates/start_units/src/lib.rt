@@ -4,13 +4,16 @@ ghost use mathlib.Core.List.{[]};
 ghost use Prim.Native.Nat.{_<_};
 ghost use Rattle.definition.specs.Sheet.{rows as rowsOf};
 ghost use Rattle.start_units.specs.Starting.{Importing, waitsFor, WaitsAt, Waits, waitingFrom, startable, LowestFrom, Unnoted, notedAt, notedUnit, Importers};
-ghost use Rattle.start_units.specs.Starting.{afterStart, Marks, Started};
+ghost use Rattle.start_units.specs.Starting.{following as followingRow, afterStart, Marks, Started};
 use ast::column;
 use ast::kind;
 use words::entry_at;
 use words::put_at;
 use words::put_entry;
 use words::word;
+
+// No row of a sheet.
+const NO_UNIT: u32 = 4294967295;
 
 // Is row `k` an import whose unit has no mark?
 fn waits_for(sheet: &[u32], k: u32, marks: &[u32]) -> bool
@@ -66,6 +69,18 @@ fn is_ready(sheet: &[u32], u: u32, marks: &[u32], waits: &mut [u32]) -> bool
     k == 0
 }
 
+// The row to look at after row `u` for a unit: after a unit the next one, or NO_UNIT; else the row after it.
+fn following(sheet: &[u32], u: u32) -> u32
+    requires { ⌜ u < 4294967295 ⌝ }
+    ensures { λ x. ⌜ x ≡ followingRow (now (sheet .entry)) u ⌝ }
+{
+    if word(sheet, u, column::KIND) != kind::UNIT {
+        return u + 1;
+    }
+    let next = word(sheet, u, column::NEXT);
+    if next == 0 { NO_UNIT } else { next }
+}
+
 // The lowest unit from row `start` on that is ready, or 0.
 fn lowest_ready(sheet: &[u32], start: u32, marks: &[u32], waits: &mut [u32]) -> u32
     requires { ⌜ Importing (now sheet) × Waits (now sheet) (now marks) (now waits) ⌝ }
@@ -76,7 +91,7 @@ fn lowest_ready(sheet: &[u32], start: u32, marks: &[u32], waits: &mut [u32]) -> 
         if is_ready(sheet, u, marks, waits) {
             return u;
         }
-        u += 1;
+        u = following(sheet, u);
     }
     0
 }
@@ -122,15 +137,18 @@ fn note_importers(sheet: &[u32], low: &mut [u32])
 }
 
 // The row from which the next ready unit is looked for, once `u` has started: a unit below `u` can only have become ready if it imports `u`.
-fn after_start(low: &[u32], u: u32) -> u32
+fn after_start(sheet: &[u32], low: &[u32], u: u32) -> u32
     requires { ⌜ u < 4294967295 ⌝ }
-    ensures { λ x. ⌜ x ≡ afterStart (now (low .entry)) u ⌝ }
+    ensures { λ x. ⌜ x ≡ afterStart (now (sheet .entry)) (now (low .entry)) u ⌝ }
 {
     let first = entry_at(low, u);
     if first == 0 {
-        return u + 1;
+        return following(sheet, u);
     }
-    if first < u { first } else { u + 1 }
+    if u <= first {
+        return following(sheet, u);
+    }
+    first
 }
 
 // Starts all units that ever get ready, and answers how many they are. Each gets as its mark how many have started with it, and is written into
@@ -154,7 +172,7 @@ fn start_all(
         }
         put_entry(marks, u, count as u32 + 1);
         put_at(list, count, u);
-        start = after_start(low, u);
+        start = after_start(sheet, low, u);
         count += 1;
     }
     count

@@ -4,7 +4,7 @@ use native.Mathlib.Omega.{arith}
 use lib.ListN.{length}
 use borrow.Author.Needs.{needs}
 use Rattle.definition.specs.Sheet.{rows as rowsOf}
-use Rattle.start_units.proofs.StartedLaws.{Looking, looking-more, looking-found, looking-none}
+use Rattle.start_units.proofs.StartedLaws.{following-above, Looking, looking-more, looking-found, looking-none}
 use Rattle.start_units.specs.Starting.{Waits}
 use Rattle.start_units.proofs.lowest_ready.Tie as tie
 use Rattle.start_units.proofs.lowest_ready.Statement.{statement}
@@ -46,27 +46,35 @@ returns c =
       is-ready .ensures .1,
     )
 
-add-u : tie.Need-add-u Inv-loop μ-loop
-add-u c =
+following-requires : tie.Need-following-requires Inv-loop μ-loop
+following-requires c κs =
     let loop-test = c .before .before .before .before .before .loop-test in
     let pre = c .before .before .before .before .before .before .before .before .before .before .pre in
     omega (arith, loop-test .taken, pre .0 .few)
 
 loop-less : tie.Need-loop-less Inv-loop μ-loop
-loop-less c = omega (arith, c .before .before .before .before .before .loop-test .taken)
+loop-less c =
+    let loop-test = c .before .before .before .before .before .before .loop-test in
+    let loop = c .before .before .before .before .before .before .before .loop in
+    let start = c .before .before .before .before .before .before .before .before .before .before .before in
+    let a = start .args in
+    let pre = start .pre in
+    omega (arith, loop-test .taken, c .following .ensures, following-above (a .sheet .now) (loop .u) (pre .0) (loop-test .taken) .0)
 
 loop-again : tie.Need-loop-again Inv-loop μ-loop
 loop-again c =
-    let is-ready = c .before .before .before .is-ready in
-    let loop-test = c .before .before .before .before .before .loop-test in
-    let loop = c .before .before .before .before .before .before .loop in
-    let start = c .before .before .before .before .before .before .before .before .before .before in
+    let if1 = c .before .if1 in
+    let is-ready = c .before .before .before .before .is-ready in
+    let loop-test = c .before .before .before .before .before .before .loop-test in
+    let loop = c .before .before .before .before .before .before .before .loop in
+    let start = c .before .before .before .before .before .before .before .before .before .before .before in
     let a = start .args in
     let pre = start .pre in (
-      looking-more (a .sheet .now) (a .marks .now) (a .start) (loop .u) (loop .inv .0) (sym (is-ready .ensures .0) ∙ c .if1 .left),
+      looking-more (a .sheet .now) (a .marks .now) (a .start) (loop .u) (loop .inv .0) (pre .0) (loop-test .taken)
+          (sym (is-ready .ensures .0) ∙ if1 .left) (c .following .ensures),
       is-ready .kept .1 .1 .1 .0 ∙ loop .inv .1,
       is-ready .ensures .1,
-      omega (arith, loop-test .taken, pre .0 .few),
+      omega (arith, c .following .ensures, following-above (a .sheet .now) (loop .u) (pre .0) (loop-test .taken) .1),
     )
 
 same-length-2 : tie.Need-same-length-2 Inv-loop μ-loop
@@ -89,7 +97,7 @@ lowest-ready-spec =
     is-ready-requires
     same-length
     returns
-    add-u
+    following-requires
     loop-less
     loop-again
     same-length-2

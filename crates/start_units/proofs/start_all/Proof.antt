@@ -103,7 +103,7 @@ loop-again c =
     let a = start .args in
     let pre = start .pre in (
       running-more (a .sheet .now) (a .list .now) (loop .marks) (loop .waits) (loop .list) (loop .start) (loop .count) (loop .inv .0)
-          (lowest-ready .result) (lowest-ready .ensures .0) (if1 .left) (loop-test .taken) (pre .1) (lowest-ready .ensures .1)
+          (lowest-ready .result) (lowest-ready .ensures .0) (if1 .left) (pre .0) (loop-test .taken) (pre .1) (lowest-ready .ensures .1)
           (put-entry .ensures) (put-at .ensures) (c .after-start .ensures),
       put-entry .kept .0 ∙ loop .inv .1,
       lowest-ready .kept .1 .1 .1 .0 ∙ loop .inv .2,
