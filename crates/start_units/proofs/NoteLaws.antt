@@ -154,7 +154,8 @@ noting-more s ok n low x l h e = subst (Noting s (n + 1)) (sym e) (go (is s UNIT
     unit : is s UNIT n ≡ true → Noting s (n + 1) (noted n (importsOf s n) low)
     unit t =
         let m : T (n ∈? units s) = row-unit s n l (T-true (is s UNIT n) t) in
-        let high : 0 < n = ⊎-elim (λ (z : n ≡ 0). absurd (T-not (is s UNIT 0) (ok .header) (subst (λ (i : ℕ). T (is s UNIT i)) z (T-true (is s UNIT n) t)))) (λ f. omega arith) (same-or n 0) in
+        let none : n ≡ 0 → ⊥ = λ z. T-not (is s UNIT 0) (ok .header) (subst (λ (i : ℕ). T (is s UNIT i)) z (T-true (is s UNIT n) t)) in
+        let high : 0 < n = omega (arith, none) in
         record {
           room = omega (arith, h .room, noted-long n (importsOf s n) low);
           below = noted-below n (importsOf s n) low (n + 1) (omega arith) (λ y. omega (arith, h .below y));

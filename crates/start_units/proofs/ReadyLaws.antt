@@ -173,7 +173,8 @@ module _ (s : Sheet) (ok : Importing s) (m w : List ℕ) (u : ℕ) (l : u < rows
       waits-none : eqb x 0 ≡ all (marked m) (importsOf s u)
       waits-none = go waiting-rest (eqb x 0) refl
         where
-          go : (p : (passed : List ℕ) × (importsOf s u ≡ passed ++ importsFrom s (waitingFrom s w u)) × T (all (marked m) passed)) (t : Bool) → eqb x 0 ≡ t → t ≡ all (marked m) (importsOf s u)
+          go : (p : (passed : List ℕ) × (importsOf s u ≡ passed ++ importsFrom s (waitingFrom s w u)) × T (all (marked m) passed)) (t : Bool)
+              → eqb x 0 ≡ t → t ≡ all (marked m) (importsOf s u)
           go p true e =
               sym (true-of (all (marked m) (importsOf s u))
               (subst (λ (y : List ℕ). T (all (marked m) y)) (sym (p .1)) (all-joined (marked m) (p .0) (importsFrom s (waitingFrom s w u)) (p .2) (k .none (eqb-true x 0 e)))))
