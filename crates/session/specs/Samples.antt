@@ -19,7 +19,7 @@ told w n s ns = report (enterOutcome little w n s ns 480)
 
 -- class A { init(a, p) { a.q = p; } m(a) {} } let f = || return nil; let var b = nil;
 -- Names: 25 A, 26 a, 27 p, 28 q, 29 m, 30 f, 31 b; 23 is init.
-abbrev sheet0 : Sheet
+abbrev pub sheet0 : Sheet
 sheet0 =
     0 ∷ 0 ∷ 1 ∷ 0 ∷ 0 ∷ 0 ∷ 0 ∷ 14 ∷
     2 ∷ 0 ∷ 2 ∷ 0 ∷ 0 ∷ 0 ∷ 0 ∷ 0 ∷
@@ -46,7 +46,7 @@ sheet0 =
     40 ∷ 0 ∷ 0 ∷ 0 ∷ 1 ∷ 22 ∷ 0 ∷ 0 ∷
     30 ∷ 0 ∷ 0 ∷ 0 ∷ 1 ∷ 23 ∷ 2 ∷ 0 ∷ []
 
-abbrev names0 : List ℕ
+abbrev pub names0 : List ℕ
 names0 = bytes "A\na\np\nq\nm\nf\nb\n"
 
 pub fresh-fits : sessionFits little (freshWords little) (freshBytes little) ≡ true
@@ -187,7 +187,7 @@ pub second-fits : sessionFits little words2 bytes2 ≡ true
 second-fits = refl
 
 -- let c = nil; n; let d = nil; -- n is not declared: 8, at row 7, with the entry's own number; the let before it has used up a global
-abbrev sheet2 : Sheet
+abbrev pub sheet2 : Sheet
 sheet2 =
     0 ∷ 0 ∷ 1 ∷ 0 ∷ 0 ∷ 0 ∷ 2 ∷ 2 ∷
     2 ∷ 0 ∷ 2 ∷ 0 ∷ 0 ∷ 0 ∷ 0 ∷ 0 ∷
