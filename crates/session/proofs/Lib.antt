@@ -32,3 +32,7 @@ pub mod UnitEvents
 pub mod UnitStack
 pub mod Pushed
 pub mod NewLaid
+-- A withdrawal, and runs.
+pub mod SameRows
+pub mod FirstNames
+pub mod Cut
