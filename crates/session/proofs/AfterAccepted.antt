@@ -179,13 +179,27 @@ module _ (R : Room) (wide : Wide R) (w n : List ℕ) (fit : sessionFits R w n �
       × (sessionAt R few many w n fit s ns lent e g x ≡ record { globals = x .globals; entries = S .entries ++ e ∷ [] })
   chosen e h g x q = (rw q, rw q, rw q)
 
+  number-in : enterOutcome R w n s ns lent .number ≡ 0 → entered S s ns lent .number ≡ 0
+  number-in z = ap (λ (o : Outcome). o .number) (sym (outcome-in R few many w n fit s ns lent)) ∙ z
+
+  -- the words and bytes after it have it added
+  pub accepted-added : enterOutcome R w n s ns lent .number ≡ 0
+      → Added R w n (enterWords R w n s ns lent) (enterBytes R w n s ns lent) (entered S s ns lent .globals) (newEntry S s ns)
+  accepted-added z =
+      let x : Outcome = entered S s ns lent in
+      let e : Accepted = newEntry S s ns in
+      let c = chosen e (afterEntry S s ns lent .globals) (nextGlobal (outsideOf S) t) x (number-in z) in
+      subst (λ (v : List ℕ). Added R w n v (enterBytes R w n s ns lent) (x .globals) e) (sym (words-are R few many w n fit s ns lent ∙ c .0))
+      (subst (λ (m : List ℕ). Added R w n (wordsWith R w (x .globals) e) m (x .globals) e) (sym (bytes-are R few many w n fit s ns lent ∙ c .1))
+      (added R w n (x .globals) e (roomy R wide w n fit (x .globals) e (taken (number-in z) .room))))
+
   pub after-accepted : enterOutcome R w n s ns lent .number ≡ 0
       → GoodParts S (getD w 1 0) (getD w 3 0 + length (newNames S ns)) (entered S s ns lent .globals) (newEntry S s ns)
       → Holds R (enterWords R w n s ns lent) (enterBytes R w n s ns lent) (afterEntry S s ns lent)
   after-accepted z good =
       let x : Outcome = entered S s ns lent in
       let e : Accepted = newEntry S s ns in
-      let q : x .number ≡ 0 = ap (λ (o : Outcome). o .number) (sym (outcome-in R few many w n fit s ns lent)) ∙ z in
+      let q : x .number ≡ 0 = number-in z in
       let k : Taken S s ns t (x .globals) = taken q in
       let c = chosen e (afterEntry S s ns lent .globals) (nextGlobal (outsideOf S) t) x q in
       holds-with R wide w n fit (x .globals) e (enterWords R w n s ns lent) (enterBytes R w n s ns lent) (afterEntry S s ns lent)

@@ -85,7 +85,7 @@ good-parts R w n fit s ns g k =
     unit : (u : ℕ) × (f : ℕ) × (b : ℕ) × UnitRows t u f b
     unit = unit-rows (24 + N) t facts (a .some-row) (a .one) (a .alone)
 
-wide : Wide whole
+pub wide : Wide whole
 wide = record { bytes = refl; entries = refl; laid = refl; classes = refl; members = refl }
 
 module _ (w n : List ℕ) (s : Sheet) (ns : List ℕ) (lent : ℕ) (fit : sessionFits whole w n ≡ true) where

@@ -36,3 +36,4 @@ pub mod NewLaid
 pub mod SameRows
 pub mod FirstNames
 pub mod Cut
+pub mod Withdrawal
