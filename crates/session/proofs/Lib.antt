@@ -37,3 +37,4 @@ pub mod SameRows
 pub mod FirstNames
 pub mod Cut
 pub mod Withdrawal
+pub mod RunLaws

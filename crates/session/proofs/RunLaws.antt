@@ -1,0 +1,125 @@
+-- Any run of entries, refused entries and withdrawals from a fresh session: the session is good after it, and its entries are the accepted ones left.
+use mathlib.Core.Path.{_≡_, refl, sym, ap, _∙_, subst}
+use mathlib.Core.Bool.{Bool, true, false, not, _&&_}
+use mathlib.Core.List.{List, [], _∷_, _++_}
+use Prim.Native.Nat.{ℕ, _-_}
+use native.Mathlib.Omega.{arith}
+use lib.ListN.{length, getD, take, drop}
+use lib.Dec.{eqb, leb, T}
+use Rattle.definition.specs.Basics.{if_then_else_, concatMap, distinct}
+use Rattle.definition.specs.Names.{listed}
+use Rattle.definition.specs.Meaning.{Named}
+use Rattle.definition.specs.Outside.{core}
+use Rattle.definition.specs.Sheet.{Sheet}
+use Rattle.definition.specs.Outcome.{Outcome}
+use Rattle.session.specs.Session.{Class, Accepted, Session, fresh, allClasses, backward, visible}
+use Rattle.session.specs.Enter.{newEntry, entered, afterEntry}
+use Rattle.session.specs.Words.{whole, nameBytes, sessionIn, sessionFits, enterOutcome}
+use Rattle.session.specs.Withdraw.{withdrawn, wordsWithout}
+use Rattle.session.specs.Runs.{Memory, Request, entry, withdrawal, Effect, accepted, withdrew, refusal, effect, afterRequest, afterRun, effects, freshMemory, stacked, entriesLeft}
+use Rattle.session.proofs.HeldRuns.{held-listed}
+use Rattle.session.proofs.Asked.{outcome-in}
+use Rattle.session.proofs.Theorems.{fresh-fits, fresh-held}
+use Rattle.session.proofs.Kept.{after-fits, after-held}
+use Rattle.session.proofs.Withdrawal.{but-last, withdraw-fits, withdraw-held}
+
+-- Memory M holds a good session whose entries are those of a stack.
+record Holding (M : Memory) (es : List Accepted) : Type 0 where
+  fits : sessionFits whole (M .words) (M .bytes) ≡ true
+  held : sessionIn whole (M .words) (M .bytes) .entries ≡ backward es
+
+-- what a run does to a stack, request by request
+stacked-more : (es : List Accepted) (x : Effect) (xs : List Effect) → stacked es (x ∷ xs) ≡ stacked (stacked es (x ∷ [])) xs
+stacked-more es (accepted e) xs = refl
+stacked-more es withdrew xs = refl
+stacked-more es refusal xs = refl
+
+-- all entries but the latest
+popped : (es : List Accepted) → take (length (backward es) - 1) (backward es) ≡ backward (drop 1 es)
+popped [] = refl
+popped (e ∷ es) = but-last (backward es) e
+
+module _ (M : Memory) (es : List Accepted) (h : Holding M es) where
+  abbrev S : Session
+  S = sessionIn whole (M .words) (M .bytes)
+
+  entered-held : (s : Sheet) (ns : List ℕ) (lent : ℕ) → Holding (afterRequest whole M (entry s ns lent)) (stacked es (effect whole M (entry s ns lent) ∷ []))
+  entered-held s ns lent =
+      record {
+        fits = after-fits (M .words) (M .bytes) s ns lent (h .fits);
+        held =
+            ap (λ (Z : Session). Z .entries) (after-held (M .words) (M .bytes) s ns lent (h .fits))
+            ∙ by (eqb (entered S s ns lent .number) 0) (leb 5 (entered S s ns lent .number) && leb (entered S s ns lent .number) 21) (entered S s ns lent .globals) _
+            ∙ ap (λ (o : Outcome). backward (stacked es ((if eqb (o .number) 0 then accepted (newEntry S s ns) else refusal) ∷ [])))
+            (sym (outcome-in whole (omega arith) (omega arith) (M .words) (M .bytes) (h .fits) s ns lent));
+      }
+    where
+      by : (t u : Bool) (g k : ℕ)
+          → (if t then record { globals = g; entries = S .entries ++ newEntry S s ns ∷ [] } else if u then record { globals = k; entries = S .entries } else S) .entries
+          ≡ backward (stacked es ((if t then accepted (newEntry S s ns) else refusal) ∷ []))
+      by true u g k = ap (λ (l : List Accepted). l ++ newEntry S s ns ∷ []) (h .held)
+      by false true g k = h .held
+      by false false g k = h .held
+
+  withdrawn-held : Holding (afterRequest whole M withdrawal) (stacked es (effect whole M withdrawal ∷ []))
+  withdrawn-held =
+      record {
+        fits = withdraw-fits whole (M .words) (M .bytes) (h .fits);
+        held = by (sessionFits whole (M .words) (M .bytes)) (eqb (getD (M .words) 1 0) 0) (h .fits) (withdraw-held whole (M .words) (M .bytes) (h .fits));
+      }
+    where
+      -- the question that gets a no, by whether the session fits and has no entry
+      no : Bool → Bool → ℕ
+      no f t = if not f then 23 else if t then 25 else 0
+
+      after : Bool → Bool → Session
+      after f t = sessionIn whole (if eqb (no f t) 0 then wordsWithout whole (M .words) (M .bytes) else M .words) (M .bytes)
+
+      by : (f t : Bool) → f ≡ true → after f t ≡ withdrawn S → after f t .entries ≡ backward (stacked es ((if eqb (no f t) 0 then withdrew else refusal) ∷ []))
+      by true true q k = h .held
+      by true false q k = ap (λ (Z : Session). Z .entries) k ∙ ap (λ (l : List Accepted). take (length l - 1) l) (h .held) ∙ popped es
+      by false t q k = absurd (subst T (sym q) tt)
+
+  request-held : (q : Request) → Holding (afterRequest whole M q) (stacked es (effect whole M q ∷ []))
+  request-held (entry s ns lent) = entered-held s ns lent
+  request-held withdrawal = withdrawn-held
+
+run-held : (M : Memory) (es : List Accepted) (qs : List Request) → Holding M es → Holding (afterRun whole M qs) (stacked es (effects whole M qs))
+run-held M es [] h = h
+run-held M es (q ∷ qs) h =
+    subst (Holding (afterRun whole M (q ∷ qs))) (sym (stacked-more es (effect whole M q) (effects whole (afterRequest whole M q) qs)))
+    (run-held (afterRequest whole M q) (stacked es (effect whole M q ∷ [])) qs (request-held M es h q))
+
+-- After a run qs from a fresh session:
+module _ (qs : List Request) where
+  abbrev pub memory : Memory
+  memory = afterRun whole (freshMemory whole) qs
+
+  abbrev pub session : Session
+  session = sessionIn whole (memory .words) (memory .bytes)
+
+  abbrev pub leftOf : List Accepted
+  leftOf = entriesLeft (effects whole (freshMemory whole) qs)
+
+  from-fresh : Holding (afterRun whole (freshMemory whole) qs) (stacked [] (effects whole (freshMemory whole) qs))
+  from-fresh = run-held (freshMemory whole) [] qs (record { fits = fresh-fits whole; held = ap (λ (Z : Session). Z .entries) (fresh-held whole) })
+
+  -- the words and bytes pass question 23,
+  pub run-fits : sessionFits whole (memory .words) (memory .bytes) ≡ true
+  run-fits = from-fresh .fits
+
+  -- the session's entries are the accepted ones left,
+  pub run-left : session .entries ≡ leftOf
+  run-left = from-fresh .held
+
+  -- so the visible names are theirs, a later one over an earlier, laid over the nine core names,
+  pub run-visible : visible session ≡ distinct (λ x y. eqb (x .name) (y .name)) (backward (concatMap (λ e. e .laid) leftOf) ++ core .names)
+  run-visible = ap (λ (l : List Accepted). distinct (λ (x y : Named). eqb (x .name) (y .name)) (backward (concatMap (λ e. e .laid) l) ++ core .names)) run-left
+
+  -- the listed names are theirs,
+  pub run-names : listed (nameBytes whole (memory .words) (memory .bytes)) ≡ concatMap (λ e. e .names) leftOf
+  run-names = sym (held-listed whole (memory .words) (memory .bytes) run-fits) ∙ ap (concatMap (λ e. e .names)) run-left
+
+  -- and the classes.
+  pub run-classes : allClasses session ≡ concatMap (λ e. e .classes) leftOf
+  run-classes = ap (concatMap (λ e. e .classes)) run-left
