@@ -42,7 +42,8 @@ fn cut_counts(words: &mut [u32])
     requires { ⌜ (0 < getD (now words) 1 0) × (getD (now words) 1 0 ≤ 1000) ⌝ }
     ensures { λ _. ⌜ now (words .exit) ≡ wordsWithout whole (now (words .entry)) [] ⌝ }
 {
-    let left = number_at(words, layout::ENTRIES) - 1;
+    let entries = number_at(words, layout::ENTRIES);
+    let left = entries - 1;
     let names = count_before(words, left, count::NAMES);
     let bytes = count_before(words, left, count::NAME_BYTES);
     let laid = count_before(words, left, count::DECLARATIONS);
