@@ -1,0 +1,3 @@
+-- What a withdrawal as text promises, and replies computed.
+pub mod Reply
+pub mod Examples
