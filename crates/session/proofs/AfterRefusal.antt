@@ -64,9 +64,9 @@ module _ (R : Room) (few : R .laid ≤ 4096) (many : R .members ≤ 8192) (w n :
       × (sessionAt e g x ≡ (if leb 5 (x .number) && leb (x .number) 21 then record { globals = g; entries = S .entries } else S))
   not-accepted e g h x q = (rw q, rw q, rw q)
 
-  bounds : leb 5 (entered S s ns lent .number) && leb (entered S s ns lent .number) 21 ≡ true
+  pub next-bounds : leb 5 (entered S s ns lent .number) && leb (entered S s ns lent .number) 21 ≡ true
       → (getD w 0 0 ≤ nextGlobal (outsideOf S) t) × (nextGlobal (outsideOf S) t ≤ 1002048)
-  bounds f =
+  next-bounds f =
       let k : ℕ = entered S s ns lent .number in
       let a : Asked S s ns t = asked-entry R few many w n fit s ns lent
       (inr (leb→le 5 k (and-left (leb 5 k) (leb k 21) (T-true (leb 5 k && leb k 21) f)), leb→le k 21 (and-right (leb 5 k) (leb k 21) (T-true (leb 5 k && leb k 21) f)))) .0 in
@@ -86,4 +86,4 @@ module _ (R : Room) (few : R .laid ≤ 4096) (many : R .members ≤ 8192) (w n :
       let q : eqb (x .number) 0 ≡ false = ne-eqb (x .number) 0 (λ p. z (ap (λ (o : Outcome). o .number) (outcome-in R few many w n fit s ns lent) ∙ p)) in
       let c = not-accepted e g (afterEntry S s ns lent .globals) x q in
       subst (λ (m : List ℕ). Holds R (enterWords R w n s ns lent) m (afterEntry S s ns lent)) (sym (bytes-are ∙ c .1))
-      (refused-by R w n fit (leb 5 (x .number) && leb (x .number) 21) g (enterWords R w n s ns lent) (afterEntry S s ns lent) (words-are ∙ c .0) (c .2) bounds)
+      (refused-by R w n fit (leb 5 (x .number) && leb (x .number) 21) g (enterWords R w n s ns lent) (afterEntry S s ns lent) (words-are ∙ c .0) (c .2) next-bounds)

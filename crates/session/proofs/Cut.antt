@@ -8,11 +8,10 @@ use lib.ListN.{length, getD, take, drop, List·getD-append, length-map, take-app
 use lib.Seq.{take-at, take-take, length-take-le}
 use lib.Dec.{eqb, leb, T, eqb→eq, leb→le}
 use borrow.Author.Tests.{le-leb}
-use Rattle.definition.specs.Basics.{if_then_else_, all, every, from, concatMap}
+use Rattle.definition.specs.Basics.{all, every, from, concatMap}
 use Rattle.definition.specs.Names.{Name, listed, sameName, namesFit}
 use Rattle.definition.proofs.Lists.Tests.{and-both, and-left, and-right, T-true, true-of, pick, eqb-of}
 use Rattle.definition.proofs.Lists.Members.{from-mem, map-same, map-append}
-use Rattle.session.specs.Session.{Accepted, Session}
 use Rattle.session.specs.Words.{Room, ended, fixedBytes, sessionSize, countAfter, partOf, nameBytes, laidIn, membersBefore, classIn, entryIn, sessionIn}
 use Rattle.session.specs.Words.{countsFit, sessionNamesFit, bytesOf, rowFits, laidFits, classFits, entryNumbersFit, numbersFit, sessionFits}
 use Rattle.session.proofs.Renaming.{all-from}

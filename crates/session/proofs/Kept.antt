@@ -2,12 +2,12 @@
 use mathlib.Core.Path.{_≡_, refl, sym, ap, _∙_, subst}
 use mathlib.Core.Bool.{Bool, true, false, _&&_}
 use mathlib.Core.List.{List, List·Memᴰ as Mem}
-use Prim.Native.Nat.{ℕ, _+_, _-_, _*_, _/_}
+use Prim.Native.Nat.{ℕ, _+_, _-_, _*_, _/_, _≤_}
 use native.Mathlib.Omega.{arith}
 use lib.ListN.{length, getD, length-append}
-use lib.Dec.{eqb, ltb, T}
+use lib.Dec.{eqb, leb, ltb, T}
 use borrow.Author.Tests.{eqb-true, eqb-false}
-use Rattle.definition.specs.Basics.{all}
+use Rattle.definition.specs.Basics.{if_then_else_, all}
 use Rattle.definition.specs.Names.{fixed, listed}
 use Rattle.definition.specs.Sheet.{Sheet, is}
 use Rattle.definition.specs.Outside.{Outside}
@@ -15,12 +15,12 @@ use Rattle.definition.specs.Outcome.{Outcome}
 use Rattle.definition.proofs.Format.Facts.{SheetFacts}
 use Rattle.session.specs.Session.{Session, allNames, allClasses, baseOf, outsideOf}
 use Rattle.session.specs.Entry.{newNames, namesWith, entrySheet}
-use Rattle.session.specs.Enter.{classBy, classesBy, newEntry, entered, afterEntry}
+use Rattle.session.specs.Enter.{classBy, classesBy, nextGlobal, newEntry, accepting, entered, afterEntry}
 use Rattle.session.specs.Words.{Room, whole, nameBytes, sessionIn, sessionFits, enterOutcome, enterWords, enterBytes}
 use Rattle.session.proofs.HeldRuns.{held-names, names-listed}
 use Rattle.session.proofs.CountLaws.{entry-count}
 use Rattle.session.proofs.Asked.{Asked, outcome-in}
-use Rattle.session.proofs.AfterRefusal.{Holds, after-refusal}
+use Rattle.session.proofs.AfterRefusal.{Holds, next-bounds, after-refusal}
 use Rattle.session.proofs.AfterAccepted.{Wide, Taken, GoodParts, taken, after-accepted}
 use Rattle.session.proofs.EarlierClasses.{numbers-below, records-good}
 use Rattle.session.proofs.NewMembers.{goodRecord}
@@ -104,6 +104,21 @@ module _ (w n : List ℕ) (s : Sheet) (ns : List ℕ) (lent : ℕ) (fit : sessio
       go true q = accepted (eqb-true (enterOutcome whole w n s ns lent .number) 0 q)
       go false q = after-refusal whole (omega arith) (omega arith) w n fit s ns lent (eqb-false (enterOutcome whole w n s ns lent .number) 0 q)
 
+  -- no global is given back
+  globals-kept : getD w 0 0 ≤ afterEntry S s ns lent .globals
+  globals-kept = go (eqb (k .number) 0) refl (leb 5 (k .number) && leb (k .number) 21) refl
+    where
+      k : Outcome
+      k = entered S s ns lent
+
+      go : (t : Bool) → eqb (entered S s ns lent .number) 0 ≡ t → (u : Bool) → (leb 5 (entered S s ns lent .number) && leb (entered S s ns lent .number) 21) ≡ u
+          → getD w 0 0
+          ≤ (if t then accepting S s ns lent (entered S s ns lent)
+          else if u then record { globals = nextGlobal (outsideOf S) (entrySheet S ns s); entries = S .entries } else S) .globals
+      go true q u r = let x = taken whole wide w n fit s ns lent (eqb-true (entered S s ns lent .number) 0 q) in omega (arith, x .count, x .asked .above)
+      go false q true r = next-bounds whole (omega arith) (omega arith) w n fit s ns lent r .0
+      go false q false r = omega arith
+
 -- The words and bytes after an entry, accepted or refused, pass question 23 if those before it did.
 pub after-fits : (w n : List ℕ) (s : Sheet) (ns : List ℕ) (lent : ℕ) → sessionFits whole w n ≡ true → sessionFits whole (enterWords whole w n s ns lent) (enterBytes whole w n s ns lent) ≡ true
 after-fits w n s ns lent fit = after-holds w n s ns lent fit .fits
@@ -112,3 +127,7 @@ after-fits w n s ns lent fit = after-holds w n s ns lent fit .fits
 pub after-held : (w n : List ℕ) (s : Sheet) (ns : List ℕ) (lent : ℕ) → sessionFits whole w n ≡ true
     → sessionIn whole (enterWords whole w n s ns lent) (enterBytes whole w n s ns lent) ≡ afterEntry (sessionIn whole w n) s ns lent
 after-held w n s ns lent fit = after-holds w n s ns lent fit .held
+
+-- No entry gives a global back.
+pub after-globals : (w n : List ℕ) (s : Sheet) (ns : List ℕ) (lent : ℕ) → sessionFits whole w n ≡ true → getD w 0 0 ≤ getD (enterWords whole w n s ns lent) 0 0
+after-globals w n s ns lent fit = omega (arith, globals-kept w n s ns lent fit, ap (λ (Z : Session). Z .globals) (after-held w n s ns lent fit))

@@ -1,4 +1,4 @@
--- Theorems on sessions. A reader who trusts the check needs Theorems and Kept alone.
+-- Theorems on sessions. A reader who trusts the check needs Theorems, Kept, Withdrawal and RunLaws alone.
 pub mod Theorems
 pub mod NameLaws
 pub mod RowLaws
@@ -32,9 +32,9 @@ pub mod UnitEvents
 pub mod UnitStack
 pub mod Pushed
 pub mod NewLaid
--- A withdrawal, and runs.
+-- A withdrawal leaves a good session good, and after any run the accepted entries left are there.
+pub mod Withdrawal
+pub mod RunLaws
 pub mod SameRows
 pub mod FirstNames
 pub mod Cut
-pub mod Withdrawal
-pub mod RunLaws

@@ -2,25 +2,29 @@
 use mathlib.Core.Path.{_≡_, refl, sym, ap, _∙_, subst}
 use mathlib.Core.Bool.{Bool, true, false, not, _&&_}
 use mathlib.Core.List.{List, [], _∷_, _++_}
-use Prim.Native.Nat.{ℕ, _-_}
+use Prim.Native.Nat.{ℕ, suc, _-_, _≤_}
 use native.Mathlib.Omega.{arith}
+use native.Mathlib.Numerals.{sub-one}
 use lib.ListN.{length, getD, take, drop}
 use lib.Dec.{eqb, leb, T}
+use borrow.Author.Tests.{ne-eqb}
 use Rattle.definition.specs.Basics.{if_then_else_, concatMap, distinct}
-use Rattle.definition.specs.Names.{listed}
+use Rattle.definition.specs.Names.{fixed, listed}
 use Rattle.definition.specs.Meaning.{Named}
 use Rattle.definition.specs.Outside.{core}
 use Rattle.definition.specs.Sheet.{Sheet}
 use Rattle.definition.specs.Outcome.{Outcome}
-use Rattle.session.specs.Session.{Class, Accepted, Session, fresh, allClasses, backward, visible}
-use Rattle.session.specs.Enter.{newEntry, entered, afterEntry}
-use Rattle.session.specs.Words.{whole, nameBytes, sessionIn, sessionFits, enterOutcome}
+use Rattle.definition.proofs.Lists.Tests.{T-true, true-of}
+use Rattle.session.specs.Session.{Accepted, Session, allClasses, backward, visible}
+use Rattle.session.specs.Enter.{newEntry, entered}
+use Rattle.session.specs.Words.{whole, nameBytes, sessionIn, sessionNamesFit, sessionFits, nameText}
 use Rattle.session.specs.Withdraw.{withdrawn, wordsWithout}
 use Rattle.session.specs.Runs.{Memory, Request, entry, withdrawal, Effect, accepted, withdrew, refusal, effect, afterRequest, afterRun, effects, freshMemory, stacked, entriesLeft}
+use Rattle.session.proofs.SessionLaws.{clauses}
 use Rattle.session.proofs.HeldRuns.{held-listed}
 use Rattle.session.proofs.Asked.{outcome-in}
 use Rattle.session.proofs.Theorems.{fresh-fits, fresh-held}
-use Rattle.session.proofs.Kept.{after-fits, after-held}
+use Rattle.session.proofs.Kept.{after-fits, after-held, after-globals}
 use Rattle.session.proofs.Withdrawal.{but-last, withdraw-fits, withdraw-held}
 
 -- Memory M holds a good session whose entries are those of a stack.
@@ -90,6 +94,22 @@ run-held M es (q ∷ qs) h =
     subst (Holding (afterRun whole M (q ∷ qs))) (sym (stacked-more es (effect whole M q) (effects whole (afterRequest whole M q) qs)))
     (run-held (afterRequest whole M q) (stacked es (effect whole M q ∷ [])) qs (request-held M es h q))
 
+-- A run from a good session on gives no global back.
+pub run-globals : (M : Memory) (qs : List Request) → sessionFits whole (M .words) (M .bytes) ≡ true → getD (M .words) 0 0 ≤ getD (afterRun whole M qs .words) 0 0
+run-globals M [] fit = omega arith
+run-globals M (entry s ns lent ∷ qs) fit =
+    omega (
+      arith,
+      after-globals (M .words) (M .bytes) s ns lent fit,
+      run-globals (afterRequest whole M (entry s ns lent)) qs (after-fits (M .words) (M .bytes) s ns lent fit),
+    )
+run-globals M (withdrawal ∷ qs) fit =
+    omega (
+      arith,
+      ap (λ (Z : Session). Z .globals) (withdraw-held whole (M .words) (M .bytes) fit),
+      run-globals (afterRequest whole M withdrawal) qs (withdraw-fits whole (M .words) (M .bytes) fit),
+    )
+
 -- After a run qs from a fresh session:
 module _ (qs : List Request) where
   abbrev pub memory : Memory
@@ -116,9 +136,18 @@ module _ (qs : List Request) where
   pub run-visible : visible session ≡ distinct (λ x y. eqb (x .name) (y .name)) (backward (concatMap (λ e. e .laid) leftOf) ++ core .names)
   run-visible = ap (λ (l : List Accepted). distinct (λ (x y : Named). eqb (x .name) (y .name)) (backward (concatMap (λ e. e .laid) l) ++ core .names)) run-left
 
-  -- the listed names are theirs,
+  -- the names are the fixed ones and theirs, by number,
   pub run-names : listed (nameBytes whole (memory .words) (memory .bytes)) ≡ concatMap (λ e. e .names) leftOf
   run-names = sym (held-listed whole (memory .words) (memory .bytes) run-fits) ∙ ap (concatMap (λ e. e .names)) run-left
+
+  pub run-texts : (ns : List ℕ) (k : ℕ) → nameText whole (memory .words) (memory .bytes) ns false (suc k) ≡ getD (fixed ++ concatMap (λ e. e .names) leftOf) k []
+  run-texts ns k =
+      rw (
+        true-of (sessionNamesFit whole (memory .words) (memory .bytes)) (clauses whole (memory .words) (memory .bytes) (T-true _ run-fits) 1),
+        ne-eqb (suc k) 0 (λ z. omega (arith, z)),
+        run-names,
+        sub-one,
+      )
 
   -- and the classes.
   pub run-classes : allClasses session ≡ concatMap (λ e. e .classes) leftOf

@@ -1,22 +1,21 @@
 -- A withdrawal leaves a good session good, without its latest entry; right after an accepted entry it gives back the session before it.
-use mathlib.Core.Path.{_≡_, refl, sym, ap, _∙_, subst}
+use mathlib.Core.Path.{_≡_, refl, sym, ap, _∙_}
 use mathlib.Core.Logic.{_⊎_, inl, inr}
-use mathlib.Core.Bool.{Bool, true, false, not, _&&_, _||_}
+use mathlib.Core.Bool.{Bool, true, false, not}
 use mathlib.Core.List.{List, [], _∷_, _++_, map}
 use Prim.Native.Nat.{ℕ, zero, suc, _+_, _-_, _<_, _≤_}
 use native.Mathlib.Omega.{arith}
 use lib.ListN.{length, getD, set, take, length-append, length-set}
-use lib.Seq.{sets, length-sets, getD-set-same, getD-set-other, take-at}
-use lib.Dec.{eqb, leb, T, leb→le}
-use borrow.Author.Tests.{eqb-true, eqb-false}
+use lib.Seq.{length-sets, getD-set-same, getD-set-other, take-at}
+use lib.Dec.{eqb, leb, leb→le}
+use borrow.Author.Tests.{eqb-true}
 use Rattle.definition.specs.Basics.{if_then_else_, from, concatMap, total}
-use Rattle.definition.specs.Names.{Name, fixed, listed, namesFit}
 use Rattle.definition.specs.Sheet.{Sheet}
 use Rattle.definition.specs.Outcome.{Outcome}
 use Rattle.definition.proofs.Lists.Tests.{T-true, true-of, pick}
 use Rattle.machine.proofs.Words.{sets-out, sets-in}
 use Rattle.session.specs.Session.{Accepted, Session, allClasses, visible, memberCount}
-use Rattle.session.specs.Enter.{newEntry, accepting, askedIn, entered, afterEntry}
+use Rattle.session.specs.Enter.{newEntry, askedIn, entered, afterEntry}
 use Rattle.session.specs.Words.{Room, whole, ended, fixedBytes, entryPlace, laidPlace, classPlace, memberPlace, sessionSize, countAfter, nameBytes, sessionIn, sessionNamesFit, sessionFits}
 use Rattle.session.specs.Words.{enterOutcome, enterWords, enterBytes, nameText}
 use Rattle.session.specs.Withdraw.{withdrawn, hasChild, wordsWithout, withdrawNo, withdrawWords}
@@ -26,7 +25,7 @@ use Rattle.session.proofs.CountLaws.{names-count, names-end, ended-back
 use Rattle.session.proofs.Asked.{outcome-in}
 use Rattle.session.proofs.AfterRefusal.{Holds}
 use Rattle.session.proofs.Added.{Added}
-use Rattle.session.proofs.AfterAccepted.{Wide, accepted-added}
+use Rattle.session.proofs.AfterAccepted.{accepted-added}
 use Rattle.session.proofs.Kept.{wide, after-fits, after-held}
 use Rattle.session.proofs.Cut.{Cut, cut-fits, cut-held}
 

@@ -12,8 +12,8 @@ use Rattle.definition.specs.Outcome.{report}
 use Rattle.session.specs.Session.{visible}
 use Rattle.session.specs.Words.{sessionIn, sessionFits, nameText}
 use Rattle.session.specs.Withdraw.{hasChild, withdrawNo, withdrawOutcome, withdrawWords}
-use Rattle.session.specs.Runs.{Memory, Request, entry, withdrawal, Effect, accepted, withdrew, refusal, afterRun, effects, freshMemory, entriesLeft}
-use Rattle.session.specs.Samples.{little, told, sheet0, names0, sheet1, names1, sheet2, sheet3, words1, bytes1, words2, bytes2}
+use Rattle.session.specs.Runs.{Request, entry, withdrawal, Effect, accepted, withdrew, refusal, afterRun, effects, freshMemory, entriesLeft}
+use Rattle.session.specs.Samples.{little, told, sheet0, names0, sheet1, names1, sheet2, sheet3, words2, bytes2}
 
 -- The second entry is withdrawn: the counts are those of the first alone, but for the globals, and all rows still stand.
 abbrev pub words3 : List ℕ

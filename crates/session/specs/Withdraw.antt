@@ -1,6 +1,6 @@
 -- A withdrawal, request F-7 of document 02: the latest accepted entry is taken back. Its globals stay used, since a running script may hold values there.
 use mathlib.Core.Bool.{Bool, not}
-use mathlib.Core.List.{List, [], map}
+use mathlib.Core.List.{List, map}
 use Prim.Native.Nat.{ℕ, _-_}
 use lib.ListN.{length, getD, set, take}
 use lib.Seq.{sets}

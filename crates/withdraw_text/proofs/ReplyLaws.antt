@@ -4,10 +4,10 @@ use mathlib.Core.Bool.{Bool, true, false}
 use mathlib.Core.List.{List, [], _∷_, _++_}
 use Prim.Native.Nat.{ℕ, zero, suc, _*_, _<_, _≤_}
 use native.Mathlib.Omega.{arith}
-use lib.ListN.{length, getD, take, drop, replicate, length-append, length-take, length-replicate}
+use lib.ListN.{length, getD, drop, length-append, length-take, length-replicate}
 use lib.Dec.{leb}
 use borrow.Author.Tests.{le-leb, lt-leb}
-use Rattle.definition.specs.Basics.{if_then_else_, concatMap}
+use Rattle.definition.specs.Basics.{if_then_else_}
 use Rattle.definition.specs.Sheet.{rows}
 use Rattle.definition.specs.Text.{textOf}
 use Rattle.definition.proofs.Format.Accepted.{Eights}

@@ -1,7 +1,6 @@
 -- Replies, computed.
 use mathlib.Core.Path.{_≡_, refl}
-use mathlib.Core.List.{List, [], _∷_, _++_, map}
-use Prim.Native.Nat.{ℕ}
+use mathlib.Core.List.{[], _∷_, map}
 use lib.ListN.{set}
 use Rattle.definition.specs.Text.{textOf}
 use Rattle.definition.specs.Answer.{eight}

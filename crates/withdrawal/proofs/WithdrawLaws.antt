@@ -7,7 +7,7 @@ use native.Mathlib.Omega.{arith}
 use lib.ListN.{getD, set}
 use lib.Seq.{sets}
 use lib.Dec.{eqb, leb, T, leb→le}
-use borrow.Author.Tests.{eq-eqb, ne-eqb, eqb-false}
+use borrow.Author.Tests.{ne-eqb, eqb-false}
 use Rattle.definition.specs.Basics.{if_then_else_}
 use Rattle.definition.specs.Outcome.{refused}
 use Rattle.definition.proofs.Lists.Tests.{T-true, pick}
@@ -15,7 +15,7 @@ use Rattle.lexer.proofs.Laws.{file-none, line-none, column-none}
 use Rattle.answer.specs.declared.Answer.{Answer}
 use Rattle.answer.specs.Tells.{Tells}
 use Rattle.session.specs.Words.{whole, countAfter, sessionIn, sessionFits}
-use Rattle.session.specs.Withdraw.{withdrawn, wordsWithout, withdrawNo, withdrawWords}
+use Rattle.session.specs.Withdraw.{wordsWithout, withdrawNo, withdrawWords}
 use Rattle.session.proofs.SessionLaws.{clauses, limits}
 use Rattle.session.proofs.Withdrawal.{withdraw-fits, withdraw-held}
 use Rattle.withdrawal.specs.Withdrawn.{Withdrawn}
