@@ -1,7 +1,7 @@
 -- A withdrawal leaves a good session good, without its latest entry; right after an accepted entry it gives back the session before it.
 use mathlib.Core.Path.{_≡_, refl, sym, ap, _∙_}
 use mathlib.Core.Logic.{_⊎_, inl, inr}
-use mathlib.Core.Bool.{Bool, true, false, not}
+use mathlib.Core.Bool.{Bool, true, false, not, _&&_, _||_}
 use mathlib.Core.List.{List, [], _∷_, _++_, map}
 use Prim.Native.Nat.{ℕ, zero, suc, _+_, _-_, _<_, _≤_}
 use native.Mathlib.Omega.{arith}
@@ -10,12 +10,13 @@ use lib.Seq.{length-sets, getD-set-same, getD-set-other, take-at}
 use lib.Dec.{eqb, leb, leb→le}
 use borrow.Author.Tests.{eqb-true}
 use Rattle.definition.specs.Basics.{if_then_else_, from, concatMap, total}
+use Rattle.definition.specs.Names.{Name, fixed, listed, namesFit}
 use Rattle.definition.specs.Sheet.{Sheet}
 use Rattle.definition.specs.Outcome.{Outcome}
 use Rattle.definition.proofs.Lists.Tests.{T-true, true-of, pick}
 use Rattle.machine.proofs.Words.{sets-out, sets-in}
-use Rattle.session.specs.Session.{Accepted, Session, allClasses, visible, memberCount}
-use Rattle.session.specs.Enter.{newEntry, askedIn, entered, afterEntry}
+use Rattle.session.specs.Session.{Accepted, Session, allClasses, visible, outsideOf, memberCount}
+use Rattle.session.specs.Enter.{newEntry, entered, afterEntry}
 use Rattle.session.specs.Words.{Room, whole, ended, fixedBytes, entryPlace, laidPlace, classPlace, memberPlace, sessionSize, countAfter, nameBytes, sessionIn, sessionNamesFit, sessionFits}
 use Rattle.session.specs.Words.{enterOutcome, enterWords, enterBytes, nameText}
 use Rattle.session.specs.Withdraw.{withdrawn, hasChild, wordsWithout, withdrawNo, withdrawWords}
@@ -128,7 +129,16 @@ module _ (R : Room) (w n v m : List ℕ) (fit : sessionFits R w n ≡ true) (fit
 
   pub texts-again : (ns : List ℕ) (own : Bool) (k : ℕ) → nameText R v m ns own k ≡ nameText R w n ns own k
   texts-again ns own k =
-      rw (true-of (sessionNamesFit R v m) (clauses R v m (T-true (sessionFits R v m) fit′) 1), true-of (sessionNamesFit R w n) (clauses R w n (T-true (sessionFits R w n) fit) 1), names-again)
+      let yes = true-of (sessionNamesFit R v m) (clauses R v m (T-true (sessionFits R v m) fit′) 1) in
+      let yes′ = true-of (sessionNamesFit R w n) (clauses R w n (T-true (sessionFits R w n) fit) 1) in
+      ap (λ (t : Bool). told t (nameBytes R v m)) (yes ∙ sym yes′) ∙ ap (told (sessionNamesFit R w n)) names-again
+    where
+      -- by whether the session's names fit, and their bytes
+      told : Bool → List ℕ → Name
+      told t b =
+          if own && leb 25 k then (if namesFit ns then getD (listed ns) (k - 25) [] else [])
+          else if eqb k 0 || not t then []
+          else getD (fixed ++ listed b) (k - 1) []
 
 -- The session of words v and bytes m is that of words w and bytes n again, but for its global count, g, and for what lies past the counts.
 pub record Again (R : Room) (w n v m : List ℕ) (g : ℕ) : Type 0 where
@@ -140,8 +150,8 @@ pub record Again (R : Room) (w n v m : List ℕ) (g : ℕ) : Type 0 where
   pub marks : (c : ℕ) → hasChild (sessionIn R v m) c ≡ hasChild (sessionIn R w n) c
   -- the text of every name,
   pub texts : (ns : List ℕ) (own : Bool) (k : ℕ) → nameText R v m ns own k ≡ nameText R w n ns own k
-  -- what is asked of the next entry from question 5 on, 24 included,
-  pub asks : (s : Sheet) (ns : List ℕ) (lent : ℕ) → askedIn (sessionIn R v m) s ns lent ≡ askedIn (sessionIn R w n) s ns lent
+  -- what stands outside the next entry,
+  pub outside : outsideOf (sessionIn R v m) ≡ outsideOf (sessionIn R w n)
   -- and, word by word and byte by byte, all counts but the globals, the rows that are counted, and the names.
   pub entries : getD v 1 0 ≡ getD w 1 0
   pub shown : getD v 2 0 ≡ getD w 2 0
@@ -165,7 +175,7 @@ enter-withdraw w n s ns lent fit z =
       classes = ap (λ (S : Session). allClasses S) back;
       marks = λ c. ap (λ (S : Session). hasChild S c) back;
       texts = texts-again whole w n v m fit fit″ same;
-      asks = λ t ms k. ap (λ (S : Session). askedIn S t ms k) back;
+      outside = ap (λ (S : Session). outsideOf S) back;
       entries = entries-again whole w n v m fit fit″ same;
       shown = kept 2 (inl refl) ∙ x .shown-is;
       counts = counts-again whole w n v m fit fit″ same;
