@@ -3,7 +3,7 @@
 Plants the faults of faults.py in copies of second.py, format_check.py, columns_cases.py and find_cases.py, and those of
 session_faults.py in copies of session.py, one at a time, and counts the recorded cases that notice each: those of
 crates/plush_serve whose reply changes, and those of crates/question_tests and crates/columns_tests whose answer changes. A copy
-of session.py goes through all requests of verbs 2 and 5 over one session, which may differ from the first difference on.
+of session.py goes through all requests of verbs 2, 4 and 5 over one session, which may differ from the first difference on.
 Prints a line for each fault, first those that no case notices; exit status 1 if there is one, or if a copy without a fault
 answers a case otherwise. With WORD only faults that have it in their line are planted. A fault that stops the copy with an
 error counts as noticed there.
@@ -117,7 +117,7 @@ class Recorded:
         return sum(outcome(lambda: module.reply(names, name)) != out for names, name, out in self.found)
 
     def session_notices(self, module):
-        """How many requests of verbs 2 and 5 the module answers otherwise."""
+        """How many requests of verbs 2, 4 and 5 the module answers otherwise."""
         session, count = module.FRESH, 0
         for request, out in self.session:
             reply = outcome(lambda: module.replied(session, module.Request(*request), SHOWN))

@@ -1,11 +1,13 @@
-"""The recorded requests of verbs 2, 3 and 5 for the program crates/plush_serve, as one run over its one session.
+"""The recorded requests of verbs 2 to 5 for the program crates/plush_serve, as one run over its one session.
 
 `recorded()` makes the requests, with the replies that session.py gives; serve_cases.py holds them to the Rust. First come the
 runs of session_directed.py, each with names of its own so that it finds none of them declared: those that lay over core names or
 `null` after the others. Then three limits of question 24: names, their bytes, and fields and methods; those on declarations,
-classes and entries would take some 1 MB of requests, and compare_session.py has them. Last come the largest starts, after which
-no entry is accepted. Between these stand requests for the texts of names, bodies that are longer than any accepted, entries with
-just as many answer rows lent as there are, and entries that use every visible name. 15 needs an import, so no entry meets it.
+classes and entries would take some 1 MB of requests, and compare_session.py has them. At each limit entries are withdrawn until
+one is accepted that 24 refused. Then all entries are withdrawn, and one more than there are, and some of the first runs come once
+more. Last come the largest starts, after which no entry is accepted. Between these stand requests for the texts of names, bodies
+that are longer than any accepted, entries with just as many answer rows lent as there are, and entries that use every visible
+name. 15 needs an import, so no entry meets it.
 Before some entries of each question, and of those that are accepted, stands a preview of the same request.
 """
 import random
@@ -16,9 +18,9 @@ from directed import (
     put, q, record, static, stop, unit, use, var)
 from format_check import FIXED, MAX_GLOBALS, MAX_ROWS, listed
 from session import (
-    ENTER, FRESH, LIMITS, NAME_TEXT, PREVIEW, Request, all_names, declarations, listed_names, outcome, replied, request_bytes, sizes,
-    visible)
-from session_directed import ORDERS, directed_plans, directed_runs, entry, literal, name_text, tree, units
+    ENTER, FRESH, LIMITS, NAME_TEXT, PREVIEW, WITHDRAW, Request, all_names, declarations, listed_names, outcome, replied,
+    request_bytes, sizes, visible)
+from session_directed import ORDERS, directed_plans, directed_runs, entry, literal, name_text, tree, units, withdraw
 from session_program import HAS, SHOWN
 from sheets import MAIN_UNIT, NULL, Sheet
 from tree import text_of
@@ -30,6 +32,8 @@ PREVIEWED = 4
 SHORT = 4000
 # fields of a class with many children, and how many of these an entry can have: each is told with all its fields
 WIDE, CHILDREN = 250, 8
+# how many of the first runs come once more
+AGAIN = 6
 
 
 class Case:
@@ -156,6 +160,25 @@ def more_points():
         units(gap=3), units(unit(), unit(), gap=3), units(unit(imports=[bring(other)]), other, gap=3), entry(let(a))]
 
 
+def withdrawals():
+    """What is there again after a withdrawal, and what is gone: a name laid over another, numbers of functions, classes and
+    names, classes and their members. The globals stay used."""
+    yield "withdrawals: a name laid over another", [
+        entry(let(a)), entry(var(a), let(b)), entry(do(use(a)), put(use(a), use(b))), withdraw(), withdraw(), entry(do(use(a))),
+        entry(put(use(a), nil())), entry(do(use(b))), entry(let(b), let(a, literal())), entry(do(array(use(a), use(b)))),
+        withdraw(), withdraw(), entry(do(use(a)))]
+
+    def child():
+        return entry(let(f, literal()), let(g), more=[b"z5"], classes=[record(B, A, [a])])
+    yield "withdrawals: numbers used again", [
+        entry(classes=[record(A, 0, [q, p, c, b, g], [method(m, params=[a, b])])]), child(),
+        entry(do(static(B, m, nil(), nil()))), withdraw(), withdraw(), entry(do(use(B))), entry(do(use(f))), child(),
+        entry(do(array(use(f), use(B), use(g)))), withdraw(), withdraw(), entry(do(use(A)), more=[b"z6", b"z5"])]
+    yield "withdrawals: a refused entry between", [
+        entry(let(a)), entry(var(b), stop()), withdraw(), entry(do(use(a))), entry(let(a)), entry(var(b)), withdraw(),
+        entry(do(use(a)))]
+
+
 def few_lent():
     """The same entry with no rows lent, one less than there are, and as many."""
     inner = lit([25], give(array(use(25), use(26))))
@@ -217,6 +240,12 @@ def names_and_bytes():
     yield listing(b"o", stmts=[let(25), stop()])
     yield listing(b"o", b"n0001")
     yield listing(*exact)
+    yield withdraw()
+    yield listing(b"o")
+    yield withdraw()
+    yield listing(b"o")
+    yield withdraw()
+    yield listing(*exact)
     yield from texts_of_session()
 
 
@@ -260,19 +289,37 @@ def members():
     yield Over(lambda session, rng: a_class(session, rng, 1))
     yield Over(lambda session, rng: a_class(session, rng, 0, 1))
     yield Over(lambda session, rng: a_class(session, rng, 0))
+    yield withdraw()
+    yield Over(lambda session, rng: a_class(session, rng, 1))
+    yield withdraw()
+    yield Over(lambda session, rng: a_class(session, rng, 1))
 
 
 # All of them
+
+# stands for as many withdrawals as there are entries, and one more
+ALL = withdraw()
+
 
 def all_runs():
     """(what, plans, what ends the names of these)."""
     plain, fixed, last = directed()
     first, *rest = plain
-    runs = [("texts in a fresh session", texts_of_session()), first, ("no sheets", no_sheets()), ("few rows lent", few_lent()),
-            *rest, *more_points(), ("texts", texts_of_session()), ("every name", [Over(every_name)]), *fixed,
-            ("every name again", [Over(every_name)]), ("names and bytes", names_and_bytes()), ("fields and methods", members())]
+    again = directed()[0]
+    runs = [("texts in a fresh session", [*texts_of_session(), ALL]), first, ("no sheets", no_sheets()),
+            ("few rows lent", few_lent()), *rest, *more_points(), *withdrawals(), ("texts", texts_of_session()),
+            ("every name", [Over(every_name)]), *fixed, ("every name again", [Over(every_name)]),
+            ("names and bytes", names_and_bytes()), ("fields and methods", members()),
+            ("all withdrawn", [ALL, *texts_of_session(), Over(every_name)])]
     numbered = [(what, plans, b"_%d" % i) for i, (what, plans) in enumerate(runs)]
+    numbered += [(what, plans, ending) for (what, plans), (_, _, ending) in zip(again[:AGAIN], numbered[1:])]
     return numbered + [(what, plans, numbered[1][2]) for what, plans in last] + [("texts at the end", texts_of_session(), b"")]
+
+
+def requests_of(plan, session, rng, order, ending):
+    if plan is ALL:
+        return [Request(WITHDRAW)] * (len(session.entries) + 1)
+    return [plan.request(session, rng, order, ending)]
 
 
 def with_previews(session, request, seen):
@@ -291,7 +338,8 @@ def recorded():
         rng = random.Random(i)
         for plan in plans:
             if plan.verb in HAS:
-                for request in with_previews(session, plan.request(session, rng, ORDERS[i % 3], ending), seen):
-                    reply, session = replied(session, request, SHOWN)
-                    cases.append(Case(what, request, reply))
+                for made in requests_of(plan, session, rng, ORDERS[i % 3], ending):
+                    for request in with_previews(session, made, seen):
+                        reply, session = replied(session, request, SHOWN)
+                        cases.append(Case(what, request, reply))
     return cases

@@ -1,8 +1,7 @@
-"""Faults to plant in session.py, in the form of faults.py, for the recorded requests of verbs 2, 3 and 5.
+"""Faults to plant in session.py, in the form of faults.py, for the recorded requests of verbs 2 to 5.
 
-Left out are faults in what only withdrawals show, in question 23 of a session, which no request reaches, in the
-limits on declarations, classes and entries, which the recorded run does not reach, and in the kept parents of classes, which no
-reply tells.
+Left out are faults in question 23 of a session, which no request reaches, in the limits on declarations, classes and entries,
+which the recorded run does not reach, and in the kept parents of classes, which no reply tells.
 """
 
 REFUSED = "session._replace(globals=resolver.globals)"
@@ -449,7 +448,37 @@ PREVIEW_FAULTS = [
       for question in (*range(1, 15), *range(16, 25))),
 ]
 
+WITHDRAWN = "return refused(0), session._replace(entries=session.entries[:-1])"
+NONE_LEFT = "    if not session.entries:\n        return refused(25), session\n"
+
+
+def left_by(change):
+    """The entry before the withdrawn one keeps something of it."""
+    return WITHDRAWN, (f"before, last = session.entries[:-1], session.entries[-1]\n"
+                       f"    return refused(0), session._replace(entries=(*before[:-1], before[-1]._replace({change})) if before else ())")
+
+
+WITHDRAW_FAULTS = [
+    ("a withdrawal gives a global back", WITHDRAWN, WITHDRAWN.replace("entries=", "globals=max(0, session.globals - 1), entries=")),
+    ("a withdrawal gives the globals laid over back", WITHDRAWN, WITHDRAWN.replace(
+        "entries=", "globals=session.globals - sum(each.code == GLOBAL for each in session.entries[-1].declarations), entries=")),
+    ("a withdrawal from the last entry gives all globals back", WITHDRAWN, WITHDRAWN.replace(
+        "entries=", "globals=session.globals if session.entries[1:] else 0, entries=")),
+    ("a withdrawal withdraws nothing", WITHDRAWN, "return refused(0), session"),
+    ("a withdrawal takes the first entry", WITHDRAWN, WITHDRAWN.replace("[:-1]", "[1:]")),
+    ("a withdrawal takes two entries", WITHDRAWN, WITHDRAWN.replace("[:-1]", "[:-2]")),
+    ("a withdrawal takes all entries", WITHDRAWN, WITHDRAWN.replace("session.entries[:-1]", "()")),
+    ("a withdrawal leaves the names", *left_by("names=(*before[-1].names, *last.names)")),
+    ("a withdrawal leaves the declarations", *left_by("declarations=(*before[-1].declarations, *last.declarations)")),
+    ("a withdrawal leaves the classes", *left_by("classes=(*before[-1].classes, *last.classes)")),
+    ("a withdrawal tells the globals", WITHDRAWN, WITHDRAWN.replace("refused(0)", "[[0, 0, 0, 0, 0, 0, session.globals, 0]]")),
+    ("25 is not asked", NONE_LEFT, ""),
+    ("25 at the last entry", NONE_LEFT, NONE_LEFT.replace("not session.entries", "len(session.entries) < 2")),
+    ("25 gives the globals back", NONE_LEFT, NONE_LEFT.replace("refused(25), session", "refused(25), FRESH")),
+    ("23 for 25", NONE_LEFT, NONE_LEFT.replace("25", "23")),
+]
+
 SESSION = [(f"session: {what}", *changes) for what, *changes in [
     *LAID_FAULTS, *SEEN_FAULTS, *NUMBER_FAULTS, *COUNT_FAULTS, *QUESTION_FAULTS, *REPLY_FAULTS, *TEXT_FAULTS,
-    *PREVIEW_FAULTS]]
+    *PREVIEW_FAULTS, *WITHDRAW_FAULTS]]
 

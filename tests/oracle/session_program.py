@@ -1,6 +1,6 @@
 """The program crates/plush_serve, fed with runs of requests at the prompt, each in one go to a process of its own.
 
-HAS and SHOWN say what the program has: F-7 adds its verb, F-8 the names on show.
+HAS and SHOWN say what the program has: F-8 adds the names on show.
 
 `Driven(program, requests)` is a run. `differing_replies` holds its replies to session.py, byte by byte. `differing_session`
 looks at what the program's session shows after some of the requests, by a process that is sent these requests and then asked:
@@ -12,10 +12,10 @@ row of counts after each must be right as well.
 import subprocess
 
 from format_check import FIXED, MAX_GLOBALS, MAX_ROWS
-from session import ENTER, MAX_ENTRIES, NAME_TEXT, PREVIEW, Request, all_names, dialogue, refused, request_bytes
+from session import ENTER, MAX_ENTRIES, NAME_TEXT, PREVIEW, WITHDRAW, Request, all_names, dialogue, refused, request_bytes
 from tree import text_of
 
-HAS = ENTER, PREVIEW, NAME_TEXT
+HAS = ENTER, PREVIEW, WITHDRAW, NAME_TEXT
 SHOWN = False
 NULL = FIXED.index(b"null") + 1
 # the rows of an entry above the names that it uses: header, unit, function, body, statement, array
