@@ -86,7 +86,8 @@ module _ (R : Room) (w n : List ℕ) (fit : sessionFits R w n ≡ true) where
         and-both (all (tests v) (from 0 5)) (eqb (countAfter R v n (suc e) 1) (bytesOf R v n (countAfter R v n (suc e) 0)))
         (all-from (tests v) 0 5 (λ c b. counted c (omega (arith, b))))
         (eqb-of (countAfter R v n (suc e) 1) (bytesOf R v n (countAfter R v n (suc e) 0))
-        (same (suc e) 1 ∙ bytes-told (suc e) (omega (arith, x .fewer)) ∙ sym (bytes-same (countAfter R w n (suc e) 0) (rises-to (suc e) E 0 (omega arith) (x .fewer) (omega arith)))
+        (same (suc e) 1 ∙ bytes-told (suc e) (omega (arith, x .fewer))
+        ∙ sym (bytes-same (countAfter R w n (suc e) 0) (rises-to (suc e) E 0 (omega arith) (x .fewer) (omega arith)))
         ∙ ap (bytesOf R v n) (sym (same (suc e) 0))))
       where
         tests : List ℕ → ℕ → Bool
@@ -158,7 +159,8 @@ module _ (R : Room) (w n : List ℕ) (fit : sessionFits R w n ≡ true) where
         (and-both (sameName (take (length fixedBytes) n) fixedBytes && namesFit (nameBytes R v n)) (eqb (length (listed (nameBytes R v n))) (getD v 3 0))
         (and-both (sameName (take (length fixedBytes) n) fixedBytes) (namesFit (nameBytes R v n))
         (and-left (sameName (take (length fixedBytes) n) fixedBytes) (namesFit (nameBytes R w n))
-        (and-left (sameName (take (length fixedBytes) n) fixedBytes && namesFit (nameBytes R w n)) (eqb (length (listed (nameBytes R w n))) (getD w 3 0)) (clauses R w n fits 1)))
+        (and-left (sameName (take (length fixedBytes) n) fixedBytes && namesFit (nameBytes R w n)) (eqb (length (listed (nameBytes R w n))) (getD w 3 0))
+        (clauses R w n fits 1)))
         (T-true (namesFit (nameBytes R v n)) (ap namesFit bytes-are ∙ first-fit (nameBytes R w n) (list-fits R w n fit) (countAfter R w n E 0))))
         (eqb-of (length (listed (nameBytes R v n))) (getD v 3 0) (names-left ∙ sym (x .counts 0 (omega arith)))))
 

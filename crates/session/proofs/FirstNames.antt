@@ -123,4 +123,5 @@ module _ (ns : List ℕ) (fit : namesFit ns ≡ true) (k : ℕ) where
       unlike-are =
           subst (λ (l : List Name). T (unlike sameName (fixed ++ l))) (sym first-listed)
           (apart-front sameName (fixed ++ names) rest
-          (subst (λ (l : List Name). T (unlike sameName l)) (sym (append-assoc fixed names rest ∙ ap (λ (l : List Name). fixed ++ l) split)) (and-right closed (namesUnlike ns) fits)))
+          (subst (λ (l : List Name). T (unlike sameName l)) (sym (append-assoc fixed names rest ∙ ap (λ (l : List Name). fixed ++ l) split))
+          (and-right closed (namesUnlike ns) fits)))

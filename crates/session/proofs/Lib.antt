@@ -38,3 +38,4 @@ pub mod RunLaws
 pub mod SameRows
 pub mod FirstNames
 pub mod Cut
+pub mod WithdrawLaws

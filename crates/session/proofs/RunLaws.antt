@@ -19,13 +19,15 @@ use Rattle.session.specs.Session.{Accepted, Session, allClasses, backwar
 use Rattle.session.specs.Enter.{newEntry, entered}
 use Rattle.session.specs.Words.{whole, nameBytes, sessionIn, sessionNamesFit, sessionFits, nameText}
 use Rattle.session.specs.Withdraw.{withdrawn, wordsWithout}
-use Rattle.session.specs.Runs.{Memory, Request, entry, withdrawal, Effect, accepted, withdrew, refusal, effect, afterRequest, afterRun, effects, freshMemory, stacked, entriesLeft}
+use Rattle.session.specs.Runs.{Memory, Request, entry, withdrawal, Effect, accepted, withdrew, refusal, effect, afterRequest, afterRun, effects}
+use Rattle.session.specs.Runs.{freshMemory, stacked, entriesLeft}
 use Rattle.session.proofs.SessionLaws.{clauses}
 use Rattle.session.proofs.HeldRuns.{held-listed}
 use Rattle.session.proofs.Asked.{outcome-in}
 use Rattle.session.proofs.Theorems.{fresh-fits, fresh-held}
 use Rattle.session.proofs.Kept.{after-fits, after-held, after-globals}
-use Rattle.session.proofs.Withdrawal.{but-last, withdraw-fits, withdraw-held}
+use Rattle.session.proofs.WithdrawLaws.{but-last}
+use Rattle.session.proofs.Withdrawal.{withdraw-fits, withdraw-held}
 
 -- Memory M holds a good session whose entries are those of a stack.
 record Holding (M : Memory) (es : List Accepted) : Type 0 where
