@@ -112,8 +112,9 @@ run-globals M (withdrawal ∷ qs) fit =
       run-globals (afterRequest whole M withdrawal) qs (withdraw-fits whole (M .words) (M .bytes) fit),
     )
 
--- After a run qs from a fresh session:
+-- A run qs from a fresh session.
 module _ (qs : List Request) where
+  -- the words and bytes after it, the session that they hold, and the accepted entries left
   abbrev pub memory : Memory
   memory = afterRun whole (freshMemory whole) qs
 
@@ -126,7 +127,7 @@ module _ (qs : List Request) where
   from-fresh : Holding (afterRun whole (freshMemory whole) qs) (stacked [] (effects whole (freshMemory whole) qs))
   from-fresh = run-held (freshMemory whole) [] qs (record { fits = fresh-fits whole; held = ap (λ (Z : Session). Z .entries) (fresh-held whole) })
 
-  -- the words and bytes pass question 23,
+  -- After it the words and bytes pass question 23,
   pub run-fits : sessionFits whole (memory .words) (memory .bytes) ≡ true
   run-fits = from-fresh .fits
 

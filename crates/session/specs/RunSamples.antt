@@ -67,13 +67,14 @@ pub run-visible : visible (sessionIn little words5 bytes2)
     ≡ named 30 (global 3 0) ∷ named 32 (class 2306) ∷ named 31 (global 0 1) ∷ named 25 (class 258) ∷ core .names
 run-visible = refl
 
--- three withdrawals more: one too many
+-- what each request did, as a number: 1 accepted, 2 withdrew, 3 refused
 abbrev pub kinds : List Effect → List ℕ
 kinds [] = []
 kinds (accepted e ∷ xs) = 1 ∷ kinds xs
 kinds (withdrew ∷ xs) = 2 ∷ kinds xs
 kinds (refusal ∷ xs) = 3 ∷ kinds xs
 
+-- three withdrawals more: one too many
 pub run-effects : kinds (effects little (freshMemory little) (requests ++ withdrawal ∷ withdrawal ∷ withdrawal ∷ [])) ≡ 1 ∷ 1 ∷ 3 ∷ 2 ∷ 1 ∷ 2 ∷ 2 ∷ 3 ∷ []
 run-effects = refl
 
