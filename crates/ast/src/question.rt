@@ -66,3 +66,6 @@ pub const SESSION: u32 = 23;
 
 // With the entry no count of the session is over its limit.
 pub const SESSION_ROOM: u32 = 24;
+
+// An entry is left to withdraw.
+pub const ENTRY_LEFT: u32 = 25;

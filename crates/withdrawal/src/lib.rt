@@ -19,9 +19,6 @@ use words::put_at;
 use words::put_words;
 use words::word_at;
 
-// Question 25: an entry is left to withdraw.
-const ENTRY_LEFT: u32 = 25;
-
 // The question that gets a no, or 0.
 fn ask_withdrawal(words: &[u32], bytes: &[u8]) -> u32
     ensures { λ x. ⌜ x ≡ withdrawNo whole (now (words .entry)) (now (bytes .entry)) ⌝ }
@@ -32,7 +29,7 @@ fn ask_withdrawal(words: &[u32], bytes: &[u8]) -> u32
         return question::SESSION;
     }
     if word_at(words, layout::ENTRIES) == 0 {
-        return ENTRY_LEFT;
+        return question::ENTRY_LEFT;
     }
     0
 }
