@@ -94,6 +94,18 @@ uint32_t plush_enter(uint32_t *words, size_t session_words, uint8_t *bytes, size
 uint32_t plush_preview(const uint32_t *words, size_t session_words, const uint8_t *bytes, size_t session_bytes, const uint32_t *sheet, size_t sheet_words,
                        const uint8_t *names, size_t name_bytes, uint32_t *answer, size_t answer_words, uint32_t *report, size_t report_words);
 
+/* Withdraws the latest accepted entry of a session that is not yet withdrawn.
+ *
+ * words, session_words   lent: the words of a session
+ * bytes, session_bytes   the bytes of a session
+ * report, report_words   lent, of any length, also 0: the words PLUSH_REPORT_.. as far as it goes, and zeros after the eighth
+ *
+ * Returns 0, or the question that got a no: PLUSH_QUESTION_SESSION for words and bytes that are no session, PLUSH_QUESTION_ENTRY_LEFT where no entry is left; the
+ * session is then as before. Else visible names, texts of names, classes and the number of entries are those before the withdrawn entry. The globals that it used
+ * stay used: PLUSH_SESSION_GLOBALS is as before. All but the first word of the report are 0.
+ */
+uint32_t plush_withdraw(uint32_t *words, size_t session_words, const uint8_t *bytes, size_t session_bytes, uint32_t *report, size_t report_words);
+
 /* Tells where the text of a name stands, without copying it.
  *
  * words, session_words   the words of a session
@@ -274,7 +286,8 @@ enum {
     PLUSH_QUESTION_INIT_ARITY = 21, /* with one parameter more than arguments */
     PLUSH_QUESTION_ROOM = 22, /* the answer rows fit the lent words */
     PLUSH_QUESTION_SESSION = 23, /* the session is one; the entry is one unit without imports, and starts at its globals or above */
-    PLUSH_QUESTION_SESSION_ROOM = 24 /* the session has room for the entry */
+    PLUSH_QUESTION_SESSION_ROOM = 24, /* the session has room for the entry */
+    PLUSH_QUESTION_ENTRY_LEFT = 25 /* an entry is left to withdraw */
 };
 
 /* The limits of what is accepted. */

@@ -244,6 +244,20 @@ static void check_entry(size_t words, const uint32_t *sheet, size_t sheet_words,
     }
 }
 
+/* Withdraws from the session's first words: its bytes are as before, and after a refusal its words too. */
+static void check_withdrawal(size_t words, uint32_t question, const char *what) {
+    static uint32_t session_before[sizeof session / sizeof *session];
+    static uint8_t bytes_before[sizeof session_bytes];
+    memcpy(session_before, session, sizeof session);
+    memcpy(bytes_before, session_bytes, sizeof session_bytes);
+    memset(report, 0xA5, sizeof report);
+    check(plush_withdraw(session, words, session_bytes, PLUSH_SESSION_BYTES, report, 10) == question, what);
+    check(report[0] == question && all(report + 1, 9, 0) && all(report + 10, 6, STALE), "a report of zeros but for its question");
+    check(memcmp(session_bytes, bytes_before, sizeof session_bytes) == 0, "the bytes are as before");
+    check(memcmp(session + 8, session_before + 8, sizeof session - 8 * sizeof *session) == 0, "the words after the counts are as before");
+    check(question == 0 || memcmp(session, session_before, sizeof session) == 0, "a refusal changes nothing");
+}
+
 static void check_entries(void) {
     static const uint32_t told_1[8] = {0, 0, 0, 0, 0, 12, 1}, told_2[8] = {0, 0, 0, 0, 0, 10, 2}, told_3[8] = {8, 0, 1, 7, 26}, told_4[8] = {0, 0, 0, 0, 0, 2, 2};
     static const uint32_t no_session[8] = {PLUSH_QUESTION_SESSION}, no_room[8] = {PLUSH_QUESTION_ROOM}, full[8] = {PLUSH_QUESTION_SESSION_ROOM};
@@ -260,6 +274,19 @@ static void check_entries(void) {
     check_session(counts_1, listed_1, "the session as before");
     check_entry(PLUSH_SESSION_WORDS, ENTRY_2, 176, NAMES_2, 480, told_2, ANSWER_2, "the second entry, which uses what the first declared");
     check_session(counts_2, listed_2, "the session after both");
+    check_withdrawal(PLUSH_SESSION_WORDS, 0, "the second entry taken back");
+    check(session[PLUSH_SESSION_GLOBALS] == 2 && session[PLUSH_SESSION_ENTRIES] == 1, "its global stays used");
+    check(memcmp(session + PLUSH_SESSION_NAMES, counts_1 + PLUSH_SESSION_NAMES, 5 * sizeof *session) == 0, "the other counts are those before it");
+    check_text(4, 0, 31, "b", 0, "a name of the first entry");
+    check_text(4, 0, 32, "", 0, "a name that the second brought");
+    check_withdrawal(PLUSH_SESSION_WORDS - 1, PLUSH_QUESTION_SESSION, "a word less than a session has");
+    check_withdrawal(PLUSH_SESSION_WORDS, 0, "the first entry taken back");
+    check_withdrawal(PLUSH_SESSION_WORDS, PLUSH_QUESTION_ENTRY_LEFT, "no entry is left");
+    check(session[PLUSH_SESSION_GLOBALS] == 2 && all(session + PLUSH_SESSION_ENTRIES, 7, 0), "nothing is left but the globals");
+    check_fresh(PLUSH_SESSION_WORDS, PLUSH_SESSION_BYTES);
+    check_entry(PLUSH_SESSION_WORDS, ENTRY_1, 192, NAMES_1, 480, told_1, ANSWER_1, "the first entry once more");
+    check_entry(PLUSH_SESSION_WORDS, ENTRY_2, 176, NAMES_2, 480, told_2, ANSWER_2, "and the second");
+    check_session(counts_2, listed_2, "the session after both once more");
     session[PLUSH_SESSION_NAMES] = 9;
     check_entry(PLUSH_SESSION_WORDS, ENTRY_4, 48, NAMES_4, 480, no_session, NULL, "a count of names that is not theirs");
     check_session(broken, listed_2, "which changes nothing");

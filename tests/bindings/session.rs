@@ -66,6 +66,17 @@ fn entries() {
     assert_eq!(session.words()[..8], [2, 2, 0, 8, 16, 5, 2, 6]);
     assert_eq!((session.globals(), session.name_text(NumberOf::Session, 32)), (2, &b"B"[..]));
 
+    // Taken back, and entered again from the globals that it used.
+    let both = session.clone();
+    session.withdraw().expect("the second entry is withdrawn");
+    assert_eq!((session.entries(), session.globals(), session.name_text(NumberOf::Session, 32)), (1, 2, &b""[..]));
+    assert_eq!((&session.words()[3..8], session.bytes()), (&before.words()[3..8], both.bytes()));
+    session.withdraw().expect("the first entry is withdrawn");
+    let none = session.clone();
+    let refusal = session.withdraw().expect_err("no entry is left");
+    assert_eq!((refusal.question, refusal.question as u32, session.entries(), &session), (Question::EntryLeft, 25, 0, &none));
+    session = both;
+
     // It starts at global 1, and the session has 2 now.
     let before = session.clone();
     let refusal = session.enter(&ENTRY_2, NAMES_2, &mut answer).expect_err("the second entry again");
@@ -79,6 +90,7 @@ fn entries() {
     let refusal = broken.enter(&ENTRY_2, NAMES_2, &mut answer).expect_err("words that are no session");
     assert_eq!((refusal.question, refusal.question as u32, refusal.name, &broken), (Question::Session, 23, 0, &before));
     assert!(answer.iter().all(|&word| word == 0));
+    assert_eq!(broken.withdraw().expect_err("nor are they for a withdrawal").question, Question::Session);
     let refusal = Session::from_parts(Vec::new(), Vec::new()).enter(&ENTRY_1, NAMES_1, &mut []).expect_err("no words");
     assert_eq!(refusal.question, Question::Session);
 }

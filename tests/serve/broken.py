@@ -44,7 +44,7 @@ def broken():
     yield "two zeros", "row", head[:70] + b"00".rjust(10) + WHOLE[80:]
     yield "no newline after the header", "row", head[:80] + b" " + WHOLE[81:]
     yield "81 zero bytes", "row", bytes(81)
-    for verb in (0, 4, 7, 8, 11, 12, MOST):
+    for verb in (0, 7, 8, 11, 12, MOST):
         yield f"verb {verb}", "verb", resolve(verb=verb)
     for flags in (1, 2, 3, 4, MOST):
         yield f"flags {flags}", "flag", resolve(flags=flags)
@@ -68,6 +68,11 @@ def broken():
         yield f"verb {verb}, and the input ends in the sheet", "end", resolve(verb=verb)[:-len(NAMES) - 1]
         yield f"verb {verb}, and the input ends in the names", "end", resolve(verb=verb)[:-1]
         yield f"verb {verb}, and the input ends in a long sheet", "end", header(verb, MOST, 0, 0, 0, 0, 0, 0) + b" " * 400_000
+    yield "verb 4 with a flag", "flag", header(4, 0, 0, 1, 0, 0, 0, 0)
+    yield "verb 4 with x 1", "x", header(4, 0, 0, 0, 1, 0, 0, 0)
+    yield "verb 4 with y 1", "y", header(4, 0, 0, 0, 0, 1, 0, 0)
+    yield "verb 4 with a sheet", "body", header(4, 81, 0, 0, 0, 0, 0, 0) + b" " * 81
+    yield "verb 4 with names", "body", header(4, 0, len(NAMES), 0, 0, 0, 0, 0) + NAMES
     yield "verb 5 with a flag", "flag", header(5, 0, len(NAMES), 1, 0, 25, 0, 0) + NAMES
     yield "verb 5 with x 2", "x", header(5, 0, len(NAMES), 0, 2, 25, 0, 0) + NAMES
     yield "verb 5 with a sheet", "body", header(5, 81, len(NAMES), 0, 1, 25, 0, 0) + b" " * 81 + NAMES

@@ -75,6 +75,7 @@ extern "C" {
         report: *mut u32,
         report_words: usize,
     ) -> u32;
+    fn plush_withdraw(words: *mut u32, session_words: usize, bytes: *const u8, session_bytes: usize, report: *mut u32, report_words: usize) -> u32;
     fn plush_name_text(
         words: *const u32,
         session_words: usize,

@@ -29,9 +29,10 @@ pub enum Question {
     Room = 22,
     Session = 23,
     SessionRoom = 24,
+    EntryLeft = 25,
 }
 
-const ALL: [Question; 24] = [
+const ALL: [Question; 25] = [
     Question::RowsFit,
     Question::NamesFit,
     Question::FormatFits,
@@ -56,6 +57,7 @@ const ALL: [Question; 24] = [
     Question::Room,
     Question::Session,
     Question::SessionRoom,
+    Question::EntryLeft,
 ];
 
 impl Question {
@@ -101,6 +103,7 @@ impl fmt::Display for Question {
                 "the session is none, or the entry is not one unit without imports, or starts below the session's globals"
             }
             Question::SessionRoom => "the session has no room for the entry",
+            Question::EntryLeft => "no entry is left to withdraw",
         })
     }
 }

@@ -1,5 +1,7 @@
 //! A session: what accepted entries at a prompt declared, in words and bytes that this crate owns.
-use crate::{plush_enter, plush_name_text, plush_preview, plush_session_fresh, told, Refusal, Resolved, REPORT_WORDS};
+use crate::{
+    plush_enter, plush_name_text, plush_preview, plush_session_fresh, plush_withdraw, told, Refusal, Resolved, REPORT_WORDS,
+};
 
 /// The words of a session.
 pub const SESSION_WORDS: usize = 51088;
@@ -98,6 +100,28 @@ impl Session {
             )
         };
         told(report, answer)
+    }
+
+    /// Withdraws the latest accepted entry that is left: visible names, texts of names, classes and the number of entries are again those before it. The
+    /// globals that it used stay used. After a refusal the session is as before.
+    pub fn withdraw(&mut self) -> Result<(), Refusal> {
+        let mut report = [0; REPORT_WORDS];
+        unsafe {
+            plush_withdraw(
+                self.words.as_mut_ptr(),
+                self.words.len(),
+                self.bytes.as_ptr(),
+                self.bytes.len(),
+                report.as_mut_ptr(),
+                report.len(),
+            )
+        };
+        told(report, &[]).map(|_| ())
+    }
+
+    /// How many entries it has that were accepted and not withdrawn.
+    pub fn entries(&self) -> u32 {
+        self.words.get(1).copied().unwrap_or(0)
     }
 
     /// How many globals it has: where the next entry starts, or above.

@@ -23,11 +23,14 @@ use Rattle.session.specs.Entry.{entrySheet}
 use Rattle.session.specs.Words.{whole, nameText, sessionIn, enterOutcome}
 use Rattle.prompt.specs.Entered.{Entered}
 use Rattle.preview.specs.Previewed.{Previewed}
+use Rattle.session.specs.Withdraw.{withdrawOutcome}
+use Rattle.withdrawal.specs.Withdrawn.{Withdrawn}
 use Rattle.name_place.specs.declared.Place.{Place}
 use Rattle.name_place.specs.Place.{bytesBefore, nowhere, placeOf, textAt, NamePlaced}
 use Rattle.plush.specs.Resolved.{Resolved}
 use Rattle.plush.specs.SessionEntered.{SessionEntered}
 use Rattle.plush.specs.SessionPreviewed.{SessionPreviewed}
+use Rattle.plush.specs.SessionWithdrawn.{SessionWithdrawn}
 use Rattle.plush.specs.Found.{NameFound}
 use Rattle.plush.specs.Named.{placeWords, NameTold}
 
@@ -72,6 +75,17 @@ session-previewed w n s ns lent room x out line r a e f = record {
   closures =
       λ z.
       subst (λ (k : ℕ). Demand3 (outsideOf (sessionIn whole w n)) (entrySheet (sessionIn whole w n) ns s) (rowsOfWords k out)) (a .tells .rows) (a .closures z);
+}
+
+-- what `withdraw` answers, with its line in the report words
+pub session-withdrawn : (w n : List ℕ) (room : ℕ) (x : Answer) (line r w′ : List ℕ) → Withdrawn w n x w′ → line ≡ toldBy x → r ≡ fitted room line
+    → SessionWithdrawn w n room (x .number) r w′
+session-withdrawn w n room x line r w′ a e f = record {
+  number = a .tells .number;
+  report = f ∙ ap (fitted room) (e ∙ told-line (withdrawOutcome whole w n) x (a .tells));
+  session = a .session;
+  fits = a .fits;
+  held = a .held;
 }
 
 -- what `find_name` answers, in the lent words

@@ -1,5 +1,6 @@
 pub mod Resolved
 pub mod SessionEntered
 pub mod SessionPreviewed
+pub mod SessionWithdrawn
 pub mod Found
 pub mod Named

@@ -9,6 +9,7 @@ ghost use Rattle.plush.specs.Named.{NameTold};
 ghost use Rattle.plush.specs.Resolved.{Resolved};
 ghost use Rattle.plush.specs.SessionEntered.{SessionEntered};
 ghost use Rattle.plush.specs.SessionPreviewed.{SessionPreviewed};
+ghost use Rattle.plush.specs.SessionWithdrawn.{SessionWithdrawn};
 use columns::from_columns;
 use columns::to_columns;
 use fresh_session::fresh;
@@ -19,6 +20,7 @@ use prompt::enter;
 use report::first_line;
 use report::write_fitted;
 use resolver::resolve;
+use withdrawal::withdraw;
 
 // Resolves a sheet with its names into the lent answer words, and writes the report's first line into the lent report words, as
 // far as they go. Returns the number of the question that got a no, or 0.
@@ -108,6 +110,18 @@ pub extern "C" fn plush_preview(
         (length (now (report .entry))) n (now (out .exit)) (now (report .exit)) ⌝ }
 {
     let x = preview(words, bytes, sheet, names, out);
+    let line = first_line(x);
+    write_fitted(&line, report);
+    x.number
+}
+
+// Withdraws the latest accepted entry of the session of the lent words and bytes, and writes the report's first line into the lent report words, as far as
+// they go. Returns the number of the question that got a no, or 0.
+#[no_mangle]
+pub extern "C" fn plush_withdraw(words: &mut [u32], bytes: &[u8], report: &mut [u32]) -> u32
+    ensures { λ n. ⌜ SessionWithdrawn (now (words .entry)) (now (bytes .entry)) (length (now (report .entry))) n (now (report .exit)) (now (words .exit)) ⌝ }
+{
+    let x = withdraw(words, bytes);
     let line = first_line(x);
     write_fitted(&line, report);
     x.number

@@ -21,6 +21,7 @@ use request::read_request;
 use request::verb;
 use resolve_text::resolve_lent;
 use say::complain;
+use withdraw_text::withdraw_lent;
 
 // A loop needs an end; this one is out of reach.
 const MOST_REQUESTS: u64 = 18446744073709551615;
@@ -65,6 +66,12 @@ fn reply_previewed(
     text: &mut [u8],
 ) -> bool {
     let n = preview_lent(words, bytes, sheet, names, lent, text);
+    write(&text[..n])
+}
+
+// The reply of the latest entry taken back from the session.
+fn reply_withdrawn(words: &mut [u32], bytes: &[u8], text: &mut [u8]) -> bool {
+    let n = withdraw_lent(words, bytes, text);
     write(&text[..n])
 }
 
@@ -123,6 +130,7 @@ fn reply(
         verb::RESOLVE => reply_resolved(sheet, names, x as usize, text),
         verb::ENTER => reply_entered(words, bytes, sheet, names, x as usize, text),
         verb::PREVIEW => reply_previewed(words, bytes, sheet, names, x as usize, text),
+        verb::WITHDRAW => reply_withdrawn(words, bytes, text),
         verb::NAME_TEXT => reply_name(words, bytes, names, x, request.y, text),
         verb::TO_COLUMNS => reply_columns(sheet, false, x as usize, text),
         verb::FROM_COLUMNS => reply_columns(sheet, true, x as usize, text),

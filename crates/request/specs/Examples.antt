@@ -23,7 +23,7 @@ breaks : map (λ w. requestOf (header w) .broken)
     ((1 ∷ 4294967295 ∷ 4294967295 ∷ 0 ∷ 0 ∷ 0 ∷ 0 ∷ 0 ∷ []) ∷
     (1 ∷ 0 ∷ 0 ∷ 0 ∷ 2049 ∷ 0 ∷ 0 ∷ 0 ∷ []) ∷
     (0 ∷ 0 ∷ 0 ∷ 0 ∷ 0 ∷ 0 ∷ 0 ∷ 0 ∷ []) ∷
-    (4 ∷ 0 ∷ 0 ∷ 0 ∷ 0 ∷ 0 ∷ 0 ∷ 0 ∷ []) ∷
+    (12 ∷ 0 ∷ 0 ∷ 0 ∷ 0 ∷ 0 ∷ 0 ∷ 0 ∷ []) ∷
     (1 ∷ 0 ∷ 0 ∷ 1 ∷ 0 ∷ 0 ∷ 0 ∷ 0 ∷ []) ∷
     (1 ∷ 0 ∷ 0 ∷ 0 ∷ 0 ∷ 1 ∷ 0 ∷ 0 ∷ []) ∷
     (1 ∷ 0 ∷ 0 ∷ 0 ∷ 0 ∷ 0 ∷ 1 ∷ 0 ∷ []) ∷
@@ -48,6 +48,18 @@ entry-verb : map (λ w. requestOf (header w) .broken)
 unfolding requestOf brokenBy largest told
 entry-verb = refl
 
+-- verb 4 takes nothing
+withdraw-verb : map (λ w. requestOf (header w) .broken)
+    ((4 ∷ 0 ∷ 0 ∷ 0 ∷ 0 ∷ 0 ∷ 0 ∷ 0 ∷ []) ∷
+    (4 ∷ 81 ∷ 0 ∷ 0 ∷ 0 ∷ 0 ∷ 0 ∷ 0 ∷ []) ∷
+    (4 ∷ 0 ∷ 2 ∷ 0 ∷ 0 ∷ 0 ∷ 0 ∷ 0 ∷ []) ∷
+    (4 ∷ 0 ∷ 0 ∷ 1 ∷ 0 ∷ 0 ∷ 0 ∷ 0 ∷ []) ∷
+    (4 ∷ 0 ∷ 0 ∷ 0 ∷ 1 ∷ 0 ∷ 0 ∷ 0 ∷ []) ∷
+    (4 ∷ 0 ∷ 0 ∷ 0 ∷ 0 ∷ 1 ∷ 0 ∷ 0 ∷ []) ∷ [])
+    ≡ 0 ∷ 6 ∷ 6 ∷ 3 ∷ 4 ∷ 5 ∷ []
+unfolding requestOf brokenBy largest told
+withdraw-verb = refl
+
 -- verb 5: the entry's names; x is at most 1, y any number; no sheet, no second names, no flag
 text-verb : map (λ w. requestOf (header w) .broken)
     ((5 ∷ 0 ∷ 4294967295 ∷ 0 ∷ 1 ∷ 4294967295 ∷ 0 ∷ 0 ∷ []) ∷
@@ -60,15 +72,14 @@ text-verb : map (λ w. requestOf (header w) .broken)
 unfolding requestOf brokenBy largest told
 text-verb = refl
 
--- verb 6: names, and at most 32,768 bytes that are looked for; no sheet
+-- verb 6: names, and at most 32,768 bytes that are looked for; no sheet; the verb after it is unknown
 find-verb : map (λ w. requestOf (header w) .broken)
     ((6 ∷ 0 ∷ 4294967295 ∷ 0 ∷ 0 ∷ 0 ∷ 0 ∷ 32768 ∷ []) ∷
     (6 ∷ 0 ∷ 4 ∷ 0 ∷ 0 ∷ 0 ∷ 0 ∷ 32769 ∷ []) ∷
     (6 ∷ 1 ∷ 4 ∷ 0 ∷ 0 ∷ 0 ∷ 0 ∷ 1 ∷ []) ∷
     (6 ∷ 0 ∷ 4 ∷ 0 ∷ 1 ∷ 0 ∷ 0 ∷ 1 ∷ []) ∷
-    (4 ∷ 0 ∷ 0 ∷ 0 ∷ 0 ∷ 0 ∷ 0 ∷ 0 ∷ []) ∷
     (7 ∷ 0 ∷ 0 ∷ 0 ∷ 0 ∷ 0 ∷ 0 ∷ 0 ∷ []) ∷ [])
-    ≡ 0 ∷ 6 ∷ 6 ∷ 4 ∷ 2 ∷ 2 ∷ []
+    ≡ 0 ∷ 6 ∷ 6 ∷ 4 ∷ 2 ∷ []
 unfolding requestOf brokenBy largest told
 find-verb = refl
 

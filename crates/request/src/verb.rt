@@ -7,6 +7,9 @@ pub const ENTER: u32 = 2;
 // The same without entering it.
 pub const PREVIEW: u32 = 3;
 
+// The latest accepted entry of that session taken back.
+pub const WITHDRAW: u32 = 4;
+
 // The text of a name, by its number.
 pub const NAME_TEXT: u32 = 5;
 

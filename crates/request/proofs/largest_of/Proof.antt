@@ -34,10 +34,14 @@ unfolding largest
 returns-7 c = ap largest (sym (c .match .keys7))
 
 returns-8 : tie.Need-returns-8
-returns-8 c =
+unfolding largest
+returns-8 c = ap largest (sym (c .match .keys8))
+
+returns-9 : tie.Need-returns-9
+returns-9 c =
     let rest = c .match .rest in
-    unknown-verb (c .before .args .verb) (rest .0 .0 .0 .0 .0 .0 .1) (rest .0 .0 .0 .0 .0 .1) (rest .0 .0 .0 .0 .1) (rest .0 .0 .0 .1) (rest .0 .0 .1) (rest .0 .1)
-    (rest .1)
+    unknown-verb (c .before .args .verb) (rest .0 .0 .0 .0 .0 .0 .0 .1) (rest .0 .0 .0 .0 .0 .0 .1) (rest .0 .0 .0 .0 .0 .1) (rest .0 .0 .0 .0 .1) (rest .0 .0 .0 .1)
+    (rest .0 .0 .1) (rest .0 .1) (rest .1)
 
 pub largest-of-spec : {M : Type 1} → statement M
-largest-of-spec = tie.close (tie.spec returns returns-2 returns-3 returns-4 returns-5 returns-6 returns-7 returns-8)
+largest-of-spec = tie.close (tie.spec returns returns-2 returns-3 returns-4 returns-5 returns-6 returns-7 returns-8 returns-9)
