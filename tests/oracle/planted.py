@@ -15,7 +15,7 @@ from pathlib import Path
 import faults
 import session_faults
 from question_cases import cases_of
-from session_program import HAS, SHOWN
+from session_program import HAS
 from tree import text_of
 
 HERE = Path(__file__).resolve().parent
@@ -120,7 +120,7 @@ class Recorded:
         """How many requests of verbs 2, 4 and 5 the module answers otherwise."""
         session, count = module.FRESH, 0
         for request, out in self.session:
-            reply = outcome(lambda: module.replied(session, module.Request(*request), SHOWN))
+            reply = outcome(lambda: module.replied(session, module.Request(*request)))
             count += isinstance(reply, Exception) or reply[0] != out
             session = session if isinstance(reply, Exception) else reply[1]
         return count

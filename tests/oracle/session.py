@@ -72,9 +72,9 @@ def sizes(session):
     return [len(names), sum(len(name) + 1 for name in names), len(declarations(session)), len(members), sum(members)]
 
 
-def session_row(session, shown=True):
-    """The row that tells a session; before F-8 the names on show are 0."""
-    return [session.globals, len(session.entries), len(visible(session)) if shown else 0, *sizes(session)]
+def session_row(session):
+    """The row that tells a session."""
+    return [session.globals, len(session.entries), len(visible(session)), *sizes(session)]
 
 
 # Question 23 of a session
@@ -282,13 +282,13 @@ def request_bytes(request):
     return text_of([head]).encode() + request.text + request.names
 
 
-def replied(session, request, shown=True):
+def replied(session, request):
     """(the reply, the session after) of a request."""
     if request.verb == NAME_TEXT:
         text = text_of_name(session, request.names, request.x, request.y)
         return text_of([[0] * 7 + [len(text)]]).encode() + text, session
     out, after = outcome(session, request)
-    return text_of([*out, session_row(after, shown)]).encode(), after
+    return text_of([*out, session_row(after)]).encode(), after
 
 
 def outcome(session, request):
@@ -299,10 +299,10 @@ def outcome(session, request):
     return out, after if request.verb == ENTER else session
 
 
-def dialogue(requests, shown=True):
+def dialogue(requests):
     """The replies to requests, from a fresh session on."""
     session, replies = FRESH, []
     for request in requests:
-        reply, session = replied(session, request, shown)
+        reply, session = replied(session, request)
         replies.append(reply)
     return replies

@@ -21,7 +21,7 @@ from session import (
     ENTER, FRESH, LIMITS, NAME_TEXT, PREVIEW, WITHDRAW, Request, all_names, declarations, listed_names, outcome, replied,
     request_bytes, sizes, visible)
 from session_directed import ORDERS, directed_plans, directed_runs, entry, literal, name_text, tree, units, withdraw
-from session_program import HAS, SHOWN
+from session_program import HAS
 from sheets import MAIN_UNIT, NULL, Sheet
 from tree import text_of
 
@@ -340,6 +340,6 @@ def recorded():
             if plan.verb in HAS:
                 for made in requests_of(plan, session, rng, ORDERS[i % 3], ending):
                     for request in with_previews(session, made, seen):
-                        reply, session = replied(session, request, SHOWN)
+                        reply, session = replied(session, request)
                         cases.append(Case(what, request, reply))
     return cases

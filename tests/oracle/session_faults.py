@@ -27,9 +27,9 @@ ENTRY_NAME = "        return listed(names)[at] if names_fit(names) and at < len(
 SESSION_NAME = "return known[number] if 0 < number < len(known) else b\"\""
 ENTRYS = "if whose == 1 and number > len(FIXED):"
 TEXT_ROW = "text_of([[0] * 7 + [len(text)]]).encode() + text, session"
-SESSION_ROW = "return [session.globals, len(session.entries), len(visible(session)) if shown else 0, *sizes(session)]"
+SESSION_ROW = "return [session.globals, len(session.entries), len(visible(session)), *sizes(session)]"
 SIZES = "return [len(names), sum(len(name) + 1 for name in names), len(declarations(session)), len(members), sum(members)]"
-REPLY = "text_of([*out, session_row(after, shown)]).encode(), after"
+REPLY = "text_of([*out, session_row(after)]).encode(), after"
 REPORT = "[[0, 0, 0, 0, 0, len(out), after.globals, 0], *out], after"
 RECORD_FIELDS = "tuple(self.fields[number]), methods)"
 RECORD_METHODS = "for name, function in self.methods[number].items())"
@@ -370,12 +370,43 @@ QUESTION_FAULTS = [
 ]
 
 REPLY_FAULTS = [
-    ("the session before is told", REPLY, "text_of([*out, session_row(session, shown)]).encode(), after"),
+    ("the session before is told", REPLY, "text_of([*out, session_row(session)]).encode(), after"),
     ("no row of counts after a refusal", REPLY,
-     "text_of([*out, session_row(after, shown)] if out[0][0] == 0 else out).encode(), after"),
+     "text_of([*out, session_row(after)] if out[0][0] == 0 else out).encode(), after"),
     ("the row of counts is counted", REPORT, REPORT.replace("len(out)", "len(out) + 1")),
     ("globals are not told", REPORT, REPORT.replace("after.globals", "0")),
-    ("names on show are told", SESSION_ROW, SESSION_ROW.replace(" if shown else 0", "")),
+    *((what, SESSION_ROW, SESSION_ROW.replace("len(visible(session))", number)) for what, number in (
+        ("names on show are not told", "0"),
+        ("a redeclared name is on show again", "len({each.name for each in CORE_DECLARATIONS} "
+                                               "| {each.name for each in declarations(session)}) + len(declarations(session)) "
+                                               "- len({each.name for each in declarations(session)})"),
+        ("a name redeclared in its entry is on show again", "len(visible(session)) + sum(len(entry.declarations) - len({each.name for each "
+                                                            "in entry.declarations}) for entry in session.entries)"),
+        ("a name redeclared by a later entry is on show again", "len(CORE_DECLARATIONS) + sum(len({each.name for each in entry.declarations} "
+                                                                "- {each.name for each in CORE_DECLARATIONS}) "
+                                                                "for entry in session.entries)"),
+        ("a core name laid over is on show again", "len(CORE_DECLARATIONS) + len({each.name for each in declarations(session)})"),
+        ("a core name laid over is not on show", "len(visible(session)) - len({each.name for each in CORE_DECLARATIONS} "
+                                                 "& {each.name for each in declarations(session)})"),
+        ("core names are not on show", "len(visible(session)) - len(CORE_DECLARATIONS)"),
+        ("core names are on show before the first entry alone", "len(visible(session)) if not session.entries else "
+                                                                "len({each.name for each in declarations(session)})"),
+        ("classes are not on show", "len(visible(session)) - len({each.name for each in visible(session).values() "
+                                    "if each.code == CLASS and each not in CORE_DECLARATIONS})"),
+        ("functions are not on show", "len([each for each in visible(session).values() if each.code != FUNCTION])"),
+        ("all names listed are on show", "len(CORE_DECLARATIONS) + len(listed_names(session))"),
+        ("all declarations are on show", "len(CORE_DECLARATIONS) + len(declarations(session))"))),
+    ("names on show are those before", REPLY,
+     "text_of([*out, [*session_row(after)[:2], len(visible(session)), *session_row(after)[3:]]]).encode(), after"),
+    ("names on show of a withdrawal are those before", REPLY,
+     "text_of([*out, [*session_row(after)[:2], len(visible(session if request.verb == WITHDRAW else after)), "
+     "*session_row(after)[3:]]]).encode(), after"),
+    ("names on show of a preview are those of the entry", REPLY,
+     "text_of([*out, [*session_row(after)[:2], len(visible(outcome(session, request._replace(verb=ENTER))[1] "
+     "if request.verb == PREVIEW else after)), *session_row(after)[3:]]]).encode(), after"),
+    ("a refused entry's names are on show", REPLY,
+     "text_of([*out, [*session_row(after)[:2], len(visible(after)) + (request.verb == ENTER and 5 <= out[0][0] <= 21), "
+     "*session_row(after)[3:]]]).encode(), after"),
     ("fixed names are counted", SIZES, SIZES.replace("[len(names),", "[len(names) + len(FIXED),")),
     ("bytes without ends", SIZES, SIZES.replace("len(name) + 1", "len(name)")),
     ("a name declared again counts once", SIZES, SIZES.replace("len(declarations(session))",
@@ -442,7 +473,7 @@ PREVIEW_FAULTS = [
     ("a preview has no name", PREVIEW,
      "return out if request.verb == ENTER else [[*out[0][:4], 0, *out[0][5:]], *out[1:]], after if request.verb == ENTER else session"),
     ("the session after it is told of a preview", REPLY,
-     "text_of([*out, session_row(outcome(session, request._replace(verb=ENTER))[1], shown)]).encode(), after"),
+     "text_of([*out, session_row(outcome(session, request._replace(verb=ENTER))[1])]).encode(), after"),
     *((f"a preview is not asked {question}", PREVIEW,
        f"return (out, after) if request.verb == ENTER else (refused(0) if out[0][0] == {question} else out, session)")
       for question in (*range(1, 15), *range(16, 25))),

@@ -1,6 +1,6 @@
 """The program crates/plush_serve, fed with runs of requests at the prompt, each in one go to a process of its own.
 
-HAS and SHOWN say what the program has: F-8 adds the names on show.
+HAS lists the verbs that the program has.
 
 `Driven(program, requests)` is a run. `differing_replies` holds its replies to session.py, byte by byte. `differing_session`
 looks at what the program's session shows after some of the requests, by a process that is sent these requests and then asked:
@@ -16,7 +16,6 @@ from session import ENTER, MAX_ENTRIES, NAME_TEXT, PREVIEW, WITHDRAW, Request, a
 from tree import text_of
 
 HAS = ENTER, PREVIEW, WITHDRAW, NAME_TEXT
-SHOWN = False
 NULL = FIXED.index(b"null") + 1
 # the rows of an entry above the names that it uses: header, unit, function, body, statement, array
 ABOVE = [[0, 0, 1], [2, 0, 2], [6, 0, 3], [25, 0, 4], [20, 0, 5], [47, 0, 6]]
@@ -50,7 +49,7 @@ def reply_of(out, row):
 
 class Driven:
     def __init__(self, program, requests):
-        self.program, self.requests, self.replies = program, requests, dialogue(requests, SHOWN)
+        self.program, self.requests, self.replies = program, requests, dialogue(requests)
         self.sessions = self.entries = self.texts = 0
 
     def output(self, requests):
@@ -66,7 +65,6 @@ class Driven:
         """What differs after `count` requests. `row` is the row of counts, `visible` has (name, code, number, mutable) in order;
         only the texts of names are from `session`."""
         known = all_names(session)
-        row = [*row[:2], row[2] if SHOWN else 0, *row[3:]]
         asked = [self.unseen(known, number, row) for number in range(1, len(known)) if number not in {each[0] for each in visible}]
         asked += [self.text(number, (known + [b""])[number]) for number in range(1, len(known) + 1)]
         asked.append(self.seen(known, row, visible))

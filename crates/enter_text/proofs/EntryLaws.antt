@@ -28,7 +28,7 @@ use Rattle.report.proofs.Laws.{rows-number, lines-length, rows-there, rows-told
 use Rattle.session.specs.Session.{Session, outsideOf, within}
 use Rattle.session.specs.Entry.{toEntry, entrySheet}
 use Rattle.session.specs.Enter.{renamed, newEntry, accepting, entryFits, askedIn, entered, afterEntry}
-use Rattle.session.specs.Words.{whole, sessionIn, sessionFits, wordsWith, bytesWith, enterOutcome, enterWords, enterBytes}
+use Rattle.session.specs.Words.{whole, sessionIn, sessionFits, showing, wordsWith, bytesWith, enterOutcome, enterWords, enterBytes}
 use Rattle.prompt.specs.Entered.{Entered}
 use Rattle.enter_text.specs.Reply.{sessionRow, outcomeOf, wordsOf, bytesOf, printedEntry, isLent, RepliedEntry, RepliedOfEntry, EnteredText}
 
@@ -96,7 +96,7 @@ module _ (w b : List ℕ) (lent : ℕ) where
 
   pub sheet-none : (ns : List ℕ) (s : Sheet) → rowsFit s ≡ false → resultOf s ns ≡ idle (if not (sessionFits whole w b) then refused 23 else refused 1)
   sheet-none ns s e =
-      let yes : List ℕ = wordsWith whole w (enterOutcome whole w b s ns lent .globals) (newEntry (sessionIn whole w b) s ns) in
+      let yes : List ℕ = showing (afterEntry (sessionIn whole w b) s ns lent) (wordsWith whole w (enterOutcome whole w b s ns lent .globals) (newEntry (sessionIn whole w b) s ns)) in
       let no : List ℕ = set w 0 (afterEntry (sessionIn whole w b) s ns lent .globals) in
       let names : List ℕ = bytesWith w b (newEntry (sessionIn whole w b) s ns) in
       ap (λ (o : Outcome). resultBy o yes no names) (first (sessionFits whole w b) (rowsFit s) _ e) ∙ go (sessionFits whole w b) yes no names
@@ -108,7 +108,7 @@ module _ (w b : List ℕ) (lent : ℕ) where
   pub names-none : (s : Sheet) (ns : List ℕ) → namesFit ns ≡ false
       → resultOf s ns ≡ idle (if not (sessionFits whole w b) then refused 23 else if not (rowsFit s) then refused 1 else refused 2)
   names-none s ns e =
-      let yes : List ℕ = wordsWith whole w (enterOutcome whole w b s ns lent .globals) (newEntry (sessionIn whole w b) s ns) in
+      let yes : List ℕ = showing (afterEntry (sessionIn whole w b) s ns lent) (wordsWith whole w (enterOutcome whole w b s ns lent .globals) (newEntry (sessionIn whole w b) s ns)) in
       let no : List ℕ = set w 0 (afterEntry (sessionIn whole w b) s ns lent .globals) in
       let names : List ℕ = bytesWith w b (newEntry (sessionIn whole w b) s ns) in
       ap (λ (o : Outcome). resultBy o yes no names) (second (sessionFits whole w b) (rowsFit s) (namesFit ns) _ e)

@@ -11,7 +11,7 @@ use Rattle.text.specs.Writing.{rowsIn}
 use Rattle.report.specs.Report.{fitted}
 use Rattle.enter_text.specs.Reply.{sessionRow, printedEntry, isLent}
 
--- the whole case of document 01 entered into a fresh session: its four answer rows, then one entry, the names f and p of four bytes, and f laid over
+-- the whole case of document 01 entered into a fresh session: its four answer rows, then one entry, ten names on show, the names f and p of four bytes, and f laid over
 first-entry : printedEntry 4 (freshWords whole) (freshBytes whole) (textOf (rowsIn (s1 .sheet))) (bytes "f\np\n")
     ≡ textOf (map eight (
     (0 ∷ 0 ∷ 0 ∷ 0 ∷ 0 ∷ 4 ∷ [])
@@ -19,7 +19,7 @@ first-entry : printedEntry 4 (freshWords whole) (freshBytes whole) (textOf (rows
     ∷ (4 ∷ 1 ∷ 6 ∷ [])
     ∷ (6 ∷ 20 ∷ [])
     ∷ (9 ∷ 4 ∷ 0 ∷ 6 ∷ [])
-    ∷ (0 ∷ 1 ∷ 0 ∷ 2 ∷ 4 ∷ 1 ∷ [])
+    ∷ (0 ∷ 1 ∷ 10 ∷ 2 ∷ 4 ∷ 1 ∷ [])
     ∷ []))
 unfolding fitted
 first-entry = refl

@@ -19,12 +19,12 @@ use Rattle.names.proofs.Question.{fit-small}
 use Rattle.entry_walk.specs.Laid.{OneUnit}
 use Rattle.session.specs.Session.{Session, allNames, outsideOf}
 use Rattle.session.specs.Entry.{newNames, namesWith, entrySheet, toSession}
-use Rattle.session.specs.Words.{whole, nameBytes, sessionIn, sessionFits}
+use Rattle.session.specs.Words.{whole, nameBytes, sessionIn, runsFit, sessionFits}
 use Rattle.session.proofs.RowLaws.{whole-some}
 use Rattle.session.proofs.Renaming.{Renamed, kids-same, kidsOf-same, depths-renamed, sheet-renamed}
 use Rattle.session.proofs.EntryLaws.{entry-renamed, entry-whole}
 use Rattle.session.proofs.OutsideLaws.{outside-fits}
-use Rattle.session.proofs.SessionLaws.{orderly-in}
+use Rattle.session.proofs.SessionLaws.{runs-of, orderly-in}
 use Rattle.session.proofs.HeldRuns.{held-names}
 use Rattle.session.proofs.CountLaws.{list-fits}
 use Rattle.entry_ready.specs.Asked.{fitsOver, entryNo}
@@ -84,9 +84,9 @@ module _ (w n : List ℕ) (fit : sessionFits whole w n ≡ true) (s : Sheet) (ns
       omega (
         arith,
         length-append (allNames S) (newNames S ns),
-        ap length (held-names whole w n fit),
+        ap length (held-names whole w n (runs-of whole w n fit)),
         length-append fixed (listed (nameBytes whole w n)),
-        fit-small (nameBytes whole w n) (list-fits whole w n fit) .0,
+        fit-small (nameBytes whole w n) (list-fits whole w n (runs-of whole w n fit)) .0,
         shorter (λ x. not (any (sameName x) (allNames S))) (listed ns),
         fit-small ns (ok .names-fit) .0,
       )
@@ -94,7 +94,7 @@ module _ (w n : List ℕ) (fit : sessionFits whole w n ≡ true) (s : Sheet) (ns
   pub entry-past : PastFour (based (outsideOf (sessionIn whole w n)) 0) (entrySheet (sessionIn whole w n) ns s)
   entry-past =
       record {
-        outside = based-fits 0 (outside-fits (orderly-in whole w n (T-true (sessionFits whole w n) fit) (omega arith) (omega arith)));
+        outside = based-fits 0 (outside-fits (orderly-in whole w n (T-true (runsFit whole w n) (runs-of whole w n fit)) (omega arith) (omega arith)));
         names = length (namesWith S ns);
         few = few-names;
         whole = T-true (rowsFit t) (entry-whole S ns s (ok .rows-fit));

@@ -9,6 +9,7 @@ use Rattle.definition.specs.Sheet.{Sheet}
 use Rattle.answer.specs.declared.Answer.{Answer}
 use Rattle.session.specs.Entry.{newNames}
 use Rattle.session.specs.Words.{whole, sessionIn}
+use Rattle.session.proofs.SessionLaws.{runs-of}
 use Rattle.session.proofs.CountLaws.{limits}
 use Rattle.try_entry.specs.Tried.{Over}
 use Rattle.enter_entry.specs.EnteredOver.{Enterable, EnteredOver}
@@ -23,10 +24,10 @@ enterable {w} {n = n} h m =
       past = past h m;
       one = one h m;
       few = few h m;
-      entries = leb→le (getD w 1 0) 1000 (limits whole w n (h .fits) 1);
-      laid = leb→le (getD w 5 0) 4096 (limits whole w n (h .fits) 4);
-      classes = leb→le (getD w 6 0) 1024 (limits whole w n (h .fits) 5);
-      members = leb→le (getD w 7 0) 8192 (limits whole w n (h .fits) 6);
+      entries = leb→le (getD w 1 0) 1000 (limits whole w n (runs-of whole w n (h .fits)) 1);
+      laid = leb→le (getD w 5 0) 4096 (limits whole w n (runs-of whole w n (h .fits)) 4);
+      classes = leb→le (getD w 6 0) 1024 (limits whole w n (runs-of whole w n (h .fits)) 5);
+      members = leb→le (getD w 7 0) 8192 (limits whole w n (runs-of whole w n (h .fits)) 6);
     }
 
 pub entered-told : {w : List ℕ} {s : Sheet} {numbers : List ℕ} {new bytes lent : ℕ} {o c : List ℕ} {x : Answer} {out w′ : List ℕ}

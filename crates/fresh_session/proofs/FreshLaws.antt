@@ -10,7 +10,7 @@ use Rattle.session.specs.Words.{whole, fixedBytes}
 use Rattle.definition.proofs.Lists.Members.{map-append}
 use Rattle.session.proofs.SessionLaws.{from-length}
 use Rattle.session.proofs.HeldRuns.{from-split}
-use Rattle.session.proofs.Theorems.{zeros-fit, zeros-held, zero-at}
+use Rattle.session.proofs.Theorems.{zeros-fit, zeros-held, nine-at, zero-beside}
 use Rattle.fresh_session.specs.Fresh.{freshByte, freshIn, Fresh}
 
 -- a fixed byte, and one past them
@@ -54,18 +54,20 @@ writing-end {v} {w} {i} h l =
     let e : i ≡ length v = omega (arith, h .long, h .within) in
     sym (take-all i w l) ∙ h .writes ∙ ap freshIn e
 
-pub fresh-made : {k m : ℕ} {w n : List ℕ} → w ≡ replicate k 0 → n ≡ freshIn m → Fresh k m w n
+pub fresh-made : {k m : ℕ} {w n : List ℕ} → w ≡ set (replicate k 0) 2 9 → n ≡ freshIn m → Fresh k m w n
 fresh-made {k} {m} {w} {n} e d =
     record {
       words = e;
       bytes = d;
       fits = λ l h.
-          zeros-fit whole w n zeros (first h) (omega (arith, ap length e, length-replicate {A = ℕ} k 0)) (omega (arith, ap length d, length-map (from 0 m) freshByte, from-length 0 m));
+          zeros-fit whole w n zeros (first h) (ap (λ (v : List ℕ). getD v 2 0) e ∙ nine-at k (omega (arith, l)))
+          (omega (arith, l, ap length e, length-set {A = ℕ} (replicate k 0) 2 9, length-replicate {A = ℕ} k 0))
+          (omega (arith, h, ap length d, length-map (from 0 m) freshByte, from-length 0 m));
       held = λ l h. zeros-held whole w n zeros (first h);
     }
   where
-    zeros : (i : ℕ) → getD w i 0 ≡ 0
-    zeros i = ap (λ (v : List ℕ). getD v i 0) e ∙ zero-at k i
+    zeros : (i : ℕ) → (i ≡ 2 → ⊥) → getD w i 0 ≡ 0
+    zeros i f = ap (λ (v : List ℕ). getD v i 0) e ∙ zero-beside k i f
 
     first : 32936 ≤ m → take (length fixedBytes) n ≡ fixedBytes
     first h = ap (take 168) d ∙ begun m (omega arith)

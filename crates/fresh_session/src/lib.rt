@@ -1,8 +1,13 @@
-// The fresh session: nothing counted, and the fixed names.
+// The fresh session: the nine core names on show, nothing else counted, and the fixed names.
 ghost use mathlib.Core.Path.{_≡_};
 ghost use lib.ListN.{length};
 ghost use Rattle.fresh_session.specs.Fresh.{freshByte, freshIn, Fresh};
+use session::layout;
 use words::clear;
+use words::put_at;
+
+// The core names, which are on show in every session.
+const CORE_NAMES: u32 = 9;
 
 // The bytes of the fixed names, and zeros after them.
 fn write_fixed(bytes: &mut [u8])
@@ -30,5 +35,6 @@ pub fn fresh(words: &mut [u32], bytes: &mut [u8])
     ensures { λ _. ⌜ Fresh (length (now (words .entry))) (length (now (bytes .entry))) (now (words .exit)) (now (bytes .exit)) ⌝ }
 {
     clear(words);
+    put_at(words, layout::SHOWN, CORE_NAMES);
     write_fixed(bytes);
 }

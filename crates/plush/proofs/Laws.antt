@@ -60,6 +60,7 @@ session-entered w n s ns lent room x out line r w′ n′ a e f = record {
   bytes = a .bytes;
   fits = a .fits;
   held = a .held;
+  shown = a .shown;
   closures =
       λ z.
       subst (λ (k : ℕ). Demand3 (outsideOf (sessionIn whole w n)) (entrySheet (sessionIn whole w n) ns s) (rowsOfWords k out)) (a .tells .rows) (a .closures z);
@@ -72,6 +73,7 @@ session-previewed w n s ns lent room x out line r a e f = record {
   number = a .tells .number;
   words = a .words;
   report = f ∙ ap (fitted room) (e ∙ told-line (enterOutcome whole w n s ns lent) x (a .tells));
+  shown = a .shown;
   closures =
       λ z.
       subst (λ (k : ℕ). Demand3 (outsideOf (sessionIn whole w n)) (entrySheet (sessionIn whole w n) ns s) (rowsOfWords k out)) (a .tells .rows) (a .closures z);
@@ -86,6 +88,7 @@ session-withdrawn w n room x line r w′ a e f = record {
   session = a .session;
   fits = a .fits;
   held = a .held;
+  shown = a .shown;
 }
 
 -- what `find_name` answers, in the lent words

@@ -3,7 +3,9 @@ use mathlib.Core.Path.{_≡_}
 use mathlib.Core.Bool.{true}
 use mathlib.Core.List.{List}
 use Prim.Native.Nat.{ℕ}
+use lib.ListN.{getD}
 use Rattle.report.specs.Report.{fitted, reportLine}
+use Rattle.session.specs.Session.{namesShown}
 use Rattle.session.specs.Words.{whole, sessionIn, sessionFits}
 use Rattle.session.specs.Withdraw.{withdrawn, withdrawOutcome, withdrawWords}
 
@@ -15,6 +17,7 @@ pub record SessionWithdrawn (w n : List ℕ) (room k : ℕ) (r w′ : List ℕ) 
   pub report : r ≡ fitted room (reportLine (withdrawOutcome whole w n))
   -- the session has the words after it,
   pub session : w′ ≡ withdrawWords whole w n
-  -- and one that passed question 23 passes it again, and is without its latest entry.
+  -- and one that passed question 23 passes it again, is without its latest entry, and shows as many names as a full recount finds.
   pub fits : sessionFits whole w n ≡ true → sessionFits whole w′ n ≡ true
   pub held : sessionFits whole w n ≡ true → sessionIn whole w′ n ≡ withdrawn (sessionIn whole w n)
+  pub shown : sessionFits whole w n ≡ true → getD w′ 2 0 ≡ namesShown (sessionIn whole w′ n)

@@ -9,12 +9,12 @@ use lib.ListN.{length, getD, take, drop, length-append, length-map}
 use Rattle.definition.specs.Basics.{if_then_else_, any, unlike, from}
 use Rattle.definition.specs.Names.{Name, fixed, listed, sameName, namesFit}
 use Rattle.definition.specs.Sheet.{Sheet}
-use Rattle.session.proofs.SessionLaws.{from-length}
+use Rattle.session.proofs.SessionLaws.{from-length, runs-of}
 use Rattle.names.specs.Listed.{starts, numbered}
 use Rattle.names.proofs.Question.{fit-small}
 use Rattle.session.specs.Session.{Session, allNames}
 use Rattle.session.specs.Entry.{newNames, namesWith, toSession}
-use Rattle.session.specs.Words.{whole, nameBytes, sessionIn, sessionFits}
+use Rattle.session.specs.Words.{whole, nameBytes, sessionIn, runsFit, sessionFits}
 use Rattle.session.proofs.NameLaws.{names-apart}
 use Rattle.session.proofs.HeldRuns.{held-names}
 use Rattle.session.proofs.CountLaws.{list-fits, limits}
@@ -32,16 +32,19 @@ module _ (w n : List ℕ) (fit : sessionFits whole w n ≡ true) where
   abbrev l : List ℕ
   l = nameBytes whole w n
 
+  runs : runsFit whole w n ≡ true
+  runs = runs-of whole w n fit
+
   -- the session's names are those of its list, and no two the same
   pub listed-all : allNames (sessionIn whole w n) ≡ numbered (nameBytes whole w n)
-  listed-all = held-names whole w n fit
+  listed-all = held-names whole w n runs
 
   pub all-apart : unlike sameName (allNames (sessionIn whole w n)) ≡ true
-  all-apart = subst (λ (k : List Name). unlike sameName k ≡ true) (sym listed-all) (names-apart l (list-fits whole w n fit))
+  all-apart = subst (λ (k : List Name). unlike sameName k ≡ true) (sym listed-all) (names-apart l (list-fits whole w n runs))
 
   -- the listed names lie in the bytes
   pub list-inside : 168 + getD w 4 0 ≤ length n
-  list-inside = omega (arith, leb→le (getD w 4 0) 32768 (limits whole w n fit 3), leb→le (168 + 32768) (length n) (limits whole w n fit 8))
+  list-inside = omega (arith, leb→le (getD w 4 0) 32768 (limits whole w n runs 3), leb→le (168 + 32768) (length n) (limits whole w n runs 8))
 
   -- the part of the bytes that the names are read in
   pub list-is : (m : ℕ) → m ≡ getD w 4 0 → take (168 + m - 168) (drop 168 n) ≡ nameBytes whole w n
@@ -50,7 +53,7 @@ module _ (w n : List ℕ) (fit : sessionFits whole w n ≡ true) where
       ap (λ (k : ℕ). take k (drop 168 n)) same
 
   pub list-good : {k : List ℕ} → k ≡ nameBytes whole w n → namesFit k ≡ true
-  list-good e = ap namesFit e ∙ list-fits whole w n fit
+  list-good e = ap namesFit e ∙ list-fits whole w n runs
 
   pub list-all : {k : List ℕ} → k ≡ nameBytes whole w n → allNames (sessionIn whole w n) ≡ numbered k
   list-all e = listed-all ∙ ap numbered (sym e)
@@ -61,14 +64,14 @@ module _ (w n : List ℕ) (fit : sessionFits whole w n ≡ true) where
 
   module _ {k : ℕ} (counted : k ≡ length (listed (nameBytes whole w n)) + 1) where
     pub starts-few : k ≤ 1025
-    starts-few = omega (arith, counted, fit-small l (list-fits whole w n fit) .0)
+    starts-few = omega (arith, counted, fit-small l (list-fits whole w n runs) .0)
 
     -- the first new number
     pub first-is : 24 + k ≡ suc (length (allNames (sessionIn whole w n)))
     first-is = omega (arith, counted, ap length listed-all, length-append fixed (listed l))
 
   pub first-few : {k : ℕ} → k ≡ suc (length (allNames (sessionIn whole w n))) → k ≤ 1049
-  first-few e = omega (arith, e, ap length listed-all, length-append fixed (listed l), fit-small l (list-fits whole w n fit) .0)
+  first-few e = omega (arith, e, ap length listed-all, length-append fixed (listed l), fit-small l (list-fits whole w n runs) .0)
 
 -- of an entry's names
 module _ {w : List ℕ} {s : Sheet} {numbers : List ℕ} {new size : ℕ} {n ns : List ℕ} (h : Told w s numbers new size n ns) where

@@ -14,6 +14,7 @@ use Rattle.answer.specs.Tells.{Tells}
 use Rattle.finish.proofs.SettledLaws.{zeros-words}
 use Rattle.session.specs.Entry.{newNames, toEntry}
 use Rattle.session.specs.Words.{whole, sessionIn, enterOutcome}
+use Rattle.session.proofs.SessionLaws.{runs-of, shown-is}
 use Rattle.session.proofs.CountLaws.{limits}
 use Rattle.entry_ready.specs.Over.{AskedOver}
 use Rattle.try_entry.specs.declared.Tried.{Tried}
@@ -24,7 +25,7 @@ use Rattle.prepare_entry.proofs.OutcomeLaws.{noBefore, refused-before, entry-te
 use Rattle.preview.specs.Previewed.{Previewed, AskedTold}
 
 pub few-entries : {w : List ℕ} {s : Sheet} {numbers : List ℕ} {new bytes : ℕ} {n ns : List ℕ} → Told w s numbers new bytes n ns → getD w 1 0 ≤ 1000
-few-entries {w} {n = n} h = leb→le (getD w 1 0) 1000 (limits whole w n (h .fits) 1)
+few-entries {w} {n = n} h = leb→le (getD w 1 0) 1000 (limits whole w n (runs-of whole w n (h .fits)) 1)
 
 -- what is tried over the words that are written is asked over the session
 pub asked-told : {w : List ℕ} {s : Sheet} {numbers : List ℕ} {new bytes lent : ℕ} {o c : List ℕ} {x : Tried} {out : List ℕ}
@@ -42,6 +43,7 @@ module _ (w n : List ℕ) (s : Sheet) (ns : List ℕ) (lent : ℕ) where
       record {
         tells = subst (λ (o : Outcome). Tells o x) (sym e) t;
         words = zeros-words lent (enterOutcome whole w n s ns lent) out (ap (λ (o : Outcome). o .rows) e) z;
+        shown = shown-is whole w n;
         closures = λ h. absurd (f (sym (t .number) ∙ h));
       }
 
@@ -53,5 +55,6 @@ module _ (w n : List ℕ) (s : Sheet) (ns : List ℕ) (lent : ℕ) where
       record {
         tells = entry-tells w n s ns lent (told .fits) (told .none) (asked n ns told) same named;
         words = entry-words w n s ns lent (told .fits) (told .none) (asked n ns told) same named;
+        shown = shown-is whole w n;
         closures = entry-closures w n s ns lent (told .fits) (told .none) (asked n ns told) same named;
       }

@@ -11,9 +11,11 @@ use answer::refuse;
 use entry_names::append_names;
 use entry_names::entry_number;
 use entry_space::enter_sheet;
+use names_shown::count_shown;
 use prepare_entry::Prepared;
 use prepare_entry::prepare;
 use session::layout;
+use words::put_at;
 use words::word_at;
 
 // An entry that is prepared, its names told by the session's numbers.
@@ -38,6 +40,7 @@ fn enter_told(
         return answer;
     }
     append_names(names, numbers, entry.first, bytes, at);
+    put_at(words, layout::SHOWN, count_shown(words));
     answer
 }
 

@@ -37,7 +37,6 @@ pub record Added (R : Room) (w n w′ n′ : List ℕ) (g : ℕ) (e : Accepted) 
   pub long-bytes : length n′ ≡ length n
   pub globals-is : getD w′ 0 0 ≡ g
   pub entries-is : getD w′ 1 0 ≡ suc (getD w 1 0)
-  pub shown-is : getD w′ 2 0 ≡ getD w 2 0
   pub count-is : (c : ℕ) → c < 5 → getD w′ (3 + c) 0 ≡ getD (countsWith w e) c 0
   -- what was there
   pub entry-old : (i k : ℕ) → i < getD w 1 0 → k < 5 → getD w′ (entryPlace R i + k) 0 ≡ getD w (entryPlace R i + k) 0
@@ -61,7 +60,6 @@ added R w n g e room =
       long-bytes = length-sets n (length fixedBytes + getD w 4 0) (concatMap ended (e .names));
       globals-is = front-word R w n g e room 0 (omega arith);
       entries-is = front-word R w n g e room 1 (omega arith);
-      shown-is = front-word R w n g e room 2 (omega arith);
       count-is = counted;
       entry-old = old-entry R w n g e room;
       laid-old = old-laid R w n g e room;

@@ -20,14 +20,15 @@ use Rattle.definition.proofs.Format.Accepted.{asked-accepted}
 use Rattle.session.specs.Session.{Accepted, Session, allClasses, outsideOf, within, memberCount}
 use Rattle.session.specs.Entry.{newNames, namesWith, toEntry, entrySheet}
 use Rattle.session.specs.Enter.{nextGlobal, newEntry, accepting, entered, afterEntry}
-use Rattle.session.specs.Words.{Room, ended, fixedBytes, sessionSize, nameBytes, sessionIn, sessionFits, wordsWith, bytesWith, enterOutcome, enterWords, enterBytes}
+use Rattle.session.specs.Words.{Room, ended, fixedBytes, sessionSize, nameBytes, sessionIn, runsFit, sessionFits, showing, wordsWith, bytesWith, enterOutcome, enterWords, enterBytes}
 use Rattle.session.proofs.NameLaws.{names-apart}
-use Rattle.session.proofs.SessionLaws.{clauses, limits}
+use Rattle.session.proofs.SessionLaws.{clauses, limits, runs-of}
 use Rattle.session.proofs.HeldRuns.{held-names}
 use Rattle.session.proofs.CountLaws.{list-fits, within-with}
 use Rattle.session.proofs.Asked.{Asked, past-asked, outcome-in, asked-entry}
 use Rattle.session.proofs.Globals.{final-bound}
-use Rattle.session.proofs.AfterRefusal.{Holds, wordsAt, bytesAt, sessionAt, words-are, bytes-are}
+use Rattle.session.proofs.Shown.{Holds, Runs, showing-holds}
+use Rattle.session.proofs.AfterRefusal.{wordsAt, bytesAt, sessionAt, words-are, bytes-are}
 use Rattle.session.proofs.NewWords.{Roomy, noClass}
 use Rattle.session.proofs.Added.{Added, added}
 use Rattle.session.proofs.ReadBack.{session-back}
@@ -56,9 +57,9 @@ pub record GoodParts (S : Session) (E N g : ℕ) (e : Accepted) : Type 0 where
   pub classes : T (all (classGood E N (knownIn (allClasses S ++ e .classes))) (e .classes))
   pub rising : (j : ℕ) → suc j < length (e .classes) → getD (e .classes) j noClass .number < getD (e .classes) (suc j) noClass .number
 
-module _ (R : Room) (wide : Wide R) (w n : List ℕ) (fit : sessionFits R w n ≡ true) where
-  fits : T (sessionFits R w n)
-  fits = T-true (sessionFits R w n) fit
+module _ (R : Room) (wide : Wide R) (w n : List ℕ) (fit : runsFit R w n ≡ true) where
+  fits : T (runsFit R w n)
+  fits = T-true (runsFit R w n) fit
 
   -- question 24, with room for all
   roomy : (g : ℕ) (e : Accepted) → within (record { globals = g; entries = sessionIn R w n .entries ++ e ∷ [] }) ≡ true → Roomy R w n e
@@ -104,15 +105,12 @@ module _ (R : Room) (wide : Wide R) (w n : List ℕ) (fit : sessionFits R w n �
       upto₂ : T (b₀ && b₁ && b₂)
       upto₂ = and-left (b₀ && b₁ && b₂) b₃ upto₃
 
-  -- the words and bytes after an entry that may follow
-  holds-with : (g : ℕ) (e : Accepted) (v m : List ℕ) (after : Session) → v ≡ wordsWith R w g e → m ≡ bytesWith w n e
-      → after ≡ record { globals = g; entries = sessionIn R w n .entries ++ e ∷ [] } → Roomy R w n e → MayFollow R w n g e → Holds R v m after
-  holds-with g e v m after p q r room ok =
-      subst (λ (x : List ℕ). Holds R x m after) (sym p) (subst (λ (y : List ℕ). Holds R v′ y after) (sym q)
-      (record {
-        fits = follows-fits R w n v′ m′ g e fit x ok (omega (arith, wide .bytes));
-        held = session-back R w n v′ m′ g e fit x (ok .rises) (ok .endless) out ∙ sym r;
-      }))
+  -- the words and bytes with an entry that may follow
+  runs-with : (g : ℕ) (e : Accepted) → Roomy R w n e → MayFollow R w n g e
+      → (runsFit R (wordsWith R w g e) (bytesWith w n e) ≡ true)
+      × (sessionIn R (wordsWith R w g e) (bytesWith w n e) ≡ record { globals = g; entries = sessionIn R w n .entries ++ e ∷ [] })
+  runs-with g e room ok =
+      (follows-fits R w n v′ m′ g e fit x ok (omega (arith, wide .bytes)), session-back R w n v′ m′ g e fit x (ok .rises) (ok .endless) out)
     where
       v′ : List ℕ
       v′ = wordsWith R w g e
@@ -145,6 +143,9 @@ module _ (R : Room) (wide : Wide R) (w n : List ℕ) (fit : sessionFits R w n �
   many : R .members ≤ 8192
   many = omega (arith, wide .members)
 
+  runs : runsFit R w n ≡ true
+  runs = runs-of R w n fit
+
   pub taken : entered S s ns lent .number ≡ 0 → Taken S s ns t (entered S s ns lent .globals)
   taken e =
       let p = asked-entry R few many w n fit s ns lent (inl e) in
@@ -166,42 +167,58 @@ module _ (R : Room) (wide : Wide R) (w n : List ℕ) (fit : sessionFits R w n �
         few = omega (arith, k .count, final-bound (length (namesWith S ns)) (k .asked .fits) (k .asked .facts), k .asked .few-rows);
         endless = new-endless S ns (k .asked .named);
         sized = new-sized S ns (k .asked .named);
-        apart = subst (λ (l : List Name). T (unlike sameName (l ++ newNames S ns))) (held-names R w n fit)
-            (new-apart S ns (k .asked .named) (subst (λ (l : List Name). T (unlike sameName l)) (sym (held-names R w n fit))
-            (T-true (unlike sameName (fixed ++ listed (nameBytes R w n))) (names-apart (nameBytes R w n) (list-fits R w n fit)))));
+        apart = subst (λ (l : List Name). T (unlike sameName (l ++ newNames S ns))) (held-names R w n runs)
+            (new-apart S ns (k .asked .named) (subst (λ (l : List Name). T (unlike sameName l)) (sym (held-names R w n runs))
+            (T-true (unlike sameName (fixed ++ listed (nameBytes R w n))) (names-apart (nameBytes R w n) (list-fits R w n runs)))));
         laid = good .laid;
         classes = good .classes;
         rising = good .rising;
       }
 
-  chosen : (e : Accepted) (h g : ℕ) (x : Outcome) → x .number ≡ 0
-      → (wordsAt R few many w n fit s ns lent e h x ≡ wordsWith R w (x .globals) e) × (bytesAt R few many w n fit s ns lent e x ≡ bytesWith w n e)
+  chosen : (e : Accepted) (Z : Session) (g : ℕ) (x : Outcome) → x .number ≡ 0
+      → (wordsAt R few many w n fit s ns lent e Z x ≡ showing Z (wordsWith R w (x .globals) e)) × (bytesAt R few many w n fit s ns lent e x ≡ bytesWith w n e)
       × (sessionAt R few many w n fit s ns lent e g x ≡ record { globals = x .globals; entries = S .entries ++ e ∷ [] })
-  chosen e h g x q = (rw q, rw q, rw q)
+  chosen e Z g x q = (rw q, rw q, rw q)
 
   number-in : enterOutcome R w n s ns lent .number ≡ 0 → entered S s ns lent .number ≡ 0
   number-in z = ap (λ (o : Outcome). o .number) (sym (outcome-in R few many w n fit s ns lent)) ∙ z
 
-  -- the words and bytes after it have it added
-  pub accepted-added : enterOutcome R w n s ns lent .number ≡ 0
-      → Added R w n (enterWords R w n s ns lent) (enterBytes R w n s ns lent) (entered S s ns lent .globals) (newEntry S s ns)
-  accepted-added z =
-      let x : Outcome = entered S s ns lent in
-      let e : Accepted = newEntry S s ns in
-      let c = chosen e (afterEntry S s ns lent .globals) (nextGlobal (outsideOf S) t) x (number-in z) in
-      subst (λ (v : List ℕ). Added R w n v (enterBytes R w n s ns lent) (x .globals) e) (sym (words-are R few many w n fit s ns lent ∙ c .0))
-      (subst (λ (m : List ℕ). Added R w n (wordsWith R w (x .globals) e) m (x .globals) e) (sym (bytes-are R few many w n fit s ns lent ∙ c .1))
-      (added R w n (x .globals) e (roomy R wide w n fit (x .globals) e (taken (number-in z) .room))))
+  abbrev e : Accepted
+  e = newEntry S s ns
 
-  pub after-accepted : enterOutcome R w n s ns lent .number ≡ 0
-      → GoodParts S (getD w 1 0) (getD w 3 0 + length (newNames S ns)) (entered S s ns lent .globals) (newEntry S s ns)
-      → Holds R (enterWords R w n s ns lent) (enterBytes R w n s ns lent) (afterEntry S s ns lent)
-  after-accepted z good =
-      let x : Outcome = entered S s ns lent in
-      let e : Accepted = newEntry S s ns in
-      let q : x .number ≡ 0 = number-in z in
-      let k : Taken S s ns t (x .globals) = taken q in
-      let c = chosen e (afterEntry S s ns lent .globals) (nextGlobal (outsideOf S) t) x q in
-      holds-with R wide w n fit (x .globals) e (enterWords R w n s ns lent) (enterBytes R w n s ns lent) (afterEntry S s ns lent)
-      (words-are R few many w n fit s ns lent ∙ c .0) (bytes-are R few many w n fit s ns lent ∙ c .1) (c .2)
-      (roomy R wide w n fit (x .globals) e (k .room)) (may-follow (x .globals) k good)
+  -- the words with it, before its names on show are counted
+  abbrev laid : List ℕ
+  laid = wordsWith R w (entered S s ns lent .globals) (newEntry S s ns)
+
+  module _ (z : enterOutcome R w n s ns lent .number ≡ 0) where
+    parts : (wordsAt R few many w n fit s ns lent e (afterEntry S s ns lent) (entered S s ns lent) ≡ showing (afterEntry S s ns lent) laid)
+        × (bytesAt R few many w n fit s ns lent e (entered S s ns lent) ≡ bytesWith w n e)
+        × (afterEntry S s ns lent ≡ record { globals = entered S s ns lent .globals; entries = S .entries ++ e ∷ [] })
+    parts = chosen e (afterEntry S s ns lent) (nextGlobal (outsideOf S) t) (entered S s ns lent) (number-in z)
+
+    -- the words after it, and the bytes
+    pub accepted-words : enterWords R w n s ns lent ≡ showing (afterEntry S s ns lent) laid
+    accepted-words = words-are R few many w n fit s ns lent ∙ parts .0
+
+    accepted-bytes : enterBytes R w n s ns lent ≡ bytesWith w n e
+    accepted-bytes = bytes-are R few many w n fit s ns lent ∙ parts .1
+
+    room : Roomy R w n e
+    room = roomy R wide w n runs (entered S s ns lent .globals) e (taken (number-in z) .room)
+
+    -- the words and bytes with it have it added
+    pub accepted-added : Added R w n laid (enterBytes R w n s ns lent) (entered S s ns lent .globals) e
+    accepted-added =
+        subst (λ (m : List ℕ). Added R w n laid m (entered S s ns lent .globals) e) (sym accepted-bytes) (added R w n (entered S s ns lent .globals) e room)
+
+    module _ (good : GoodParts S (getD w 1 0) (getD w 3 0 + length (newNames S ns)) (entered S s ns lent .globals) e) where
+      -- and hold the session after it
+      pub accepted-runs : Runs R laid (enterBytes R w n s ns lent) (afterEntry S s ns lent)
+      accepted-runs =
+          let k = runs-with R wide w n runs (entered S s ns lent .globals) e room (may-follow (entered S s ns lent .globals) (taken (number-in z)) good) in
+          subst (λ (m : List ℕ). Runs R laid m (afterEntry S s ns lent)) (sym accepted-bytes) (record { fits = k .0; held = k .1 ∙ sym (parts .2) })
+
+      pub after-accepted : Holds R (enterWords R w n s ns lent) (enterBytes R w n s ns lent) (afterEntry S s ns lent)
+      after-accepted =
+          subst (λ (v : List ℕ). Holds R v (enterBytes R w n s ns lent) (afterEntry S s ns lent)) (sym accepted-words)
+          (showing-holds R laid (enterBytes R w n s ns lent) accepted-runs)

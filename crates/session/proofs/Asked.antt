@@ -21,12 +21,12 @@ use Rattle.definition.proofs.Walk.Fitting.{fits}
 use Rattle.session.specs.Session.{Session, outsideOf}
 use Rattle.session.specs.Entry.{namesWith, toSession, entrySheet}
 use Rattle.session.specs.Enter.{entryFits, renamed, askedIn, entered}
-use Rattle.session.specs.Words.{Room, sessionIn, sessionFits, enterOutcome}
+use Rattle.session.specs.Words.{Room, sessionIn, runsFit, sessionFits, enterOutcome}
 use Rattle.session.proofs.RowLaws.{whole-rows, whole-some, whole-few}
 use Rattle.session.proofs.Renaming.{Renamed, sheet-renamed, a-plain, kids-same, kidsOf-same}
 use Rattle.session.proofs.EntryLaws.{entry-renamed, entry-whole}
 use Rattle.session.proofs.OutsideLaws.{outside-fits}
-use Rattle.session.proofs.SessionLaws.{orderly-in}
+use Rattle.session.proofs.SessionLaws.{runs-of, orderly-in}
 
 -- An entry of sheet s and names ns into session S that was asked question 5; t is the sheet with the session's name numbers.
 pub record Asked (S : Session) (s : Sheet) (ns : List ℕ) (t : Sheet) : Type 0 where
@@ -90,7 +90,7 @@ module _ (R : Room) (few : R .laid ≤ 4096) (many : R .members ≤ 8192) (w n :
       some-row = whole-some t rows-t;
       few-rows = whole-few t rows-t;
       facts = sf;
-      fits = fits (length (namesWith S ns)) t (outside-fits (orderly-in R w n (T-true (sessionFits R w n) fit) few many)) (whole-some t rows-t) fitting;
+      fits = fits (length (namesWith S ns)) t (outside-fits (orderly-in R w n (T-true (runsFit R w n) (runs-of R w n fit)) few many)) (whole-some t rows-t) fitting;
       one = ap length (kids-same named 0) ∙ eqb→eq (length (kids s 0)) 1 (and-left one alone (and-left (one && alone) above e₅));
       alone =
           ap length (kidsOf-same named IMPORT (child t 0)) ∙ ap (λ (r : ℕ). length (kidsOf s IMPORT r)) (named .childs 0)

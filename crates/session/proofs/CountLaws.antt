@@ -14,7 +14,7 @@ use Rattle.definition.specs.Names.{Name, lead, listed, sameName, namesFew, name
 use Rattle.definition.proofs.Lists.Tests.{T-true, true-of, and-left, and-right, pick}
 use Rattle.definition.proofs.Lists.Members.{total-append}
 use Rattle.session.specs.Session.{Accepted, allLaid, allClasses, memberCount, within}
-use Rattle.session.specs.Words.{Room, ended, fixedBytes, nameBytes, countAfter, fieldsIn, methodsIn, membersBefore, laidIn, classIn, entryIn, sessionIn, sessionSize, sessionFits}
+use Rattle.session.specs.Words.{Room, ended, fixedBytes, nameBytes, countAfter, fieldsIn, methodsIn, membersBefore, laidIn, classIn, entryIn, sessionIn, sessionSize, runsFit}
 use Rattle.session.proofs.SessionLaws.{from-length, clauses, last-are, entry-tests, fields-length, methods-length}
 use Rattle.session.proofs.HeldRuns.{held-listed, names-listed, held-laid, held-classes}
 
@@ -64,9 +64,9 @@ ended-back (x ∷ y ∷ ys) h = go (eqb x 10) refl (ended-back (y ∷ ys) (rw su
     go true e rest = ap (λ (l : List ℕ). 10 ∷ l) rest ∙ ap (λ (k : ℕ). k ∷ y ∷ ys) (sym (eqb-true x 10 e))
     go false e rest = lead-ended (listed (y ∷ ys)) (λ z. omega (arith, ap length (sym rest ∙ ap (concatMap ended) z))) ∙ ap (λ (l : List ℕ). x ∷ l) rest
 
-module _ (R : Room) (w n : List ℕ) (fit : sessionFits R w n ≡ true) where
-  fits : T (sessionFits R w n)
-  fits = T-true (sessionFits R w n) fit
+module _ (R : Room) (w n : List ℕ) (fit : runsFit R w n ≡ true) where
+  fits : T (runsFit R w n)
+  fits = T-true (runsFit R w n) fit
 
   pub names-count : total (λ e. length (e .names)) (sessionIn R w n .entries) ≡ getD w 3 0
   names-count = total-lengths (λ e. e .names) (sessionIn R w n .entries) ∙ ap length (held-listed R w n fit) ∙ names-listed R w n fit

@@ -13,7 +13,7 @@ use Rattle.definition.specs.Names.{Name, listed, sameName, namesFit}
 use Rattle.definition.proofs.Lists.Tests.{and-both, and-left, and-right, T-true, true-of, pick, eqb-of}
 use Rattle.definition.proofs.Lists.Members.{from-mem, map-same, map-append}
 use Rattle.session.specs.Words.{Room, ended, fixedBytes, sessionSize, countAfter, partOf, nameBytes, laidIn, membersBefore, classIn, entryIn, sessionIn}
-use Rattle.session.specs.Words.{countsFit, sessionNamesFit, bytesOf, rowFits, laidFits, classFits, entryNumbersFit, numbersFit, sessionFits}
+use Rattle.session.specs.Words.{countsFit, sessionNamesFit, bytesOf, rowFits, laidFits, classFits, entryNumbersFit, numbersFit, runsFit}
 use Rattle.session.proofs.Renaming.{all-from}
 use Rattle.session.proofs.SessionLaws.{from-length, clauses, limits, entry-tests, rises, last-are}
 use Rattle.session.proofs.HeldRuns.{from-split, names-listed}
@@ -31,9 +31,9 @@ pub record Cut (R : Room) (w n v : List ℕ) (E : ℕ) : Type 0 where
   pub counts : (c : ℕ) → c < 5 → getD v (3 + c) 0 ≡ countAfter R w n E c
   pub rows : (p : ℕ) → 8 ≤ p → getD v p 0 ≡ getD w p 0
 
-module _ (R : Room) (w n : List ℕ) (fit : sessionFits R w n ≡ true) where
-  fits : T (sessionFits R w n)
-  fits = T-true (sessionFits R w n) fit
+module _ (R : Room) (w n : List ℕ) (fit : runsFit R w n ≡ true) where
+  fits : T (runsFit R w n)
+  fits = T-true (runsFit R w n) fit
 
   -- no count falls over several entries
   rises-more : (i k c : ℕ) → i + k ≤ getD w 1 0 → c < 5 → countAfter R w n i c ≤ countAfter R w n (i + k) c
@@ -173,7 +173,7 @@ module _ (R : Room) (w n : List ℕ) (fit : sessionFits R w n ≡ true) where
         (all-from (λ c. eqb (countAfter R v n E c) (getD v (3 + c) 0)) 0 5 (λ c b.
         eqb-of (countAfter R v n E c) (getD v (3 + c) 0) (count-same R w n v (x .globals) (x .rows) E c ∙ sym (x .counts c (omega (arith, b))))))))
 
-    pub cut-fits : sessionFits R v n ≡ true
+    pub cut-fits : runsFit R v n ≡ true
     cut-fits = rw (counts-kept, names-kept, numbers-kept)
 
     -- what an entry that is left reads

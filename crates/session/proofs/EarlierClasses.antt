@@ -12,7 +12,7 @@ use Rattle.definition.specs.Outside.{Method, ClassRecord, core}
 use Rattle.definition.specs.Answer.{raisedFunction}
 use Rattle.definition.proofs.Lists.Tests.{and-both, and-left, and-right, T-true, pick}
 use Rattle.session.specs.Session.{Class, allClasses, pastRows, earlierRecord, outsideOf}
-use Rattle.session.specs.Words.{Room, countAfter, classIn, sessionIn, classTests, classFits, sessionFits}
+use Rattle.session.specs.Words.{Room, countAfter, classIn, sessionIn, classTests, classFits, runsFit}
 use Rattle.session.proofs.OutsideLaws.{all-append, all-map}
 use Rattle.session.proofs.SessionLaws.{each-class, rises}
 use Rattle.session.proofs.Extended.{all-turned}
@@ -74,9 +74,9 @@ record-later E N M b x l h =
         and-both (isName M (m .name) && q) r
         (and-both (isName M (m .name)) q (name-later N M (m .name) l (and-left p q (and-left (p && q) r t))) (and-right p q (and-left (p && q) r t))) (and-right (p && q) r t)
 
-module _ (R : Room) (w n : List ℕ) (fit : sessionFits R w n ≡ true) where
-  fits : T (sessionFits R w n)
-  fits = T-true (sessionFits R w n) fit
+module _ (R : Room) (w n : List ℕ) (fit : runsFit R w n ≡ true) where
+  fits : T (runsFit R w n)
+  fits = T-true (runsFit R w n) fit
 
   abbrev E : ℕ
   E = getD w 1 0

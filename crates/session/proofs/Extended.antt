@@ -16,7 +16,7 @@ use Rattle.definition.proofs.Lists.Tests.{and-both, and-left, and-right, T-true
 use Rattle.definition.proofs.Lists.Members.{from-mem, map-same, total-append}
 use Rattle.session.specs.Session.{Class}
 use Rattle.session.specs.Words.{Room, ended, entryPlace, laidPlace, classPlace, memberPlace, countAfter, partOf, nameBytes, laidIn, fieldsIn, methodsIn, membersBefore, classIn, entryIn}
-use Rattle.session.specs.Words.{bytesOf, rowFits, isClassUpTo, laidFits, classFits, entryNumbersFit, sessionFits}
+use Rattle.session.specs.Words.{bytesOf, rowFits, isClassUpTo, laidFits, classFits, entryNumbersFit, runsFit}
 use Rattle.session.proofs.SessionLaws.{entry-tests, rises, sum-more}
 use Rattle.session.proofs.HeldRuns.{from-split, names-listed}
 use Rattle.session.proofs.CountLaws.{members-all}
@@ -93,9 +93,9 @@ laid-more e N G H own x c f m l =
     both true true true m u t = t
     both true true false m u t = absurd (u tt)
 
-module _ (R : Room) (w n w′ n′ : List ℕ) (fit : sessionFits R w n ≡ true) (x : Extends R w n w′ n′) where
-  fits : T (sessionFits R w n)
-  fits = T-true (sessionFits R w n) fit
+module _ (R : Room) (w n w′ n′ : List ℕ) (fit : runsFit R w n ≡ true) (x : Extends R w n w′ n′) where
+  fits : T (runsFit R w n)
+  fits = T-true (runsFit R w n) fit
 
   pub count-same : (e c : ℕ) → e ≤ getD w 1 0 → c < 5 → countAfter R w′ n′ e c ≡ countAfter R w n e c
   count-same e c l h = by (eqb e 0) refl

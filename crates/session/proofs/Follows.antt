@@ -17,7 +17,7 @@ use Rattle.definition.proofs.Lists.Tests.{and-both, and-left, and-right, or-cas
 use Rattle.definition.proofs.Lists.Members.{mem-any, any-mem, map-mem, from-mem, mem-from}
 use Rattle.session.specs.Session.{Class, Accepted, allClasses}
 use Rattle.session.specs.Words.{Room, ended, fixedBytes, laidPlace, classPlace, sessionSize, countAfter, partOf, nameBytes, membersBefore, classIn, sessionIn}
-use Rattle.session.specs.Words.{countsFit, sessionNamesFit, bytesOf, rowFits, isClassUpTo, laidFits, classFits, entryNumbersFit, numbersFit, sessionFits, laidWords, countsWith}
+use Rattle.session.specs.Words.{countsFit, sessionNamesFit, bytesOf, rowFits, isClassUpTo, laidFits, classFits, entryNumbersFit, numbersFit, runsFit, laidWords, countsWith}
 use Rattle.session.proofs.OutsideLaws.{all-append}
 use Rattle.session.proofs.SessionLaws.{clauses}
 use Rattle.session.proofs.HeldRuns.{held-classes, names-listed}
@@ -157,10 +157,10 @@ all-places p i (suc k) h =
     and-both (p i) (all p (from (suc i) k)) (subst (λ (r : ℕ). T (p r)) z (h 0 (omega arith)))
     (all-places p (suc i) k (λ j l. let q : i + suc j ≡ suc i + j = omega arith in subst (λ (r : ℕ). T (p r)) q (h (suc j) (omega arith))))
 
-module _ (R : Room) (w n w′ n′ : List ℕ) (g : ℕ) (e : Accepted) (fit : sessionFits R w n ≡ true) (x : Added R w n w′ n′ g e)
+module _ (R : Room) (w n w′ n′ : List ℕ) (g : ℕ) (e : Accepted) (fit : runsFit R w n ≡ true) (x : Added R w n w′ n′ g e)
     (ok : MayFollow R w n g e) (short : R .bytes ≤ 32768) where
-  fits : T (sessionFits R w n)
-  fits = T-true (sessionFits R w n) fit
+  fits : T (runsFit R w n)
+  fits = T-true (runsFit R w n) fit
 
   abbrev E : ℕ
   E = getD w 1 0
@@ -433,8 +433,8 @@ module _ (R : Room) (w n w′ n′ : List ℕ) (g : ℕ) (e : Accepted) (fit : s
           go (inr (inl q)) = subst (λ (k : ℕ). T (entryNumbersFit R w′ n′ k)) (sym q) entry-follows
           go (inr (inr h)) = absurd (omega arith)
 
-  pub follows-fits : sessionFits R w′ n′ ≡ true
+  pub follows-fits : runsFit R w′ n′ ≡ true
   follows-fits =
-      true-of (sessionFits R w′ n′)
+      true-of (runsFit R w′ n′)
       (and-both (countsFit R w′ n′) (sessionNamesFit R w′ n′ && (numbersFit R w′ n′ && true)) counts-fit
       (and-both (sessionNamesFit R w′ n′) (numbersFit R w′ n′ && true) names-fit (and-both (numbersFit R w′ n′) true numbers-fit tt)))

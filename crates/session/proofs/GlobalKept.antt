@@ -13,14 +13,14 @@ use Rattle.definition.specs.Names.{listed}
 use Rattle.definition.proofs.Lists.Tests.{and-both, and-right, T-true, true-of, pick, eqb-of}
 use Rattle.definition.proofs.Lists.Members.{from-mem, map-same}
 use Rattle.session.specs.Words.{Room, fixedBytes, entryPlace, laidPlace, classPlace, memberPlace, sessionSize, countAfter, nameBytes, entryIn, sessionIn}
-use Rattle.session.specs.Words.{countsFit, sessionNamesFit, entryNumbersFit, numbersFit, sessionFits}
+use Rattle.session.specs.Words.{countsFit, sessionNamesFit, entryNumbersFit, numbersFit, runsFit}
 use Rattle.session.proofs.SessionLaws.{clauses, limits, last-are}
 use Rattle.session.proofs.Renaming.{all-from}
 use Rattle.session.proofs.Extended.{Extends, entry-same, entry-fits, count-same}
 
-module _ (R : Room) (w n : List ℕ) (fit : sessionFits R w n ≡ true) (g : ℕ) (up : getD w 0 0 ≤ g) where
-  fits : T (sessionFits R w n)
-  fits = T-true (sessionFits R w n) fit
+module _ (R : Room) (w n : List ℕ) (fit : runsFit R w n ≡ true) (g : ℕ) (up : getD w 0 0 ≤ g) where
+  fits : T (runsFit R w n)
+  fits = T-true (runsFit R w n) fit
 
   abbrev w′ : List ℕ
   w′ = set w 0 g
@@ -53,7 +53,7 @@ module _ (R : Room) (w n : List ℕ) (fit : sessionFits R w n ≡ true) (g : ℕ
       entries : map (entryIn R w′ n) (from 0 (getD w 1 0)) ≡ map (entryIn R w n) (from 0 (getD w 1 0))
       entries = map-same (entryIn R w′ n) (entryIn R w n) (from 0 (getD w 1 0)) (λ e m. entry-same R w n w′ n fit extends e (omega (arith, from-mem e 0 (getD w 1 0) m)))
 
-  pub global-fits : g ≤ 1002048 → sessionFits R w′ n ≡ true
+  pub global-fits : g ≤ 1002048 → runsFit R w′ n ≡ true
   global-fits few = rw (counts-fit, names-fit, numbers-fit)
     where
       counts-fit : countsFit R w′ n ≡ true

@@ -12,7 +12,7 @@ use Rattle.definition.specs.Names.{Name, fixed, listed, sameName, namesFit}
 use Rattle.definition.proofs.Lists.Tests.{T-true, and-right}
 use Rattle.definition.proofs.Lists.Members.{map-append}
 use Rattle.session.specs.Session.{allNames, allLaid, allClasses}
-use Rattle.session.specs.Words.{Room, fixedBytes, countAfter, nameBytes, laidIn, classIn, entryIn, sessionIn, sessionFits}
+use Rattle.session.specs.Words.{Room, fixedBytes, countAfter, nameBytes, laidIn, classIn, entryIn, sessionIn, runsFit}
 use Rattle.session.proofs.SessionLaws.{joined-map, clauses, last-are, rises}
 
 -- numbers from a place on, and those after them
@@ -57,9 +57,9 @@ module _ {A : Type 0} where
       go i zero = refl
       go i (suc k) = ap (λ (r : List A). getD l i d ∷ r) (go (suc i) k)
 
-module _ (R : Room) (w n : List ℕ) (fit : sessionFits R w n ≡ true) where
-  fits : T (sessionFits R w n)
-  fits = T-true (sessionFits R w n) fit
+module _ (R : Room) (w n : List ℕ) (fit : runsFit R w n ≡ true) where
+  fits : T (runsFit R w n)
+  fits = T-true (runsFit R w n) fit
 
   -- the run of column c that f reads, for all entries
   held : {A : Type 0} (f : ℕ → A) (c : ℕ) → c < 5

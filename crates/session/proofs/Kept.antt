@@ -16,12 +16,14 @@ use Rattle.definition.proofs.Format.Facts.{SheetFacts}
 use Rattle.session.specs.Session.{Session, allNames, allClasses, baseOf, outsideOf}
 use Rattle.session.specs.Entry.{newNames, namesWith, entrySheet}
 use Rattle.session.specs.Enter.{classBy, classesBy, nextGlobal, newEntry, accepting, entered, afterEntry}
-use Rattle.session.specs.Words.{Room, whole, nameBytes, sessionIn, sessionFits, enterOutcome, enterWords, enterBytes}
+use Rattle.session.specs.Words.{Room, whole, nameBytes, sessionIn, runsFit, sessionFits, wordsWith, enterOutcome, enterWords, enterBytes}
 use Rattle.session.proofs.HeldRuns.{held-names, names-listed}
 use Rattle.session.proofs.CountLaws.{entry-count}
 use Rattle.session.proofs.Asked.{Asked, outcome-in}
-use Rattle.session.proofs.AfterRefusal.{Holds, next-bounds, after-refusal}
-use Rattle.session.proofs.AfterAccepted.{Wide, Taken, GoodParts, taken, after-accepted}
+use Rattle.session.proofs.SessionLaws.{runs-of}
+use Rattle.session.proofs.Shown.{Holds, Runs}
+use Rattle.session.proofs.AfterRefusal.{next-bounds, after-refusal}
+use Rattle.session.proofs.AfterAccepted.{Wide, Taken, GoodParts, taken, accepted-runs, after-accepted}
 use Rattle.session.proofs.EarlierClasses.{numbers-below, records-good}
 use Rattle.session.proofs.NewMembers.{goodRecord}
 use Rattle.session.proofs.NewClasses.{class-there, classes-good, classes-rise}
@@ -29,7 +31,7 @@ use Rattle.session.proofs.NewLaid.{laid-good}
 use Rattle.session.proofs.UnitRows.{UnitRows, unit-rows}
 
 -- what an accepted entry declares is good
-good-parts : (R : Room) (w n : List ℕ) → sessionFits R w n ≡ true → (s : Sheet) (ns : List ℕ) (g : ℕ)
+good-parts : (R : Room) (w n : List ℕ) → runsFit R w n ≡ true → (s : Sheet) (ns : List ℕ) (g : ℕ)
     → Taken (sessionIn R w n) s ns (entrySheet (sessionIn R w n) ns s) g
     → GoodParts (sessionIn R w n) (getD w 1 0) (getD w 3 0 + length (newNames (sessionIn R w n) ns)) g (newEntry (sessionIn R w n) s ns)
 good-parts R w n fit s ns g k =
@@ -92,16 +94,20 @@ module _ (w n : List ℕ) (s : Sheet) (ns : List ℕ) (lent : ℕ) (fit : sessio
   abbrev S : Session
   S = sessionIn whole w n
 
+  good : enterOutcome whole w n s ns lent .number ≡ 0
+      → GoodParts S (getD w 1 0) (getD w 3 0 + length (newNames S ns)) (entered S s ns lent .globals) (newEntry S s ns)
+  good z =
+      let q : entered S s ns lent .number ≡ 0 = ap (λ (o : Outcome). o .number) (sym told) ∙ z in
+      good-parts whole w n (runs-of whole w n fit) s ns (entered S s ns lent .globals) (taken whole wide w n fit s ns lent q)
+    where
+      told : enterOutcome whole w n s ns lent ≡ entered S s ns lent
+      told = outcome-in whole (omega arith) (omega arith) w n fit s ns lent
+
   after-holds : Holds whole (enterWords whole w n s ns lent) (enterBytes whole w n s ns lent) (afterEntry S s ns lent)
   after-holds = go (eqb (enterOutcome whole w n s ns lent .number) 0) refl
     where
-      accepted : enterOutcome whole w n s ns lent .number ≡ 0 → Holds whole (enterWords whole w n s ns lent) (enterBytes whole w n s ns lent) (afterEntry S s ns lent)
-      accepted z =
-          let q : entered S s ns lent .number ≡ 0 = ap (λ (o : Outcome). o .number) (sym (outcome-in whole (omega arith) (omega arith) w n fit s ns lent)) ∙ z in
-          after-accepted whole wide w n fit s ns lent z (good-parts whole w n fit s ns (entered S s ns lent .globals) (taken whole wide w n fit s ns lent q))
-
       go : (t : Bool) → eqb (enterOutcome whole w n s ns lent .number) 0 ≡ t → Holds whole (enterWords whole w n s ns lent) (enterBytes whole w n s ns lent) (afterEntry S s ns lent)
-      go true q = accepted (eqb-true (enterOutcome whole w n s ns lent .number) 0 q)
+      go true q = let z = eqb-true (enterOutcome whole w n s ns lent .number) 0 q in after-accepted whole wide w n fit s ns lent z (good z)
       go false q = after-refusal whole (omega arith) (omega arith) w n fit s ns lent (eqb-false (enterOutcome whole w n s ns lent .number) 0 q)
 
   -- no global is given back
@@ -131,3 +137,9 @@ after-held w n s ns lent fit = after-holds w n s ns lent fit .held
 -- No entry gives a global back.
 pub after-globals : (w n : List ℕ) (s : Sheet) (ns : List ℕ) (lent : ℕ) → sessionFits whole w n ≡ true → getD w 0 0 ≤ getD (enterWords whole w n s ns lent) 0 0
 after-globals w n s ns lent fit = omega (arith, globals-kept w n s ns lent fit, ap (λ (Z : Session). Z .globals) (after-held w n s ns lent fit))
+
+-- Before its names on show are counted, the words with an accepted entry hold the session after it.
+pub after-runs : (w n : List ℕ) (s : Sheet) (ns : List ℕ) (lent : ℕ) → sessionFits whole w n ≡ true → enterOutcome whole w n s ns lent .number ≡ 0
+    → Runs whole (wordsWith whole w (entered (sessionIn whole w n) s ns lent .globals) (newEntry (sessionIn whole w n) s ns)) (enterBytes whole w n s ns lent)
+    (afterEntry (sessionIn whole w n) s ns lent)
+after-runs w n s ns lent fit z = accepted-runs whole wide w n fit s ns lent z (good w n s ns lent fit z)

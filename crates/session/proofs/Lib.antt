@@ -14,6 +14,7 @@ pub mod Kept
 pub mod Extended
 pub mod Globals
 pub mod GlobalKept
+pub mod Shown
 pub mod AfterRefusal
 pub mod Stored
 pub mod NewWords

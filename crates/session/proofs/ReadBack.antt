@@ -16,7 +16,7 @@ use Rattle.definition.proofs.Lists.Tests.{and-left, and-right, T-true}
 use Rattle.definition.proofs.Lists.Members.{map-append, map-same, from-mem}
 use Rattle.session.specs.Session.{Class, Accepted, memberCount}
 use Rattle.session.specs.Words.{Room, entryPlace, laidPlace, classPlace, memberPlace, countAfter, partOf, nameBytes, laidIn, fieldsIn, methodsIn, membersBefore, classIn, entryIn, sessionIn}
-use Rattle.session.specs.Words.{sessionFits, laidWords, classWords, countsWith}
+use Rattle.session.specs.Words.{runsFit, laidWords, classWords, countsWith}
 use Rattle.session.proofs.SessionLaws.{last-are}
 use Rattle.session.proofs.HeldRuns.{from-split, names-listed}
 use Rattle.session.proofs.CountLaws.{members-all, names-end}
@@ -137,10 +137,10 @@ module _ (R : Room) (v m : List ℕ) where
         ap (membersBefore R v m) q ∙ omega (arith, r .1),
       )
 
-module _ (R : Room) (w n w′ n′ : List ℕ) (g : ℕ) (e : Accepted) (fit : sessionFits R w n ≡ true) (x : Added R w n w′ n′ g e)
+module _ (R : Room) (w n w′ n′ : List ℕ) (g : ℕ) (e : Accepted) (fit : runsFit R w n ≡ true) (x : Added R w n w′ n′ g e)
     (up : getD w 0 0 ≤ g) (pure : T (all endless (e .names))) where
-  fits : T (sessionFits R w n)
-  fits = T-true (sessionFits R w n) fit
+  fits : T (runsFit R w n)
+  fits = T-true (runsFit R w n) fit
 
   pub listed-with : listed (nameBytes R w′ n′) ≡ listed (nameBytes R w n) ++ e .names
   listed-with = ap listed (x .bytes-are) ∙ listed-more (nameBytes R w n) (names-end R w n fit) (e .names) pure

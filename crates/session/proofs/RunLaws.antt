@@ -15,13 +15,13 @@ use Rattle.definition.specs.Outside.{core}
 use Rattle.definition.specs.Sheet.{Sheet}
 use Rattle.definition.specs.Outcome.{Outcome}
 use Rattle.definition.proofs.Lists.Tests.{T-true, true-of}
-use Rattle.session.specs.Session.{Accepted, Session, allClasses, backward, visible}
+use Rattle.session.specs.Session.{Accepted, Session, allClasses, backward, visible, namesShown}
 use Rattle.session.specs.Enter.{newEntry, entered}
-use Rattle.session.specs.Words.{whole, nameBytes, sessionIn, sessionNamesFit, sessionFits, nameText}
+use Rattle.session.specs.Words.{whole, nameBytes, sessionIn, sessionNamesFit, runsFit, sessionFits, showing, nameText}
 use Rattle.session.specs.Withdraw.{withdrawn, wordsWithout}
 use Rattle.session.specs.Runs.{Memory, Request, entry, withdrawal, Effect, accepted, withdrew, refusal, effect, afterRequest, afterRun, effects}
 use Rattle.session.specs.Runs.{freshMemory, stacked, entriesLeft}
-use Rattle.session.proofs.SessionLaws.{clauses}
+use Rattle.session.proofs.SessionLaws.{clauses, runs-of, shown-is}
 use Rattle.session.proofs.HeldRuns.{held-listed}
 use Rattle.session.proofs.Asked.{outcome-in}
 use Rattle.session.proofs.Theorems.{fresh-fits, fresh-held}
@@ -79,7 +79,7 @@ module _ (M : Memory) (es : List Accepted) (h : Holding M es) where
       no f t = if not f then 23 else if t then 25 else 0
 
       after : Bool → Bool → Session
-      after f t = sessionIn whole (if eqb (no f t) 0 then wordsWithout whole (M .words) (M .bytes) else M .words) (M .bytes)
+      after f t = sessionIn whole (if eqb (no f t) 0 then showing (withdrawn S) (wordsWithout whole (M .words) (M .bytes)) else M .words) (M .bytes)
 
       by : (f t : Bool) → f ≡ true → after f t ≡ withdrawn S → after f t .entries ≡ backward (stacked es ((if eqb (no f t) 0 then withdrew else refusal) ∷ []))
       by true true q k = h .held
@@ -131,6 +131,9 @@ module _ (qs : List Request) where
   pub run-fits : sessionFits whole (memory .words) (memory .bytes) ≡ true
   run-fits = from-fresh .fits
 
+  run-runs : runsFit whole (memory .words) (memory .bytes) ≡ true
+  run-runs = runs-of whole (memory .words) (memory .bytes) run-fits
+
   -- the session's entries are the accepted ones left,
   pub run-left : session .entries ≡ leftOf
   run-left = from-fresh .held
@@ -139,14 +142,19 @@ module _ (qs : List Request) where
   pub run-visible : visible session ≡ distinct (λ x y. eqb (x .name) (y .name)) (backward (concatMap (λ e. e .laid) leftOf) ++ core .names)
   run-visible = ap (λ (l : List Accepted). distinct (λ (x y : Named). eqb (x .name) (y .name)) (backward (concatMap (λ e. e .laid) l) ++ core .names)) run-left
 
+  -- as many as are on show,
+  pub run-shown : getD (memory .words) 2 0
+      ≡ length (distinct (λ x y. eqb (x .name) (y .name)) (backward (concatMap (λ e. e .laid) leftOf) ++ core .names))
+  run-shown = shown-is whole (memory .words) (memory .bytes) run-fits ∙ ap (length {A = Named}) run-visible
+
   -- the names are the fixed ones and theirs, by number,
   pub run-names : listed (nameBytes whole (memory .words) (memory .bytes)) ≡ concatMap (λ e. e .names) leftOf
-  run-names = sym (held-listed whole (memory .words) (memory .bytes) run-fits) ∙ ap (concatMap (λ e. e .names)) run-left
+  run-names = sym (held-listed whole (memory .words) (memory .bytes) run-runs) ∙ ap (concatMap (λ e. e .names)) run-left
 
   pub run-texts : (ns : List ℕ) (k : ℕ) → nameText whole (memory .words) (memory .bytes) ns false (suc k) ≡ getD (fixed ++ concatMap (λ e. e .names) leftOf) k []
   run-texts ns k =
       rw (
-        true-of (sessionNamesFit whole (memory .words) (memory .bytes)) (clauses whole (memory .words) (memory .bytes) (T-true _ run-fits) 1),
+        true-of (sessionNamesFit whole (memory .words) (memory .bytes)) (clauses whole (memory .words) (memory .bytes) (T-true (runsFit whole (memory .words) (memory .bytes)) run-runs) 1),
         ne-eqb (suc k) 0 (λ z. omega (arith, z)),
         run-names,
         sub-one,

@@ -11,12 +11,12 @@ use borrow.Author.Tests.{le-leb, leb-true}
 use Rattle.definition.specs.Basics.{if_then_else_, all, unlike, from, concatMap, total}
 use Rattle.definition.specs.Meaning.{Named, function, class, global}
 use Rattle.definition.specs.Outside.{isOutward}
-use Rattle.definition.proofs.Lists.Tests.{and-both, and-left, and-right, T-true, true-of, pick, ℕ-trichotomy}
+use Rattle.definition.proofs.Lists.Tests.{and-both, and-left, and-right, T-true, true-of, pick, eqb-of, ℕ-trichotomy}
 use Rattle.definition.proofs.Lists.Members.{from-mem}
 use Rattle.definition.proofs.Lists.Counts.{all-below}
-use Rattle.session.specs.Session.{Class, allLaid, allClasses}
+use Rattle.session.specs.Session.{Class, namesShown, allLaid, allClasses}
 use Rattle.session.specs.Words.{Room, fixedBytes, laidPlace, memberPlace, sessionSize, countAfter, partOf, laidIn, fieldsIn, methodsIn, membersBefore, classIn, entryIn, sessionIn}
-use Rattle.session.specs.Words.{countsFit, sessionNamesFit, bytesOf, rowFits, laidFits, classTests, classFits, entryNumbersFit, numbersFit, sessionFits}
+use Rattle.session.specs.Words.{countsFit, sessionNamesFit, bytesOf, rowFits, laidFits, classTests, classFits, entryNumbersFit, numbersFit, runsFit, shownFits, sessionFits}
 use Rattle.session.proofs.OutsideLaws.{Orderly, all-append}
 
 pub from-length : (i k : ℕ) → length (from i k) ≡ k
@@ -58,7 +58,21 @@ sum-part f j (suc k) i l h = go (ℕ-trichotomy j i) (λ q. sum-part f (suc j) k
     go (inr (inl q)) below = omega (arith, ap f q)
     go (inr (inr q)) below = absurd (omega arith)
 
-module _ (R : Room) (w n : List ℕ) (fit : T (sessionFits R w n)) where
+-- Question 23: all but the names on show, and these.
+module _ (R : Room) (w n : List ℕ) where
+  pub runs-of : sessionFits R w n ≡ true → runsFit R w n ≡ true
+  runs-of fit = true-of (runsFit R w n) (and-left (runsFit R w n) (shownFits R w n) (T-true (sessionFits R w n) fit))
+
+  -- the word is the number that a full recount finds
+  pub shown-is : sessionFits R w n ≡ true → getD w 2 0 ≡ namesShown (sessionIn R w n)
+  shown-is fit = eqb→eq (getD w 2 0) (namesShown (sessionIn R w n)) (and-right (runsFit R w n) (shownFits R w n) (T-true (sessionFits R w n) fit))
+
+  pub shown-fits : runsFit R w n ≡ true → getD w 2 0 ≡ namesShown (sessionIn R w n) → sessionFits R w n ≡ true
+  shown-fits runs shown =
+      true-of (sessionFits R w n)
+      (and-both (runsFit R w n) (shownFits R w n) (T-true (runsFit R w n) runs) (eqb-of (getD w 2 0) (namesShown (sessionIn R w n)) shown))
+
+module _ (R : Room) (w n : List ℕ) (fit : T (runsFit R w n)) where
   -- how many entries there are, and count c after the first e of them
   abbrev pub E : ℕ
   E = getD w 1 0

@@ -5,7 +5,8 @@ use mathlib.Core.Bool.{Bool, true, false, not, _&&_}
 use mathlib.Core.List.{List, [], _∷_, _++_}
 use Prim.Native.Nat.{ℕ, zero, suc, _+_, _≤_}
 use native.Mathlib.Omega.{arith}
-use lib.ListN.{length, getD, take, replicate, length-append, length-replicate}
+use lib.ListN.{length, getD, set, take, replicate, length-append, length-set, length-replicate}
+use lib.Seq.{getD-set-same, getD-set-other}
 use lib.Dec.{eqb, leb}
 use borrow.Author.Tests.{le-leb}
 use Rattle.definition.specs.Basics.{if_then_else_, every, concatMap, from}
@@ -20,10 +21,11 @@ use Rattle.definition.specs.Claims.{Demand3}
 use Rattle.definition.proofs.Lists.Tests.{T-true}
 use Rattle.definition.proofs.Lists.Members.{take-front}
 use Rattle.definition.proofs.Theorems.{closure-claim-over}
-use Rattle.session.specs.Session.{Session, fresh, outsideOf, within}
+use Rattle.session.specs.Session.{Session, fresh, namesShown, outsideOf, within}
 use Rattle.session.specs.Entry.{ownNames, namesWith, renumbered, toSession, toEntry, holdsName, entryRow, entrySheet}
 use Rattle.session.specs.Enter.{renamed, accepting, askedIn, entered}
 use Rattle.session.specs.Words.{Room, fixedBytes, sessionSize, freshWords, freshBytes, countsFit, sessionNamesFit, numbersFit, sessionFits, sessionIn, enterOutcome}
+use Rattle.session.proofs.SessionLaws.{shown-fits}
 use Rattle.session.proofs.NameLaws.{renumbered-same, all-new, names-apart}
 use Rattle.session.proofs.RowLaws.{rowOf, rows-whole, whole-rows}
 use Rattle.session.proofs.Asked.{Asked, past, past-asked, asked-entry}
@@ -104,18 +106,28 @@ fresh-plain s ns lent one none = go (rowsFit s) refl (namesFit ns) refl (sheetFi
     go true e true f true false h = refl
     go true e true f true true h = rw fits (plain e f (rw fits at h))
 
--- A session of zeros, with bytes that begin with the fixed names.
-module _ (R : Room) (w n : List ℕ) (zeros : (i : ℕ) → getD w i 0 ≡ 0) (begun : take (length fixedBytes) n ≡ fixedBytes) where
+-- A session of zeros but for the names on show, with bytes that begin with the fixed names.
+module _ (R : Room) (w n : List ℕ) (zeros : (i : ℕ) → (i ≡ 2 → ⊥) → getD w i 0 ≡ 0) (begun : take (length fixedBytes) n ≡ fixedBytes) where
+  -- the words that are read beside it
+  first : getD w 0 0 ≡ 0
+  first = zeros 0 (λ e. omega (arith, e))
+
+  second : getD w 1 0 ≡ 0
+  second = zeros 1 (λ e. omega (arith, e))
+
+  count : (c : ℕ) → getD w (3 + c) 0 ≡ 0
+  count c = zeros (3 + c) (λ e. omega (arith, e))
+
   zeros-counts : sessionSize R ≤ length w → length fixedBytes + R .bytes ≤ length n → countsFit R w n ≡ true
   zeros-counts l m =
       rw (
-        zeros 0,
-        zeros 1,
-        zeros 3,
-        zeros 4,
-        zeros 5,
-        zeros 6,
-        zeros 7,
+        first,
+        second,
+        count 0,
+        count 1,
+        count 2,
+        count 3,
+        count 4,
         le-leb 0 (R .entries) (omega arith),
         le-leb 0 (R .bytes) (omega arith),
         le-leb 0 (R .laid) (omega arith),
@@ -126,18 +138,20 @@ module _ (R : Room) (w n : List ℕ) (zeros : (i : ℕ) → getD w i 0 ≡ 0) (b
       (ap (λ (t : Bool). t && true) (le-leb (length fixedBytes + R .bytes) (length n) m))
 
   zeros-names : sessionNamesFit R w n ≡ true
-  zeros-names = rw (zeros 3, zeros 4, begun)
+  zeros-names = rw (count 0, count 1, begun)
 
   zeros-numbers : numbersFit R w n ≡ true
-  zeros-numbers = rw (zeros 1, zeros 3, zeros 4, zeros 5, zeros 6, zeros 7)
-
-  pub zeros-fit : sessionSize R ≤ length w → length fixedBytes + R .bytes ≤ length n → sessionFits R w n ≡ true
-  zeros-fit l m =
-      ap (λ (t : Bool). every (t ∷ sessionNamesFit R w n ∷ numbersFit R w n ∷ [])) (zeros-counts l m)
-      ∙ ap (λ (t : Bool). every (t ∷ numbersFit R w n ∷ [])) zeros-names ∙ ap (λ (t : Bool). every (t ∷ [])) zeros-numbers
+  zeros-numbers = rw (second, count 0, count 1, count 2, count 3, count 4)
 
   pub zeros-held : sessionIn R w n ≡ fresh
-  zeros-held = rw (zeros 0, zeros 1)
+  zeros-held = rw (first, second)
+
+  pub zeros-fit : getD w 2 0 ≡ 9 → sessionSize R ≤ length w → length fixedBytes + R .bytes ≤ length n → sessionFits R w n ≡ true
+  zeros-fit nine l m =
+      shown-fits R w n
+      (ap (λ (t : Bool). every (t ∷ sessionNamesFit R w n ∷ numbersFit R w n ∷ [])) (zeros-counts l m)
+      ∙ ap (λ (t : Bool). every (t ∷ numbersFit R w n ∷ [])) zeros-names ∙ ap (λ (t : Bool). every (t ∷ [])) zeros-numbers)
+      (nine ∙ sym (ap (λ (S : Session). namesShown S) zeros-held))
 
 -- a word of zeros, also past their end
 pub zero-at : (n i : ℕ) → _≡_ {A = ℕ} (getD (replicate n 0) i 0) 0
@@ -145,14 +159,22 @@ zero-at zero i = refl
 zero-at (suc n) zero = refl
 zero-at (suc n) (suc i) = zero-at n i
 
+-- n zeros with nine names on show, word by word
+pub nine-at : (n : ℕ) → 3 ≤ n → _≡_ {A = ℕ} (getD (set (replicate n 0) 2 9) 2 0) 9
+nine-at n l = getD-set-same (replicate n 0) 2 9 0 (omega (arith, length-replicate {A = ℕ} n 0))
+
+pub zero-beside : (n i : ℕ) → (i ≡ 2 → ⊥) → _≡_ {A = ℕ} (getD (set (replicate n 0) 2 9) i 0) 0
+zero-beside n i f = getD-set-other (replicate n 0) 2 i 9 0 f ∙ zero-at n i
+
 -- The words and bytes of a fresh session pass question 23, and hold the fresh session.
 pub fresh-fits : (R : Room) → sessionFits R (freshWords R) (freshBytes R) ≡ true
 fresh-fits R =
-    zeros-fit R (freshWords R) (freshBytes R) (zero-at (sessionSize R)) (take-front fixedBytes (replicate (R .bytes) 0))
-    (omega (arith, length-replicate {A = ℕ} (sessionSize R) 0)) (omega (arith, length-append fixedBytes (replicate (R .bytes) 0), length-replicate {A = ℕ} (R .bytes) 0))
+    zeros-fit R (freshWords R) (freshBytes R) (zero-beside (sessionSize R)) (take-front fixedBytes (replicate (R .bytes) 0)) (nine-at (sessionSize R) (omega arith))
+    (omega (arith, length-set {A = ℕ} (replicate (sessionSize R) 0) 2 9, length-replicate {A = ℕ} (sessionSize R) 0))
+    (omega (arith, length-append fixedBytes (replicate (R .bytes) 0), length-replicate {A = ℕ} (R .bytes) 0))
 
 pub fresh-held : (R : Room) → sessionIn R (freshWords R) (freshBytes R) ≡ fresh
-fresh-held R = zeros-held R (freshWords R) (freshBytes R) (zero-at (sessionSize R)) (take-front fixedBytes (replicate (R .bytes) 0))
+fresh-held R = zeros-held R (freshWords R) (freshBytes R) (zero-beside (sessionSize R)) (take-front fixedBytes (replicate (R .bytes) 0))
 
 -- The closure claim of every accepted entry by itself: of its sheet with the session's name numbers, over what earlier entries left, and of the answer rows.
 -- Earlier names are functions, classes and globals (`outside-fits`), so no capture leads to them.

@@ -13,15 +13,15 @@ use Rattle.definition.specs.Basics.{if_then_else_, from, concatMap, total}
 use Rattle.definition.specs.Names.{Name, fixed, listed, namesFit}
 use Rattle.definition.proofs.Lists.Tests.{T-true, true-of, pick}
 use Rattle.machine.proofs.Words.{sets-out, sets-in}
-use Rattle.session.specs.Session.{Accepted, memberCount}
-use Rattle.session.specs.Words.{Room, ended, sessionSize, countAfter, nameBytes, sessionIn, sessionNamesFit, sessionFits}
+use Rattle.session.specs.Session.{Accepted, namesShown, memberCount}
+use Rattle.session.specs.Words.{Room, ended, sessionSize, countAfter, nameBytes, sessionIn, sessionNamesFit, runsFit, sessionFits, showing}
 use Rattle.session.specs.Words.{nameText}
 use Rattle.session.specs.Withdraw.{withdrawn, wordsWithout, withdrawNo, withdrawWords}
-use Rattle.session.proofs.SessionLaws.{clauses, limits}
+use Rattle.session.proofs.SessionLaws.{clauses, limits, runs-of}
 use Rattle.session.proofs.HeldRuns.{held-listed}
 use Rattle.session.proofs.CountLaws.{names-count, names-end, ended-back, bytes-count, laid-count, class-count, members-count, entry-count}
-use Rattle.session.proofs.AfterRefusal.{Holds}
 use Rattle.session.proofs.Cut.{Cut, cut-fits, cut-held}
+use Rattle.session.proofs.Shown.{Holds, Runs, showing-holds}
 
 -- five words by place
 five : (f : ℕ → ℕ) (c : ℕ) → c < 5 → getD (map f (from 0 5)) c 0 ≡ f c
@@ -37,6 +37,9 @@ pub but-last : {A : Type 0} (xs : List A) (x : A) → take (length (xs ++ x ∷ 
 but-last xs x = take-at xs (x ∷ []) (length (xs ++ x ∷ []) - 1) (omega (arith, length-append xs (x ∷ [])))
 
 module _ (R : Room) (w n : List ℕ) (fit : sessionFits R w n ≡ true) where
+  runs : runsFit R w n ≡ true
+  runs = runs-of R w n fit
+
   -- the words without the latest entry are those cut to the entries before it
   without-cut : Cut R w n (wordsWithout R w n) (getD w 1 0 - 1)
   without-cut =
@@ -56,25 +59,30 @@ module _ (R : Room) (w n : List ℕ) (fit : sessionFits R w n ≡ true) where
       cs = map (countAfter R w n (getD w 1 0 - 1)) (from 0 5)
 
       room : sessionSize R ≤ length w
-      room = leb→le (sessionSize R) (length w) (pick (limits R w n (T-true (sessionFits R w n) fit)) (clauses R w n (T-true (sessionFits R w n) fit) 0) 7)
+      room = leb→le (sessionSize R) (length w) (pick (limits R w n (T-true (runsFit R w n) runs)) (clauses R w n (T-true (runsFit R w n) runs) 0) 7)
+
+  -- so they hold the session without it, before its names on show are counted
+  pub without-runs : Runs R (wordsWithout R w n) n (withdrawn (sessionIn R w n))
+  without-runs =
+      record {
+        fits = cut-fits R w n runs (wordsWithout R w n) (getD w 1 0 - 1) without-cut;
+        held =
+            cut-held R w n runs (wordsWithout R w n) (getD w 1 0 - 1) without-cut
+            ∙ ap (λ (k : ℕ). record { globals = getD w 0 0; entries = take (k - 1) (sessionIn R w n .entries) }) (sym (entry-count R w n runs));
+      }
 
   -- by whether an entry is left
-  by-entries : (t : Bool) → eqb (getD w 1 0) 0 ≡ t → Holds R (if eqb (if t then 25 else 0) 0 then wordsWithout R w n else w) n (withdrawn (sessionIn R w n))
+  by-entries : (t : Bool) → eqb (getD w 1 0) 0 ≡ t
+      → Holds R (if eqb (if t then 25 else 0) 0 then showing (withdrawn (sessionIn R w n)) (wordsWithout R w n) else w) n (withdrawn (sessionIn R w n))
   by-entries true q = record { fits = fit; held = sym (rw (eqb-true (getD w 1 0) 0 q)) }
-  by-entries false q =
-      record {
-        fits = cut-fits R w n fit (wordsWithout R w n) (getD w 1 0 - 1) without-cut;
-        held =
-            cut-held R w n fit (wordsWithout R w n) (getD w 1 0 - 1) without-cut
-            ∙ ap (λ (k : ℕ). record { globals = getD w 0 0; entries = take (k - 1) (sessionIn R w n .entries) }) (sym (entry-count R w n fit));
-      }
+  by-entries false q = showing-holds R (wordsWithout R w n) n without-runs
 
   pub withdraw-holds : Holds R (withdrawWords R w n) n (withdrawn (sessionIn R w n))
   withdraw-holds = rw fit (by-entries (eqb (getD w 1 0) 0) refl)
 
--- a withdrawal changes the entry count and the five counts alone
-pub withdraw-other : (R : Room) (w n : List ℕ) (p : ℕ) → (p ≡ 2) ⊎ (8 ≤ p) → getD (withdrawWords R w n) p 0 ≡ getD w p 0
-withdraw-other R w n p h = go (eqb (withdrawNo R w n) 0) (apart h)
+-- a withdrawal changes counts alone
+pub withdraw-other : (R : Room) (w n : List ℕ) (p : ℕ) → 8 ≤ p → getD (withdrawWords R w n) p 0 ≡ getD w p 0
+withdraw-other R w n p h = go (eqb (withdrawNo R w n) 0)
   where
     e : ℕ
     e = getD w 1 0 - 1
@@ -82,16 +90,14 @@ withdraw-other R w n p h = go (eqb (withdrawNo R w n) 0) (apart h)
     cs : List ℕ
     cs = map (countAfter R w n (getD w 1 0 - 1)) (from 0 5)
 
-    apart : (p ≡ 2) ⊎ (8 ≤ p) → (p ≡ 1 → ⊥) × ((p < 3) ⊎ (3 + length cs ≤ p))
-    apart (inl q) = (λ r. omega (arith, q, r), inl (omega (arith, q)))
-    apart (inr q) = (λ r. omega (arith, q, r), inr (omega (arith, q)))
-
-    go : (t : Bool) → (p ≡ 1 → ⊥) × ((p < 3) ⊎ (3 + length cs ≤ p)) → getD (if t then wordsWithout R w n else w) p 0 ≡ getD w p 0
-    go true k = sets-out cs (set w 1 e) 3 p (k .1) ∙ getD-set-other w 1 p e 0 (k .0)
-    go false k = refl
+    go : (t : Bool) → getD (if t then showing (withdrawn (sessionIn R w n)) (wordsWithout R w n) else w) p 0 ≡ getD w p 0
+    go true =
+        getD-set-other (wordsWithout R w n) 2 p (namesShown (withdrawn (sessionIn R w n))) 0 (λ q. omega (arith, q))
+        ∙ sets-out cs (set w 1 e) 3 p (inr (omega arith)) ∙ getD-set-other w 1 p e 0 (λ q. omega (arith, q))
+    go false = refl
 
 -- Two good sessions with the same entries have the same counts but for the globals, and the same names.
-module _ (R : Room) (w n v m : List ℕ) (fit : sessionFits R w n ≡ true) (fit′ : sessionFits R v m ≡ true) (same : sessionIn R v m .entries ≡ sessionIn R w n .entries) where
+module _ (R : Room) (w n v m : List ℕ) (fit : runsFit R w n ≡ true) (fit′ : runsFit R v m ≡ true) (same : sessionIn R v m .entries ≡ sessionIn R w n .entries) where
   count-again : (f : List Accepted → ℕ) {i j : ℕ} → f (sessionIn R v m .entries) ≡ i → f (sessionIn R w n .entries) ≡ j → i ≡ j
   count-again f p q = sym p ∙ ap f same ∙ q
 
@@ -114,8 +120,8 @@ module _ (R : Room) (w n v m : List ℕ) (fit : sessionFits R w n ≡ true) (fit
 
   pub texts-again : (ns : List ℕ) (own : Bool) (k : ℕ) → nameText R v m ns own k ≡ nameText R w n ns own k
   texts-again ns own k =
-      let yes = true-of (sessionNamesFit R v m) (clauses R v m (T-true (sessionFits R v m) fit′) 1) in
-      let yes′ = true-of (sessionNamesFit R w n) (clauses R w n (T-true (sessionFits R w n) fit) 1) in
+      let yes = true-of (sessionNamesFit R v m) (clauses R v m (T-true (runsFit R v m) fit′) 1) in
+      let yes′ = true-of (sessionNamesFit R w n) (clauses R w n (T-true (runsFit R w n) fit) 1) in
       ap (λ (t : Bool). told t (nameBytes R v m)) (yes ∙ sym yes′) ∙ ap (told (sessionNamesFit R w n)) names-again
     where
       -- by whether the session's names fit, and their bytes

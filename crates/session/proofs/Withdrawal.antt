@@ -1,21 +1,22 @@
 -- A withdrawal leaves a good session good, without its latest entry; right after an accepted entry it gives back the session before it.
 use mathlib.Core.Path.{_≡_, refl, sym, ap, _∙_}
-use mathlib.Core.Logic.{_⊎_, inl, inr}
 use mathlib.Core.Bool.{Bool, true}
 use mathlib.Core.List.{List, [], _∷_, _++_}
 use Prim.Native.Nat.{ℕ, _+_, _<_, _≤_}
 use native.Mathlib.Omega.{arith}
 use lib.ListN.{length, getD, take}
+use lib.Seq.{getD-set-other}
 use Rattle.definition.specs.Sheet.{Sheet}
 use Rattle.definition.specs.Outcome.{Outcome}
-use Rattle.session.specs.Session.{Accepted, Session, allClasses, visible, outsideOf}
+use Rattle.session.specs.Session.{Accepted, Session, allClasses, visible, namesShown, outsideOf}
 use Rattle.session.specs.Enter.{newEntry, entered, afterEntry}
-use Rattle.session.specs.Words.{Room, whole, fixedBytes, entryPlace, laidPlace, classPlace, memberPlace, nameBytes, sessionIn, sessionFits}
+use Rattle.session.specs.Words.{Room, whole, fixedBytes, entryPlace, laidPlace, classPlace, memberPlace, nameBytes, sessionIn, runsFit, sessionFits, wordsWith}
 use Rattle.session.specs.Words.{enterOutcome, enterWords, enterBytes, nameText}
 use Rattle.session.specs.Withdraw.{withdrawn, hasChild, withdrawWords}
+use Rattle.session.proofs.SessionLaws.{runs-of, shown-is}
 use Rattle.session.proofs.Asked.{outcome-in}
 use Rattle.session.proofs.Added.{Added}
-use Rattle.session.proofs.AfterAccepted.{accepted-added}
+use Rattle.session.proofs.AfterAccepted.{accepted-words, accepted-added}
 use Rattle.session.proofs.Kept.{wide, after-fits, after-held}
 use Rattle.session.proofs.WithdrawLaws.{but-last, withdraw-holds, withdraw-other, entries-again, counts-again, names-again, texts-again}
 
@@ -61,17 +62,17 @@ enter-withdraw w n s ns lent fit z =
       seen = ap (λ (S : Session). visible S) back;
       classes = ap (λ (S : Session). allClasses S) back;
       marks = λ c. ap (λ (S : Session). hasChild S c) back;
-      texts = texts-again whole w n v m fit fit″ same;
+      texts = texts-again whole w n v m runs runs″ same;
       outside = ap (λ (S : Session). outsideOf S) back;
-      entries = entries-again whole w n v m fit fit″ same;
-      shown = kept 2 (inl refl) ∙ x .shown-is;
-      counts = counts-again whole w n v m fit fit″ same;
-      entry-rows = λ i k l h. kept (entryPlace whole i + k) (inr (omega arith)) ∙ x .entry-old i k l h;
-      laid-rows = λ i k l h. kept (laidPlace whole i + k) (inr (omega arith)) ∙ x .laid-old i k l h;
-      class-rows = λ i k l h. kept (classPlace whole i + k) (inr (omega arith)) ∙ x .class-old i k l h;
-      member-rows = λ i k l h. kept (memberPlace whole i + k) (inr (omega arith)) ∙ x .member-old i k l h;
+      entries = entries-again whole w n v m runs runs″ same;
+      shown = shown-is whole v m fit″ ∙ ap (λ (S : Session). namesShown S) back ∙ sym (shown-is whole w n fit);
+      counts = counts-again whole w n v m runs runs″ same;
+      entry-rows = λ i k l h. kept (entryPlace whole i + k) (omega arith) ∙ x .entry-old i k l h;
+      laid-rows = λ i k l h. kept (laidPlace whole i + k) (omega arith) ∙ x .laid-old i k l h;
+      class-rows = λ i k l h. kept (classPlace whole i + k) (omega arith) ∙ x .class-old i k l h;
+      member-rows = λ i k l h. kept (memberPlace whole i + k) (omega arith) ∙ x .member-old i k l h;
       fixed-names = x .fixed-same;
-      names = names-again whole w n v m fit fit″ same;
+      names = names-again whole w n v m runs runs″ same;
     }
   where
     S : Session
@@ -95,7 +96,16 @@ enter-withdraw w n s ns lent fit z =
     fit″ : sessionFits whole v m ≡ true
     fit″ = withdraw-fits whole u m fit′
 
-    x : Added whole w n u m (entered S s ns lent .globals) e
+    runs : runsFit whole w n ≡ true
+    runs = runs-of whole w n fit
+
+    runs″ : runsFit whole v m ≡ true
+    runs″ = runs-of whole v m fit″
+
+    laid : List ℕ
+    laid = wordsWith whole w (entered S s ns lent .globals) e
+
+    x : Added whole w n laid m (entered S s ns lent .globals) e
     x = accepted-added whole wide w n fit s ns lent z
 
     told : enterOutcome whole w n s ns lent ≡ entered S s ns lent
@@ -114,6 +124,8 @@ enter-withdraw w n s ns lent fit z =
     same : sessionIn whole v m .entries ≡ S .entries
     same = ap (λ (y : Session). y .entries) back
 
-    -- no other word than the entry count and the five counts is another
-    kept : (p : ℕ) → (p ≡ 2) ⊎ (8 ≤ p) → getD v p 0 ≡ getD u p 0
-    kept = withdraw-other whole u m
+    -- no word past the counts is another
+    kept : (p : ℕ) → 8 ≤ p → getD v p 0 ≡ getD laid p 0
+    kept p l =
+        withdraw-other whole u m p l ∙ ap (λ (y : List ℕ). getD y p 0) (accepted-words whole wide w n fit s ns lent z)
+        ∙ getD-set-other laid 2 p (namesShown (afterEntry S s ns lent)) 0 (λ q. omega (arith, q))

@@ -10,9 +10,9 @@ use Rattle.definition.specs.Names.{Name}
 use Rattle.definition.specs.Sheet.{Sheet}
 use Rattle.definition.specs.Meaning.{named, function, global}
 use Rattle.definition.specs.Answer.{eight}
-use Rattle.session.specs.Session.{Class, Accepted, Session, within}
+use Rattle.session.specs.Session.{Class, Accepted, Session, namesShown, within}
 use Rattle.session.specs.Enter.{newEntry, entered}
-use Rattle.session.specs.Words.{Room, fixedBytes, freshWords, freshBytes, sessionFits, enterWords, nameText}
+use Rattle.session.specs.Words.{Room, fixedBytes, freshWords, freshBytes, sessionIn, sessionFits, enterWords, nameText}
 use Rattle.session.specs.Samples.{little, told, words1, bytes1, words2, bytes2, sheet1, names1, sheet3}
 
 -- Question 23 of the session after the second sample, with words changed.
@@ -50,6 +50,14 @@ pub bad-members : holds (
     ≡ false ∷ false ∷ false ∷ false ∷ false ∷ true ∷ false ∷ []
 bad-members = refl
 
+-- names on show: one less, as many as a recount finds, one more
+pub bad-shown : holds (set words2 2 12 ∷ set words2 2 13 ∷ set words2 2 14 ∷ []) ≡ false ∷ true ∷ false ∷ []
+bad-shown = refl
+
+-- what the recount finds where the second f is b, is A, or is the core name Int64: each counts once
+pub shown-once : map (λ k. namesShown (sessionIn little (set words2 34 k) bytes2)) (30 ∷ 31 ∷ 25 ∷ 1 ∷ []) ≡ 13 ∷ 13 ∷ 13 ∷ 13 ∷ []
+shown-once = refl
+
 -- bytes: a fixed name changed; a listed name twice
 pub bad-bytes : map (sessionFits little words2) (set bytes2 0 74 ∷ set bytes2 (length fixedBytes + 2) 65 ∷ []) ≡ false ∷ false ∷ []
 bad-bytes = refl
@@ -67,14 +75,14 @@ entries-room = refl
 
 -- one entry of k names of two bytes each
 pub bytes-room : map (λ k. sessionFits little (
-    (0 ∷ 1 ∷ 0 ∷ k ∷ (k + k) ∷ 0 ∷ 0 ∷ 0 ∷ k ∷ (k + k) ∷ []) ++ replicate 63 0) (fixedBytes ++ take (k + k) (bytes "a\nb\nc\nd\ne\nf\ng\nh\ni\nj\nk\nl\nm\n")
+    (0 ∷ 1 ∷ 9 ∷ k ∷ (k + k) ∷ 0 ∷ 0 ∷ 0 ∷ k ∷ (k + k) ∷ []) ++ replicate 63 0) (fixedBytes ++ take (k + k) (bytes "a\nb\nc\nd\ne\nf\ng\nh\ni\nj\nk\nl\nm\n")
     ++ replicate 24 0)) (12 ∷ 13 ∷ [])
     ≡ true ∷ false ∷ []
 bytes-room = refl
 
 -- one entry of k declarations
 pub laid-room : map (λ k. sessionFits little (
-    (1 ∷ 1 ∷ 0 ∷ 0 ∷ 0 ∷ k ∷ 0 ∷ 0 ∷ 0 ∷ 0 ∷ k ∷ 0 ∷ 0 ∷ 0 ∷ 0 ∷ 0 ∷ 0 ∷ 0 ∷ []) ++ concatMap (λ i. 1 ∷ 3 ∷ 0 ∷ 0 ∷ []) (from 0 k) ++ replicate 31 0)
+    (1 ∷ 1 ∷ 9 ∷ 0 ∷ 0 ∷ k ∷ 0 ∷ 0 ∷ 0 ∷ 0 ∷ k ∷ 0 ∷ 0 ∷ 0 ∷ 0 ∷ 0 ∷ 0 ∷ 0 ∷ []) ++ concatMap (λ i. 1 ∷ 3 ∷ 0 ∷ 0 ∷ []) (from 0 k) ++ replicate 31 0)
     (freshBytes little)) (6 ∷ 7 ∷ [])
     ≡ true ∷ false ∷ []
 laid-room = refl
@@ -82,7 +90,7 @@ laid-room = refl
 -- one entry of k classes without members, from number n on; row 0 is no class, and numbers rise
 abbrev classRows : ℕ → ℕ → List ℕ
 classRows n k =
-    (0 ∷ 1 ∷ 0 ∷ 1 ∷ 2 ∷ 0 ∷ k ∷ 0 ∷ 1 ∷ 2 ∷ 0 ∷ k ∷ 0 ∷ []) ++ replicate 29 0
+    (0 ∷ 1 ∷ 9 ∷ 1 ∷ 2 ∷ 0 ∷ k ∷ 0 ∷ 1 ∷ 2 ∷ 0 ∷ k ∷ 0 ∷ []) ++ replicate 29 0
     ++ take (k + k + k + k + k) (n ∷ 25 ∷ 0 ∷ 0 ∷ 0 ∷ (n + 1) ∷ 25 ∷ 0 ∷ 0 ∷ 0 ∷ (n + 2) ∷ 25 ∷ 0 ∷ 0 ∷ 0 ∷ []) ++ replicate 31 0
 
 pub classes-room : map (λ w. sessionFits little w (fixedBytes ++ bytes "A\n" ++ replicate 22 0)) (
@@ -93,7 +101,7 @@ classes-room = refl
 -- one class with fields of k names; the members of 7 and of 8 are there; no two of one name
 abbrev fieldRows : ℕ → List ℕ → List ℕ
 fieldRows k names =
-    (0 ∷ 1 ∷ 0 ∷ 1 ∷ 2 ∷ 0 ∷ 1 ∷ k ∷ 1 ∷ 2 ∷ 0 ∷ 1 ∷ k ∷ []) ++ replicate 29 0 ++ (257 ∷ 25 ∷ 0 ∷ k ∷ 0 ∷ 0 ∷ 0 ∷ 0 ∷ 0 ∷ 0 ∷ []) ++ go names
+    (0 ∷ 1 ∷ 9 ∷ 1 ∷ 2 ∷ 0 ∷ 1 ∷ k ∷ 1 ∷ 2 ∷ 0 ∷ 1 ∷ k ∷ []) ++ replicate 29 0 ++ (257 ∷ 25 ∷ 0 ∷ k ∷ 0 ∷ 0 ∷ 0 ∷ 0 ∷ 0 ∷ 0 ∷ []) ++ go names
   where
     go : List ℕ → List ℕ
     go [] = []
@@ -106,7 +114,7 @@ members-room = refl
 
 -- counts that rise, and that fall and rise again: an entry of one declaration and two without
 pub falling : map (λ k. sessionFits (record { bytes = 0; entries = 3; laid = 1; classes = 0; members = 0 }) (
-    1 ∷ 3 ∷ 0 ∷ 0 ∷ 0 ∷ 1 ∷ 0 ∷ 0 ∷
+    1 ∷ 3 ∷ 9 ∷ 0 ∷ 0 ∷ 1 ∷ 0 ∷ 0 ∷
     0 ∷ 0 ∷ 1 ∷ 0 ∷ 0 ∷
     0 ∷ 0 ∷ k ∷ 0 ∷ 0 ∷
     0 ∷ 0 ∷ 1 ∷ 0 ∷ 0 ∷
@@ -183,8 +191,8 @@ constructed-words = refl
 pub above : told words2 bytes2 (set sheet3 6 5) (bytes "f\n") ≡ map eight ((0 ∷ 0 ∷ 0 ∷ 0 ∷ 0 ∷ 2 ∷ 5 ∷ []) ∷ (2 ∷ 20 ∷ []) ∷ (5 ∷ 3 ∷ 1 ∷ []) ∷ [])
 above = refl
 
--- 23 before 1, if the session is refused
-pub session-first : told (set words2 18 0) bytes2 [] [] ∷ told words2 bytes2 [] [] ∷ [] ≡ map eight ((23 ∷ []) ∷ []) ∷ map eight ((1 ∷ []) ∷ []) ∷ []
+-- 23 before 1, if the session is refused: a declaration without a name; another number of names on show
+pub session-first : map (λ w. told w bytes2 [] []) (set words2 18 0 ∷ set words2 2 12 ∷ words2 ∷ []) ≡ map (λ k. map eight ((k ∷ []) ∷ [])) (23 ∷ 23 ∷ 1 ∷ [])
 session-first = refl
 
 -- 23: two units; a unit that imports itself
@@ -204,10 +212,6 @@ pub no-entries : map (λ s. told words2 bytes2 s []) (
     ∷ [])
     ≡ map eight ((23 ∷ []) ∷ []) ∷ map eight ((23 ∷ []) ∷ []) ∷ []
 no-entries = refl
-
--- the word of names on show stays
-pub on-show : getD (enterWords little (set words1 2 9) bytes1 sheet1 names1 480) 2 0 ≡ 9
-on-show = refl
 
 -- no text from a list that is refused: the entry's with a name twice, the session's with a fixed name changed or a listed one twice
 pub no-texts : nameText little words2 bytes2 (bytes "f\nf\n") true 25 ∷ nameText little words2 (set bytes2 0 74) [] false 25

@@ -15,9 +15,9 @@ use Rattle.session.specs.Withdraw.{hasChild, withdrawNo, withdrawOutcome
 use Rattle.session.specs.Runs.{Request, entry, withdrawal, Effect, accepted, withdrew, refusal, afterRun, effects, freshMemory, entriesLeft}
 use Rattle.session.specs.Samples.{little, told, sheet0, names0, sheet1, names1, sheet2, sheet3, words2, bytes2}
 
--- The second entry is withdrawn: the counts are those of the first alone, but for the globals, and all rows still stand.
+-- The second entry is withdrawn: the counts are those of the first alone, but for the globals, and all rows still stand. B is not on show.
 abbrev pub words3 : List ℕ
-words3 = 2 ∷ 1 ∷ 0 ∷ 7 ∷ 14 ∷ 3 ∷ 1 ∷ 3 ∷ drop 8 words2
+words3 = 2 ∷ 1 ∷ 12 ∷ 7 ∷ 14 ∷ 3 ∷ 1 ∷ 3 ∷ drop 8 words2
 
 pub withdrawn-words : withdrawWords little words2 bytes2 ≡ words3
 withdrawn-words = refl
@@ -38,14 +38,14 @@ child-marks = refl
 pub withdrawn-text : nameText little words3 bytes2 [] false 32 ∷ nameText little words3 bytes2 [] false 31 ∷ [] ≡ [] ∷ bytes "b" ∷ []
 withdrawn-text = refl
 
--- the first is withdrawn too; then none is left, and a session that says too many names is bad
-pub both-withdrawn : withdrawWords little words3 bytes2 ≡ 2 ∷ 0 ∷ 0 ∷ 0 ∷ 0 ∷ 0 ∷ 0 ∷ 0 ∷ drop 8 words2
+-- the first is withdrawn too; then none is left, and a session that says too many names, or shows too many, is bad
+pub both-withdrawn : withdrawWords little words3 bytes2 ≡ 2 ∷ 0 ∷ 9 ∷ 0 ∷ 0 ∷ 0 ∷ 0 ∷ 0 ∷ drop 8 words2
 both-withdrawn = refl
 
-pub none-left : withdrawNo little (2 ∷ 0 ∷ 0 ∷ 0 ∷ 0 ∷ 0 ∷ 0 ∷ 0 ∷ drop 8 words2) bytes2 ≡ 25
+pub none-left : withdrawNo little (2 ∷ 0 ∷ 9 ∷ 0 ∷ 0 ∷ 0 ∷ 0 ∷ 0 ∷ drop 8 words2) bytes2 ≡ 25
 none-left = refl
 
-pub bad-session : withdrawNo little (set words2 3 9) bytes2 ∷ withdrawNo little (set (set words2 1 0) 3 9) bytes2 ∷ [] ≡ 23 ∷ 23 ∷ []
+pub bad-session : map (λ w. withdrawNo little w bytes2) (set words2 3 9 ∷ set (set words2 1 0) 3 9 ∷ set words2 2 14 ∷ []) ≡ 23 ∷ 23 ∷ 23 ∷ []
 bad-session = refl
 
 pub kept-words : withdrawWords little (set words2 3 9) bytes2 ≡ set words2 3 9

@@ -71,10 +71,10 @@ pub first-told : told (freshWords little) (freshBytes little) sheet0 names0
     ∷ [])
 first-told = refl
 
--- One entry: 7 names of 14 bytes; A, f and b are laid over; a class with three members.
+-- One entry: 12 names on show, 7 names of 14 bytes; A, f and b are laid over; a class with three members.
 abbrev pub words1 : List ℕ
 words1 =
-    1 ∷ 1 ∷ 0 ∷ 7 ∷ 14 ∷ 3 ∷ 1 ∷ 3 ∷
+    1 ∷ 1 ∷ 12 ∷ 7 ∷ 14 ∷ 3 ∷ 1 ∷ 3 ∷
     7 ∷ 14 ∷ 3 ∷ 1 ∷ 3 ∷
     0 ∷ 0 ∷ 0 ∷ 0 ∷ 0 ∷
     25 ∷ 2 ∷ 258 ∷ 0 ∷
@@ -152,10 +152,10 @@ pub second-told : told words1 bytes1 sheet1 names1
     ∷ [])
 second-told = refl
 
--- B is class 2,306, and f global 1 now.
+-- B is class 2,306, and f global 1 now: f, redeclared, is on show once.
 abbrev pub words2 : List ℕ
 words2 =
-    2 ∷ 2 ∷ 0 ∷ 8 ∷ 16 ∷ 5 ∷ 2 ∷ 6 ∷
+    2 ∷ 2 ∷ 13 ∷ 8 ∷ 16 ∷ 5 ∷ 2 ∷ 6 ∷
     7 ∷ 14 ∷ 3 ∷ 1 ∷ 3 ∷
     8 ∷ 16 ∷ 5 ∷ 2 ∷ 6 ∷
     25 ∷ 2 ∷ 258 ∷ 0 ∷

@@ -59,6 +59,10 @@ module _ {A : Type 0} where
 abbrev pub visible : Session → List Named
 visible S = distinct (λ x y. eqb (x .name) (y .name)) (backward (allLaid S) ++ core .names)
 
+-- how many different names are visible, all counted (request F-8 of document 02): a redeclared name, or a core name laid over, counts once
+abbrev pub namesShown : Session → ℕ
+namesShown S = length (visible S)
+
 -- the number of an earlier function or class in a walk: past all rows of the entry's sheet (Outside)
 abbrev pub pastRows : ℕ → ℕ
 pastRows n = n + 2048

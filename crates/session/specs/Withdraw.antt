@@ -8,7 +8,7 @@ use lib.Dec.{eqb}
 use Rattle.definition.specs.Basics.{if_then_else_, any, from}
 use Rattle.definition.specs.Outcome.{Outcome, refused}
 use Rattle.session.specs.Session.{Session, allClasses}
-use Rattle.session.specs.Words.{Room, countAfter, sessionFits}
+use Rattle.session.specs.Words.{Room, countAfter, sessionIn, sessionFits, showing}
 
 -- the session without its latest entry; one without entries stays as it is
 abbrev pub withdrawn : Session → Session
@@ -34,6 +34,6 @@ module _ (R : Room) (w n : List ℕ) where
   abbrev pub withdrawOutcome : Outcome
   withdrawOutcome = refused withdrawNo
 
-  -- the words after it
+  -- the words after it, with the names on show counted again
   abbrev pub withdrawWords : List ℕ
-  withdrawWords = if eqb withdrawNo 0 then wordsWithout else w
+  withdrawWords = if eqb withdrawNo 0 then showing (withdrawn (sessionIn R w n)) wordsWithout else w

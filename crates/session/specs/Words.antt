@@ -1,7 +1,7 @@
 -- A session as lent words and bytes: runs that grow with an accepted entry, each in its own region. What lies past the counts is not read.
 --
--- Eight counts: globals, entries, names on show (request F-8; nothing reads it before), names, name bytes, declarations, classes, members. Then, with
--- room for as many as a session may have: a row of five for each entry, the last five counts after it; a row of four for each declaration laid over:
+-- Eight counts: globals, entries, names on show (request F-8), names, name bytes, declarations, classes, members. Then, with room for as many as a
+-- session may have: a row of five for each entry, the last five counts after it; a row of four for each declaration laid over:
 -- name, code (1 function, 2 class, 3 global), number, 1 if mutable; a row of five for each class: number, name, parent or 0, fields, methods; a row of
 -- three for each member: name, function or 0, parameters or 0, a class's fields by slot and then its methods, class after class. The bytes are the 24
 -- fixed names and then the listed ones, each with its end.
@@ -17,7 +17,7 @@ use Rattle.definition.specs.Sheet.{Sheet}
 use Rattle.definition.specs.Meaning.{Meaning, Named, named, nothing, function, class, global, toplevel, variable}
 use Rattle.definition.specs.Outside.{isRecorded, core}
 use Rattle.definition.specs.Outcome.{Outcome, refused}
-use Rattle.session.specs.Session.{Class, Accepted, Session, memberCount}
+use Rattle.session.specs.Session.{Class, Accepted, Session, fresh, namesShown, memberCount}
 use Rattle.session.specs.Enter.{newEntry, entered, afterEntry}
 
 -- How many name bytes, entries, declarations, classes and members there is room for.
@@ -185,12 +185,24 @@ module _ (R : Room) where
     abbrev pub numbersFit : Bool
     numbersFit = all entryNumbersFit (from 0 (getD w 1 0)) && all (λ c. eqb (countAfter (getD w 1 0) c) (getD w (3 + c) 0)) (from 0 5)
 
-    abbrev pub sessionFits : Bool
-    sessionFits = every (countsFit ∷ sessionNamesFit ∷ numbersFit ∷ [])
+    -- these three: all of question 23 but the names on show
+    abbrev pub runsFit : Bool
+    runsFit = every (countsFit ∷ sessionNamesFit ∷ numbersFit ∷ [])
 
--- The fresh session: no counts, and the fixed names.
+    -- Are as many names on show as a full recount finds?
+    abbrev pub shownFits : Bool
+    shownFits = eqb (getD w 2 0) (namesShown sessionIn)
+
+    abbrev pub sessionFits : Bool
+    sessionFits = runsFit && shownFits
+
+-- words w with the number of names that session S shows
+abbrev pub showing : Session → List ℕ → List ℕ
+showing S w = set w 2 (namesShown S)
+
+-- The fresh session: the nine core names are on show, nothing else is counted; and the fixed names.
 abbrev pub freshWords : Room → List ℕ
-freshWords R = replicate (sessionSize R) 0
+freshWords R = showing fresh (replicate (sessionSize R) 0)
 
 abbrev pub freshBytes : Room → List ℕ
 freshBytes R = fixedBytes ++ replicate (R .bytes) 0
@@ -219,7 +231,7 @@ countsWith w e =
     (getD w 3 0 + length (e .names)) ∷ (getD w 4 0 + length (concatMap ended (e .names))) ∷ (getD w 5 0 + length (e .laid))
     ∷ (getD w 6 0 + length (e .classes)) ∷ (getD w 7 0 + total memberCount (e .classes)) ∷ []
 
--- the words with an accepted entry more: its runs after those that are there, its row, the counts; all other words stay
+-- the words with an accepted entry more: its runs after those that are there, its row, the counts; all other words stay, the names on show among them
 abbrev pub wordsWith : Room → List ℕ → ℕ → Accepted → List ℕ
 wordsWith R w g e =
     sets
@@ -240,7 +252,8 @@ module _ (R : Room) (w n : List ℕ) (s : Sheet) (ns : List ℕ) (lent : ℕ) wh
 
   abbrev pub enterWords : List ℕ
   enterWords =
-      if eqb (enterOutcome .number) 0 then wordsWith R w (enterOutcome .globals) (newEntry (sessionIn R w n) s ns)
+      if eqb (enterOutcome .number) 0
+      then showing (afterEntry (sessionIn R w n) s ns lent) (wordsWith R w (enterOutcome .globals) (newEntry (sessionIn R w n) s ns))
       else if leb 5 (enterOutcome .number) && leb (enterOutcome .number) 21 then set w 0 (afterEntry (sessionIn R w n) s ns lent .globals)
       else w
 

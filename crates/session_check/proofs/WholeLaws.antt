@@ -13,7 +13,9 @@ use Rattle.definition.proofs.Lists.Counts.{all-below}
 use Rattle.definition.proofs.Lists.Members.{map-map}
 use Rattle.definition.proofs.Lists.Tests.{T-true, and-right, pick}
 use Rattle.session.specs.Words.{whole, classPlace, memberPlace, partOf, fieldsIn, methodsIn, membersBefore, countsFit, sessionNamesFit, bytesOf, rowFits}
-use Rattle.session.specs.Words.{isFunctionUpTo, isNameUpTo, isClassUpTo, laidFits, classFits, entryNumbersFit, numbersFit, sessionFits}
+use Rattle.session.specs.Words.{isFunctionUpTo, isNameUpTo, isClassUpTo, laidFits, classFits, entryNumbersFit, numbersFit, runsFit, shownFits, sessionFits}
+use Rattle.session_outside.specs.Written.{visibleNames}
+use Rattle.session_outside.proofs.WholeLaws.{names-shown}
 use Rattle.session_rows.proofs.RunLaws.{and-true, all-map}
 use Rattle.session_rows.specs.Rows.{after, countRises, countsRise, rowRight, rowsRight, lastRight, numberOf, numberRises, numbersRise, allRise, orderRight, Limited}
 use Rattle.session_check.specs.Clauses.{memberName, namesApart, methodRight, methodsRight, lastName, membersRight, parentRight, classRight, classesRight, entryRight}
@@ -172,17 +174,17 @@ module _ (w n t : List ℕ) (starts : (j : ℕ) → j ≤ getD w 3 0 → getD t 
 
 -- The whole question, by its three parts.
 module _ (w n : List ℕ) where
-  pub counts-refuse : {x : Bool} → x ≡ countsFit whole w n → not x ≡ true → sessionFits whole w n ≡ false
+  pub counts-refuse : {x : Bool} → x ≡ countsFit whole w n → not x ≡ true → runsFit whole w n ≡ false
   counts-refuse {x} e m = ap (λ (u : Bool). u && (sessionNamesFit whole w n && (numbersFit whole w n && true))) (sym e ∙ not-true x m)
 
-  past-counts : {x : Bool} → x ≡ countsFit whole w n → not x ≡ false → sessionFits whole w n ≡ (sessionNamesFit whole w n && (numbersFit whole w n && true))
+  past-counts : {x : Bool} → x ≡ countsFit whole w n → not x ≡ false → runsFit whole w n ≡ (sessionNamesFit whole w n && (numbersFit whole w n && true))
   past-counts {x} e m = ap (λ (u : Bool). u && (sessionNamesFit whole w n && (numbersFit whole w n && true))) (sym e ∙ not-false x m)
 
-  pub names-refuse : {x : Bool} → x ≡ countsFit whole w n → not x ≡ false → sessionNamesFit whole w n ≡ false → sessionFits whole w n ≡ false
+  pub names-refuse : {x : Bool} → x ≡ countsFit whole w n → not x ≡ false → sessionNamesFit whole w n ≡ false → runsFit whole w n ≡ false
   names-refuse e m a = past-counts e m ∙ ap (λ (u : Bool). u && (numbersFit whole w n && true)) a
 
   pub numbers-decide : {x : Bool} → x ≡ countsFit whole w n → not x ≡ false → sessionNamesFit whole w n ≡ true
-      → (t : List ℕ) → ((j : ℕ) → j ≤ getD w 3 0 → getD t j 0 ≡ bytesOf whole w n j) → sessionFits whole w n ≡ numbersRight w t
+      → (t : List ℕ) → ((j : ℕ) → j ≤ getD w 3 0 → getD t j 0 ≡ bytesOf whole w n j) → runsFit whole w n ≡ numbersRight w t
   numbers-decide e m a t s =
       past-counts e m ∙ ap (λ (u : Bool). u && (numbersFit whole w n && true)) a ∙ and-true (numbersFit whole w n) ∙ numbers-same w n t s
 
@@ -206,3 +208,11 @@ module _ (w n : List ℕ) where
 
   pub room : {x : Bool} → x ≡ countsFit whole w n → not x ≡ false → (getD w 4 0 ≤ 32768) × (32936 ≤ length n)
   room e m = (leb→le (getD w 4 0) 32768 (pick tests (passed e m) 3), leb→le 32936 (length n) (pick tests (passed e m) 8))
+
+  -- The names on show, by what is counted.
+  pub shown-decide : {x : Bool} → runsFit whole w n ≡ true → x ≡ eqb (getD w 2 0) (length (visibleNames w)) → sessionFits whole w n ≡ x
+  shown-decide {x} runs e =
+      ap (λ (u : Bool). u && shownFits whole w n) runs ∙ sym (e ∙ ap (eqb (getD w 2 0)) (names-shown w n runs))
+
+  pub runs-refuse : runsFit whole w n ≡ false → sessionFits whole w n ≡ false
+  runs-refuse f = ap (λ (u : Bool). u && shownFits whole w n) f

@@ -1,5 +1,5 @@
 // Question 23 of a session in lent words and bytes: its declarations, classes and members. Names (crate session_names), counts, rows of entries and class
-// numbers (crate session_rows) are asked about first; a class is then found by halving.
+// numbers (crate session_rows) are asked about first; a class is then found by halving. Names on show are counted last (crate names_shown).
 ghost use mathlib.Core.Path.{_≡_};
 ghost use mathlib.Core.Bool.{true};
 ghost use mathlib.Core.List.{[]};
@@ -10,7 +10,9 @@ ghost use Rattle.definition.specs.Basics.{if_then_else_, any, all, from};
 ghost use Rattle.definition.specs.Outside.{isRecorded, core};
 ghost use Rattle.session.specs.Words.{whole, partOf, fieldsIn, methodsIn, membersBefore, isClassUpTo, laidFits};
 ghost use Rattle.session_rows.specs.Rows.{after, numberOf, Limited, Ordered};
-ghost use Rattle.session_check.specs.Checked.{Checked};
+ghost use Rattle.session_outside.specs.Written.{visibleNames};
+ghost use Rattle.session_outside.specs.Readable.{Readable};
+ghost use Rattle.session_check.specs.Checked.{RunsChecked, Checked};
 ghost use Rattle.session_check.specs.Clauses.{meansRight, isFresh, Under, namesApart, methodRight, methodsRight, lastName, membersRight, parentRight};
 ghost use Rattle.session_check.specs.Clauses.{classRight, classesRight, entryRight, entriesRight, numbersRight};
 use ast::code;
@@ -354,10 +356,10 @@ fn numbers_fit(words: &[u32], starts: &[u32]) -> bool
     entries_fit(words)
 }
 
-// Question 23 of a session. Answers how many starts there are, one for each listed name and the place past the last; 0 if the session is refused.
-pub fn check_session(words: &[u32], bytes: &[u8], starts: &mut [u32], index: &mut [u32]) -> usize
+// All of question 23 but the names on show. Answers how many starts there are, one for each listed name and the place past the last; 0 if it gets a no.
+fn check_runs(words: &[u32], bytes: &[u8], starts: &mut [u32], index: &mut [u32]) -> usize
     requires { ⌜ (length (now starts) ≡ 1025) × (now index ≡ replicate 2048 0) ⌝ }
-    ensures { λ r. ⌜ Checked (now (words .entry)) (now (bytes .entry)) r (now (starts .exit)) (now (index .exit)) ⌝ }
+    ensures { λ r. ⌜ RunsChecked (now (words .entry)) (now (bytes .entry)) r (now (starts .exit)) (now (index .exit)) ⌝ }
 {
     if !session_rows::counts_fit(words, bytes.len()) {
         return 0;
@@ -367,6 +369,29 @@ pub fn check_session(words: &[u32], bytes: &[u8], starts: &mut [u32], index: &mu
         return 0;
     }
     if !numbers_fit(words, starts) {
+        return 0;
+    }
+    count
+}
+
+// Is the number of names on show that of a full recount?
+fn shown_fits(words: &[u32]) -> bool
+    requires { ⌜ Readable (now words) ⌝ }
+    ensures { λ x. ⌜ x ≡ eqb (getD (now (words .entry)) 2 0) (length (visibleNames (now (words .entry)))) ⌝ }
+{
+    words::word_at(words, layout::SHOWN) == names_shown::count_shown(words)
+}
+
+// Question 23 of a session. Answers how many starts there are; 0 if the session is refused.
+pub fn check_session(words: &[u32], bytes: &[u8], starts: &mut [u32], index: &mut [u32]) -> usize
+    requires { ⌜ (length (now starts) ≡ 1025) × (now index ≡ replicate 2048 0) ⌝ }
+    ensures { λ r. ⌜ Checked (now (words .entry)) (now (bytes .entry)) r (now (starts .exit)) (now (index .exit)) ⌝ }
+{
+    let count = check_runs(words, bytes, starts, index);
+    if count == 0 {
+        return 0;
+    }
+    if !shown_fits(words) {
         return 0;
     }
     count

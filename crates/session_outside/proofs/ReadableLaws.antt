@@ -1,11 +1,11 @@
--- Session words past question 23 are readable, and then few names are visible.
+-- Session words with good runs are readable, and then few names are visible.
 use mathlib.Core.Path.{_≡_, refl, sym, ap, _∙_}
 use mathlib.Core.Logic.{_⊎_, inl, inr, ⊎-elim}
 use mathlib.Core.Bool.{Bool, true, not, _&&_, _||_}
 use mathlib.Core.List.{List, [], map, List·Memᴰ as Mem}
 use Prim.Native.Nat.{ℕ, zero, suc, _+_, _-_, _*_, _/_, _<_, _≤_, min}
 use native.Mathlib.Omega.{arith}
-use lib.ListN.{length, getD, length-map}
+use lib.ListN.{length, getD}
 use lib.Dec.{eqb, leb, ltb, T, eqb→eq}
 use borrow.Author.Tests.{leb-true, ltb-true}
 use Rattle.definition.specs.Basics.{any, from}
@@ -13,11 +13,10 @@ use Rattle.definition.specs.Outside.{Outside, Method, based}
 use Rattle.definition.proofs.Lists.Tests.{and-left, and-right, or-cases, true-of, T-true, pick, ℕ-trichotomy}
 use Rattle.definition.proofs.Lists.Members.{any-mem, mem-map, mem-from}
 use Rattle.outside.specs.Words.{over}
-use Rattle.session.specs.Session.{visible, outsideOf}
+use Rattle.session.specs.Session.{outsideOf}
 use Rattle.session.specs.Words.{whole, laidPlace, classPlace, memberPlace, countAfter, partOf, fieldsIn, methodsIn, membersBefore, sessionIn}
-use Rattle.session.specs.Words.{isFunctionUpTo, isNameUpTo, laidFits, classTests, classFits, sessionFits}
-use Rattle.session.proofs.SessionLaws.{all-mem, limits, clauses, last-are, entry-tests, rises, few-laid, few-members}
-use Rattle.session_outside.specs.Written.{seen}
+use Rattle.session.specs.Words.{isFunctionUpTo, isNameUpTo, laidFits, classTests, classFits, runsFit, sessionFits}
+use Rattle.session.proofs.SessionLaws.{all-mem, runs-of, limits, clauses, last-are, entry-tests, rises, few-laid, few-members}
 use Rattle.session_outside.specs.Readable.{Readable}
 use Rattle.session_outside.proofs.VisibleLaws.{names-few}
 use Rattle.session_outside.proofs.WholeLaws.{session-outside}
@@ -25,7 +24,7 @@ use Rattle.session_outside.proofs.WholeLaws.{session-outside}
 le-of : (x y : ℕ) → T (leb x y) → x ≤ y
 le-of x y h = leb-true x y (true-of (leb x y) h)
 
-module _ (w n : List ℕ) (fit : T (sessionFits whole w n)) where
+module _ (w n : List ℕ) (fit : T (runsFit whole w n)) where
   abbrev after : ℕ → ℕ → ℕ
   after e c = countAfter whole w n e c
 
@@ -181,10 +180,10 @@ module _ (w n : List ℕ) (fit : T (sessionFits whole w n)) where
       g : ℕ → Method
       g j = record { name = getD w (memberPlace whole j) 0; fun = getD w (memberPlace whole j + 1) 0; params = getD w (memberPlace whole j + 2) 0 }
 
--- a session past question 23 can be read
-pub readable : (w n : List ℕ) → sessionFits whole w n ≡ true → Readable w
-readable w n fit =
-    let fits : T (sessionFits whole w n) = T-true (sessionFits whole w n) fit in
+-- words with good runs can be read,
+pub runs-readable : (w n : List ℕ) → runsFit whole w n ≡ true → Readable w
+runs-readable w n runs =
+    let fits : T (runsFit whole w n) = T-true (runsFit whole w n) runs in
     record {
       few-laid = few-laid whole w n fits;
       few-classes = few-classes w n fits;
@@ -196,18 +195,17 @@ readable w n fit =
       method-low = method-function w n fits;
     }
 
--- and at most 1,048 of its names are visible
-pub visible-few : (w n : List ℕ) → sessionFits whole w n ≡ true → length (visible (sessionIn whole w n)) ≤ 1048
-visible-few w n fit =
-    omega (
-      arith,
-      names-few (readable w n fit),
-      ap (λ (O : Outside). length (O .names)) (session-outside w n fit),
-      length-map (visible (sessionIn whole w n)) seen,
-    )
+-- so those of a session past question 23
+pub readable : (w n : List ℕ) → sessionFits whole w n ≡ true → Readable w
+readable w n fit = runs-readable w n (runs-of whole w n fit)
 
 -- the names in words that hold them: no more than numbers, and no more than declarations and core names
 pub over-few : (w n x : List ℕ) → sessionFits whole w n ≡ true → over x ≡ based (outsideOf (sessionIn whole w n)) 0
     → length (over x .names) ≤ min (getD w 5 0 + 9) 1048
 over-few w n x fit e =
-    omega (arith, ap (λ (O : Outside). length (O .names)) e, ap (λ (O : Outside). length (O .names)) (session-outside w n fit), names-few (readable w n fit))
+    omega (
+      arith,
+      ap (λ (O : Outside). length (O .names)) e,
+      ap (λ (O : Outside). length (O .names)) (session-outside w n (runs-of whole w n fit)),
+      names-few (readable w n fit),
+    )

@@ -85,7 +85,7 @@ module _ {w : List ℕ} (r : Readable w) where
 
   -- the rows of all names, from a table without marks that has a place for each number
   module _ (b : ℕ) (large : 1048 < b) where
-    marks-find : firsts (replicate b 0) (namesBelow w (getD w 5 0)) ≡ latest w
+    pub marks-find : firsts (replicate b 0) (namesBelow w (getD w 5 0)) ≡ latest w
     marks-find =
         firsts-are (namesBelow w (getD w 5 0)) (replicate b 0) (λ x m. omega (arith, bounded x m, length-replicate {A = ℕ} b 0))
         ∙ all-pass (unmarked (replicate b 0)) (latest w) (λ x m. T-true (unmarked (replicate b 0) x) (ap (λ (k : ℕ). eqb k 0) (zero-there b (x .name))))

@@ -9,12 +9,12 @@ use lib.Seq.{sets, sets-eq}
 use lib.Dec.{eqb}
 use Rattle.definition.specs.Basics.{distinct, concatMap, total, from}
 use Rattle.definition.specs.Meaning.{Named}
-use Rattle.definition.specs.Outside.{ClassRecord, core, based}
+use Rattle.definition.specs.Outside.{Outside, ClassRecord, core, based}
 use Rattle.outside.specs.Words.{over}
-use Rattle.session.specs.Session.{Class, backward, earlierRecord, outsideOf}
-use Rattle.session.specs.Words.{whole, fieldsIn, methodsIn, classIn, sessionIn, sessionFits}
+use Rattle.session.specs.Session.{Class, backward, visible, namesShown, earlierRecord, outsideOf}
+use Rattle.session.specs.Words.{whole, fieldsIn, methodsIn, classIn, sessionIn, runsFit, sessionFits}
 use Rattle.session.proofs.HeldRuns.{held-laid, held-classes}
-use Rattle.session.proofs.SessionLaws.{from-length}
+use Rattle.session.proofs.SessionLaws.{from-length, runs-of}
 use Rattle.session_outside.specs.Written.{nameRow, memberRun, recordRows, outsideWords, seen, namesBelow, recordsFrom, visibleNames, outsideIn}
 use Rattle.session_outside.specs.Readable.{Readable, outsideSize}
 use Rattle.session_outside.proofs.StoreLaws.{four-stored}
@@ -126,7 +126,7 @@ parts-written w x {x₁} {x₂} {x₃} {x₄} {m} {n} em en e₁ e₂ e₃ e₄ 
     l = omega (arith, records-count w)
 
 -- what they are to hold
-pub session-outside : (w n : List ℕ) → sessionFits whole w n ≡ true → outsideIn w ≡ based (outsideOf (sessionIn whole w n)) 0
+pub session-outside : (w n : List ℕ) → runsFit whole w n ≡ true → outsideIn w ≡ based (outsideOf (sessionIn whole w n)) 0
 unfolding visibleNames namesBelow recordsFrom
 session-outside w n fit =
     let z : getD w 6 0 - 0 ≡ getD w 6 0 = omega arith in
@@ -135,6 +135,10 @@ session-outside w n fit =
     ap (λ (l : List Named). record { names = ns l; records = recordsFrom w 0; base = 0 }) (sym (held-laid whole w n fit))
     ∙ ap (λ (k : ℕ). record { names = outsideOf (sessionIn whole w n) .names; records = rs (map (classIn whole w []) (from 0 k)); base = 0 }) z
     ∙ ap (λ (l : List Class). record { names = outsideOf (sessionIn whole w n) .names; records = rs l; base = 0 }) (sym (held-classes whole w n fit))
+
+-- so the visible names of words with good runs are as many as the session shows
+pub names-shown : (w n : List ℕ) → runsFit whole w n ≡ true → length (visibleNames w) ≡ namesShown (sessionIn whole w n)
+names-shown w n runs = ap (λ (O : Outside). length (O .names)) (session-outside w n runs) ∙ length-map (visible (sessionIn whole w n)) seen
 
 -- and that they do, where there is room
 pub words-hold : (w x : List ℕ) {x₁ x₂ x₃ x₄ : List ℕ} {m n : ℕ} → Readable w → outsideSize w ≤ length x
@@ -145,4 +149,4 @@ pub words-hold : (w x : List ℕ) {x₁ x₂ x₃ x₄ : List ℕ} {m n : ℕ} �
 words-hold w x {x₁} {x₂} {x₃} {x₄} {m} {n} r room em en e₁ e₂ e₃ e₄ k fit =
     let l : List ℕ = outsideWords (outsideIn w) in
     let all : sets x 0 l ≡ l ++ drop (0 + length l) x = sets-eq l x 0 (omega (arith, words-few r)) in
-    ap over (parts-written w x em en e₁ e₂ e₃ e₄ ∙ all) ∙ read-back (outsideIn w) (drop (0 + length l) x) (visible-outward w) ∙ session-outside w k fit
+    ap over (parts-written w x em en e₁ e₂ e₃ e₄ ∙ all) ∙ read-back (outsideIn w) (drop (0 + length l) x) (visible-outward w) ∙ session-outside w k (runs-of whole w k fit)

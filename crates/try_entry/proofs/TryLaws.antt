@@ -30,7 +30,7 @@ use Rattle.entry_walk.specs.Laid.{BodyWalked}
 use Rattle.session.specs.Session.{Accepted, Session, outsideOf, memberCount, within}
 use Rattle.session.specs.Enter.{laidBy, classesBy}
 use Rattle.session.specs.Words.{whole, sessionIn}
-use Rattle.session.proofs.SessionLaws.{from-length}
+use Rattle.session.proofs.SessionLaws.{from-length, runs-of}
 use Rattle.session.proofs.CountLaws.{entry-count, within-with}
 use Rattle.entry_ready.specs.Over.{entryOf, askedOver, AskedOver}
 use Rattle.session_room.specs.declared.Added.{Added}
@@ -56,7 +56,7 @@ module _ {w o : List ℕ} {new bytes : ℕ} {n : List ℕ} {ms : List Name} (h :
 
   -- raised by 2,048 for each entry, what stands in the words is what the session is to its next entry
   pub based-is : based (over o) (2048 * getD w 1 0) ≡ outsideOf (sessionIn whole w n)
-  based-is = ap (λ (P : Outside). based P b) (h .outside) ∙ ap (λ (k : ℕ). based (outsideOf S) k) (ap (λ (k : ℕ). 2048 * k) (sym (entry-count whole w n (h .fits))))
+  based-is = ap (λ (P : Outside). based P b) (h .outside) ∙ ap (λ (k : ℕ). based (outsideOf S) k) (ap (λ (k : ℕ). 2048 * k) (sym (entry-count whole w n (runs-of whole w n (h .fits)))))
 
   module _ {t : Sheet} {lent : ℕ} {x : Answer} {out : List ℕ} (s : Settled (based (over o) (2048 * getD w 1 0)) t lent x out) where
     tells : Tells (asked (outsideOf S) lent t) x
@@ -90,7 +90,7 @@ module _ {w o : List ℕ} {new bytes : ℕ} {n : List ℕ} {ms : List Name} (h :
 
   -- question 24, by what is added
   pub room-is : (g : ℕ) (e : Accepted) (a : Added) → Adds e a → within (record { globals = g; entries = S .entries ++ e ∷ [] }) ≡ roomFor w a
-  room-is g e a d = within-with whole w n (h .fits) g e ∙ sym (rw (d .names, d .bytes, d .laid, d .classes, d .members))
+  room-is g e a d = within-with whole w n (runs-of whole w n (h .fits)) g e ∙ sym (rw (d .names, d .bytes, d .laid, d .classes, d .members))
 
 -- no question of the walk got a no, where none did
 walk-none : (O : Outside) (t : Sheet) → refusal O t (history O t) .number ≡ 0 → walkRefusal O t .number ≡ 0

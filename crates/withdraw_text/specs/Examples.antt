@@ -9,12 +9,12 @@ use Rattle.report.specs.Report.{fitted}
 use Rattle.withdraw_text.specs.Reply.{printedWithdrawal}
 
 -- a session without entries, whose count of globals is 3: 25, and it is as it was
-none-left : printedWithdrawal (set (freshWords whole) 0 3) (freshBytes whole) ≡ textOf (map eight ((25 ∷ []) ∷ (3 ∷ []) ∷ []))
+none-left : printedWithdrawal (set (freshWords whole) 0 3) (freshBytes whole) ≡ textOf (map eight ((25 ∷ []) ∷ (3 ∷ 0 ∷ 9 ∷ []) ∷ []))
 unfolding fitted
 none-left = refl
 
 -- one entry that left nothing is withdrawn: no question gets a no
-withdrawn : printedWithdrawal (set (set (freshWords whole) 0 3) 1 1) (freshBytes whole) ≡ textOf (map eight ([] ∷ (3 ∷ []) ∷ []))
+withdrawn : printedWithdrawal (set (set (freshWords whole) 0 3) 1 1) (freshBytes whole) ≡ textOf (map eight ([] ∷ (3 ∷ 0 ∷ 9 ∷ []) ∷ []))
 unfolding fitted
 withdrawn = refl
 

@@ -3,6 +3,8 @@ use mathlib.Core.Path.{_≡_}
 use mathlib.Core.Bool.{true}
 use mathlib.Core.List.{List}
 use Prim.Native.Nat.{ℕ}
+use lib.ListN.{getD}
+use Rattle.session.specs.Session.{namesShown}
 use Rattle.session.specs.Words.{whole, sessionIn, sessionFits}
 use Rattle.session.specs.Withdraw.{withdrawn, withdrawOutcome, withdrawWords}
 use Rattle.answer.specs.declared.Answer.{Answer}
@@ -14,6 +16,7 @@ pub record Withdrawn (w n : List ℕ) (x : Answer) (w′ : List ℕ) : Type 0 wh
   pub tells : Tells (withdrawOutcome whole w n) x
   -- the session has the words after it,
   pub session : w′ ≡ withdrawWords whole w n
-  -- and one that passed question 23 passes it again, and is without its latest entry.
+  -- and one that passed question 23 passes it again, is without its latest entry, and shows as many names as a full recount finds.
   pub fits : sessionFits whole w n ≡ true → sessionFits whole w′ n ≡ true
   pub held : sessionFits whole w n ≡ true → sessionIn whole w′ n ≡ withdrawn (sessionIn whole w n)
+  pub shown : sessionFits whole w n ≡ true → getD w′ 2 0 ≡ namesShown (sessionIn whole w′ n)

@@ -1,5 +1,5 @@
 // Withdrawals at a prompt (document 02, F-7): the latest accepted entry of a session in lent words and bytes is taken back. Its runs are cut by their counts, and
-// nothing is moved.
+// nothing is moved; then the names on show are counted again (F-8).
 ghost use mathlib.Core.Path.{_≡_};
 ghost use mathlib.Core.List.{[]};
 ghost use Prim.Native.Nat.{_<_, _≤_};
@@ -10,6 +10,7 @@ ghost use Rattle.withdrawal.specs.Withdrawn.{Withdrawn};
 use answer::Answer;
 use ast::question;
 use lexer::SrcPos;
+use names_shown::count_shown;
 use session::layout;
 use session_check::check_session;
 use session_rows::count;
@@ -68,6 +69,7 @@ pub fn withdraw(words: &mut [u32], bytes: &[u8]) -> Answer
     let no = ask_withdrawal(words, bytes);
     if no == 0 {
         cut_counts(words);
+        put_at(words, layout::SHOWN, count_shown(words));
     }
     Answer {
         number: no,

@@ -1,27 +1,14 @@
-use mathlib.Core.Path.{refl, sym, _∙_}
+use mathlib.Core.Path.{sym, _∙_}
 use borrow.Author.Tests.{not-true, not-false}
 use borrow.Author.Needs.{needs}
-use Rattle.session_check.proofs.WholeLaws.{counts-refuse, names-refuse, numbers-decide, limited, room}
-use Rattle.session_names.proofs.NameLaws.{listing-no, listing-some, listing-none, listing-also, start-bytes}
+use Rattle.session_names.proofs.NameLaws.{listing-no, listing-some, listing-none, listing-also}
+use Rattle.session_outside.proofs.ReadableLaws.{runs-readable}
+use Rattle.session_check.proofs.WholeLaws.{runs-refuse, shown-decide}
 use Rattle.session_check.proofs.check_session.Statement.{statement}
 use Rattle.session_check.proofs.check_session.Tie as tie
 
-counts-fit-requires : tie.Need-counts-fit-requires
-counts-fit-requires c κs = search needs
-
-returns : tie.Need-returns
-returns c =
-    let start = c .before .before .before .before .before .before in
-    let counts-fit = c .before .counts-fit in
-    listing-no (counts-refuse (start .args .words .now) (start .args .bytes .now) (counts-fit .ensures (start .args .bytes .now) refl) (c .if1 .taken))
-
-read-names-requires : tie.Need-read-names-requires
-read-names-requires c κs =
-    let start = c .before .before .before .before .before .before .before .before in
-    let counts-fit = c .before .before .before .counts-fit in
-    let if1 = c .before .before .if1 in
-    let sizes = room (start .args .words .now) (start .args .bytes .now) (counts-fit .ensures (start .args .bytes .now) refl) (if1 .left) in
-    (sizes .0, sizes .1, start .pre .0, start .pre .1)
+check-runs-requires : tie.Need-check-runs-requires
+check-runs-requires c κs = search needs
 
 same-length : tie.Need-same-length
 same-length c = search needs
@@ -29,21 +16,17 @@ same-length c = search needs
 same-length-2 : tie.Need-same-length-2
 same-length-2 c = search needs
 
-returns-2 : tie.Need-returns-2
-returns-2 c =
-    let start = c .before .before .before .before .before .before .before .before .before .before .before .before .before .before in
-    let counts-fit = c .before .before .before .before .before .before .before .before .before .counts-fit in
-    let if1 = c .before .before .before .before .before .before .before .before .if1 in
-    let read-names = c .before .before .before .before .before .read-names in
-    listing-no (names-refuse (start .args .words .now) (start .args .bytes .now) (counts-fit .ensures (start .args .bytes .now) refl) (if1 .left)
-    (listing-none (read-names .ensures) (c .if2 .taken)))
+returns : tie.Need-returns
+returns c =
+    let at-check-runs = c .before .before .before .before .before in
+    let start = at-check-runs .before .before .before .before .before .before .before in
+    listing-no (runs-refuse (start .args .words .now) (start .args .bytes .now) (listing-none (at-check-runs .check-runs .ensures) (c .if1 .taken)))
 
-numbers-fit-requires : tie.Need-numbers-fit-requires
-numbers-fit-requires c κs =
-    let start = c .before .before .before .before .before .before .before .before .before .before .before .before .before .before .before in
-    let counts-fit = c .before .before .before .before .before .before .before .before .before .before .counts-fit in
-    let if1 = c .before .before .before .before .before .before .before .before .before .if1 in
-    limited (start .args .words .now) (start .args .bytes .now) (counts-fit .ensures (start .args .bytes .now) refl) (if1 .left)
+shown-fits-requires : tie.Need-shown-fits-requires
+shown-fits-requires c κs =
+    let at-check-runs = c .before .before .before .before .before in
+    let start = at-check-runs .before .before .before .before .before .before .before in
+    runs-readable (start .args .words .now) (start .args .bytes .now) (listing-some (at-check-runs .check-runs .ensures) (c .if1 .left))
 
 same-length-3 : tie.Need-same-length-3
 same-length-3 c = search needs
@@ -51,19 +34,14 @@ same-length-3 c = search needs
 same-length-4 : tie.Need-same-length-4
 same-length-4 c = search needs
 
-returns-3 : tie.Need-returns-3
-returns-3 c =
-    let start = c .before .before .before .before .before .before .before .before .before .before .before .before .before .before .before .before .before in
-    let counts-fit = c .before .before .before .before .before .before .before .before .before .before .before .before .counts-fit in
-    let if1 = c .before .before .before .before .before .before .before .before .before .before .before .if1 in
-    let read-names = c .before .before .before .before .before .before .before .before .read-names in
-    let if2 = c .before .before .before .if2 in
-    let numbers-fit = c .before .numbers-fit in
-    let w = start .args .words .now in
-    let n = start .args .bytes .now in
-    let fits = listing-some (read-names .ensures) (if2 .left) in
-    listing-no (numbers-decide w n (counts-fit .ensures n refl) (if1 .left) fits _ (start-bytes w n (read-names .ensures) fits)
-    ∙ sym (numbers-fit .ensures) ∙ not-true (numbers-fit .result) (c .if3 .taken))
+returns-2 : tie.Need-returns-2
+returns-2 c =
+    let shown-fits = c .before .shown-fits in
+    let at-if1 = c .before .before in
+    let at-check-runs = at-if1 .before .before .before .before .before in
+    let start = at-check-runs .before .before .before .before .before .before .before in
+    let runs = listing-some (at-check-runs .check-runs .ensures) (at-if1 .if1 .left) in
+    listing-no (shown-decide (start .args .words .now) (start .args .bytes .now) runs (shown-fits .ensures) ∙ not-true (shown-fits .result) (c .if2 .taken))
 
 same-length-5 : tie.Need-same-length-5
 same-length-5 c = search needs
@@ -71,34 +49,28 @@ same-length-5 c = search needs
 same-length-6 : tie.Need-same-length-6
 same-length-6 c = search needs
 
-returns-4 : tie.Need-returns-4
-returns-4 c =
-    let start = c .before .before .before .before .before .before .before .before .before .before .before .before .before .before .before .before .before in
-    let counts-fit = c .before .before .before .before .before .before .before .before .before .before .before .before .counts-fit in
-    let if1 = c .before .before .before .before .before .before .before .before .before .before .before .if1 in
-    let read-names = c .before .before .before .before .before .before .before .before .read-names in
-    let if2 = c .before .before .before .if2 in
-    let numbers-fit = c .before .numbers-fit in
-    let w = start .args .words .now in
-    let n = start .args .bytes .now in
-    let fits = listing-some (read-names .ensures) (if2 .left) in
-    listing-also (read-names .ensures) fits (numbers-decide w n (counts-fit .ensures n refl) (if1 .left) fits _ (start-bytes w n (read-names .ensures) fits)
-    ∙ sym (numbers-fit .ensures) ∙ not-false (numbers-fit .result) (c .if3 .left))
+returns-3 : tie.Need-returns-3
+returns-3 c =
+    let shown-fits = c .before .shown-fits in
+    let at-if1 = c .before .before in
+    let at-check-runs = at-if1 .before .before .before .before .before in
+    let start = at-check-runs .before .before .before .before .before .before .before in
+    let runs = listing-some (at-check-runs .check-runs .ensures) (at-if1 .if1 .left) in
+    listing-also (at-check-runs .check-runs .ensures) runs
+    (shown-decide (start .args .words .now) (start .args .bytes .now) runs (shown-fits .ensures) ∙ not-false (shown-fits .result) (c .if2 .left))
 
 pub check-session-spec : {M : Type 1} → statement M
 check-session-spec =
     tie.close
     (tie.spec
-    counts-fit-requires
-    returns
-    read-names-requires
+    check-runs-requires
     same-length
     same-length-2
-    returns-2
-    numbers-fit-requires
+    returns
+    shown-fits-requires
     same-length-3
     same-length-4
-    returns-3
+    returns-2
     same-length-5
     same-length-6
-    returns-4)
+    returns-3)
