@@ -132,7 +132,7 @@ enum {
 enum {
     PLUSH_SESSION_GLOBALS = 0,
     PLUSH_SESSION_ENTRIES = 1, /* accepted ones */
-    PLUSH_SESSION_SHOWN = 2, /* names on show: 0 */
+    PLUSH_SESSION_SHOWN = 2, /* names on show: different visible ones, the nine core names among them */
     PLUSH_SESSION_NAMES = 3, /* listed ones */
     PLUSH_SESSION_NAME_BYTES = 4, /* of these, with their ends */
     PLUSH_SESSION_DECLARATIONS = 5,

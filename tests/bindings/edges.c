@@ -111,7 +111,10 @@ static void check_fresh(size_t words, size_t bytes) {
     memset(session, 0xA5, sizeof session);
     memset(session_bytes, 0xA5, sizeof session_bytes);
     plush_session_fresh(session, words, session_bytes, bytes);
-    check(all(session, words, 0) && all(session + words, 8, STALE), "the words of a fresh session, and those after them");
+    for (size_t i = 0; i < words; i++) {
+        check(session[i] == (i == PLUSH_SESSION_SHOWN ? 9 : 0), "a fresh session shows the nine core names and has nothing else");
+    }
+    check(all(session + words, 8, STALE), "words after those of a fresh session are as before");
     for (size_t i = 0; i < bytes + 8; i++) {
         uint8_t byte = i >= bytes ? 0xA5 : i < strlen(FIXED) ? (uint8_t)FIXED[i] : 0;
         check(session_bytes[i] == byte, "the bytes of a fresh session, and those after them");
@@ -261,8 +264,8 @@ static void check_withdrawal(size_t words, uint32_t question, const char *what) 
 static void check_entries(void) {
     static const uint32_t told_1[8] = {0, 0, 0, 0, 0, 12, 1}, told_2[8] = {0, 0, 0, 0, 0, 10, 2}, told_3[8] = {8, 0, 1, 7, 26}, told_4[8] = {0, 0, 0, 0, 0, 2, 2};
     static const uint32_t no_session[8] = {PLUSH_QUESTION_SESSION}, no_room[8] = {PLUSH_QUESTION_ROOM}, full[8] = {PLUSH_QUESTION_SESSION_ROOM};
-    static const uint32_t counts_1[8] = {1, 1, 0, 7, 14, 3, 1, 3}, counts_2[8] = {2, 2, 0, 8, 16, 5, 2, 6};
-    static const uint32_t counts_3[8] = {3, 2, 0, 8, 16, 5, 2, 6}, broken[8] = {2, 2, 0, 9, 16, 5, 2, 6};
+    static const uint32_t counts_1[8] = {1, 1, 12, 7, 14, 3, 1, 3}, counts_2[8] = {2, 2, 13, 8, 16, 5, 2, 6};
+    static const uint32_t counts_3[8] = {3, 2, 13, 8, 16, 5, 2, 6}, broken[8] = {2, 2, 13, 9, 16, 5, 2, 6};
     static const char listed_1[] = "A\na\np\nq\nm\nf\nb\n", listed_2[] = "A\na\np\nq\nm\nf\nb\nB\n";
     check_fresh(PLUSH_SESSION_WORDS, PLUSH_SESSION_BYTES);
     check_entry(PLUSH_SESSION_WORDS, ENTRY_1, 192, NAMES_1, 480, told_1, ANSWER_1, "the first entry");
@@ -276,13 +279,14 @@ static void check_entries(void) {
     check_session(counts_2, listed_2, "the session after both");
     check_withdrawal(PLUSH_SESSION_WORDS, 0, "the second entry taken back");
     check(session[PLUSH_SESSION_GLOBALS] == 2 && session[PLUSH_SESSION_ENTRIES] == 1, "its global stays used");
-    check(memcmp(session + PLUSH_SESSION_NAMES, counts_1 + PLUSH_SESSION_NAMES, 5 * sizeof *session) == 0, "the other counts are those before it");
+    check(memcmp(session + PLUSH_SESSION_SHOWN, counts_1 + PLUSH_SESSION_SHOWN, 6 * sizeof *session) == 0, "the other counts are those before it");
     check_text(4, 0, 31, "b", 0, "a name of the first entry");
     check_text(4, 0, 32, "", 0, "a name that the second brought");
     check_withdrawal(PLUSH_SESSION_WORDS - 1, PLUSH_QUESTION_SESSION, "a word less than a session has");
     check_withdrawal(PLUSH_SESSION_WORDS, 0, "the first entry taken back");
     check_withdrawal(PLUSH_SESSION_WORDS, PLUSH_QUESTION_ENTRY_LEFT, "no entry is left");
-    check(session[PLUSH_SESSION_GLOBALS] == 2 && all(session + PLUSH_SESSION_ENTRIES, 7, 0), "nothing is left but the globals");
+    check(session[PLUSH_SESSION_GLOBALS] == 2 && session[PLUSH_SESSION_ENTRIES] == 0 && session[PLUSH_SESSION_SHOWN] == 9
+              && all(session + PLUSH_SESSION_NAMES, 5, 0), "nothing is left but the globals and the core names");
     check_fresh(PLUSH_SESSION_WORDS, PLUSH_SESSION_BYTES);
     check_entry(PLUSH_SESSION_WORDS, ENTRY_1, 192, NAMES_1, 480, told_1, ANSWER_1, "the first entry once more");
     check_entry(PLUSH_SESSION_WORDS, ENTRY_2, 176, NAMES_2, 480, told_2, ANSWER_2, "and the second");
@@ -291,6 +295,13 @@ static void check_entries(void) {
     check_entry(PLUSH_SESSION_WORDS, ENTRY_4, 48, NAMES_4, 480, no_session, NULL, "a count of names that is not theirs");
     check_session(broken, listed_2, "which changes nothing");
     session[PLUSH_SESSION_NAMES] = 8;
+    for (uint32_t shown = 12; shown <= 14; shown += 2) {
+        session[PLUSH_SESSION_SHOWN] = shown;
+        check_entry(PLUSH_SESSION_WORDS, ENTRY_4, 48, NAMES_4, 480, no_session, NULL, "one name on show less or more than a recount finds");
+        check_withdrawal(PLUSH_SESSION_WORDS, PLUSH_QUESTION_SESSION, "and nothing can be withdrawn");
+        check(session[PLUSH_SESSION_SHOWN] == shown, "and the number stays");
+    }
+    session[PLUSH_SESSION_SHOWN] = 13;
     for (uint32_t entries = 2; entries < 1000; entries++) {
         check_entry(PLUSH_SESSION_WORDS, ENTRY_4, 48, NAMES_4, 480, told_4, ANSWER_4, "f is the latest f");
         check(session[PLUSH_SESSION_ENTRIES] == entries + 1, "and the entry is kept");

@@ -36,6 +36,7 @@ const NAMES_2: &[u8] = b"f\nA\nb\nm\nB\n";
 fn entries() {
     let mut session = Session::new();
     let mut answer = vec![7; 480];
+    assert_eq!(session.names_shown(), 9);
     // A preview answers as the entry does, and changes nothing.
     let told = session.preview(&ENTRY_1, NAMES_1, &mut answer).expect("a preview of the first entry");
     assert_eq!((told.words(), told.globals()), (&ANSWER_1[..], 1));
@@ -43,7 +44,7 @@ fn entries() {
     answer.fill(7);
     let told = session.enter(&ENTRY_1, NAMES_1, &mut answer).expect("the first entry");
     assert_eq!((told.words(), told.globals()), (&ANSWER_1[..], 1));
-    assert_eq!(session.words()[..8], [1, 1, 0, 7, 14, 3, 1, 3]);
+    assert_eq!(session.words()[..8], [1, 1, 12, 7, 14, 3, 1, 3]);
     assert_eq!(session.name_text(NumberOf::Session, 30), b"f");
 
     // The second entry without the first: f is not declared, which is told by the entry's number.
@@ -63,15 +64,16 @@ fn entries() {
     let told = session.enter(&ENTRY_2, NAMES_2, &mut answer[..80]).expect("the second entry");
     assert_eq!((told.words(), told.globals()), (&ANSWER_2[..], 2));
     assert_eq!(told.rows().nth(6), Some(AnswerRow { row: 9, answer: Answer::Class { class: 258 } }));
-    assert_eq!(session.words()[..8], [2, 2, 0, 8, 16, 5, 2, 6]);
+    assert_eq!(session.words()[..8], [2, 2, 13, 8, 16, 5, 2, 6]);
     assert_eq!((session.globals(), session.name_text(NumberOf::Session, 32)), (2, &b"B"[..]));
 
     // Taken back, and entered again from the globals that it used.
     let both = session.clone();
     session.withdraw().expect("the second entry is withdrawn");
     assert_eq!((session.entries(), session.globals(), session.name_text(NumberOf::Session, 32)), (1, 2, &b""[..]));
-    assert_eq!((&session.words()[3..8], session.bytes()), (&before.words()[3..8], both.bytes()));
+    assert_eq!((&session.words()[2..8], session.bytes()), (&before.words()[2..8], both.bytes()));
     session.withdraw().expect("the first entry is withdrawn");
+    assert_eq!((before.names_shown(), both.names_shown(), session.names_shown()), (12, 13, 9));
     let none = session.clone();
     let refusal = session.withdraw().expect_err("no entry is left");
     assert_eq!((refusal.question, refusal.question as u32, session.entries(), &session), (Question::EntryLeft, 25, 0, &none));
@@ -91,6 +93,14 @@ fn entries() {
     assert_eq!((refusal.question, refusal.question as u32, refusal.name, &broken), (Question::Session, 23, 0, &before));
     assert!(answer.iter().all(|&word| word == 0));
     assert_eq!(broken.withdraw().expect_err("nor are they for a withdrawal").question, Question::Session);
+    // Nor are words with one name on show less or more than a recount finds.
+    for shown in [12, 14] {
+        let mut words = session.words().to_vec();
+        words[2] = shown;
+        let mut broken = Session::from_parts(words, session.bytes().to_vec());
+        assert_eq!(broken.preview(&ENTRY_2, NAMES_2, &mut answer).expect_err("another number on show").question, Question::Session);
+        assert_eq!(broken.withdraw().expect_err("nor for a withdrawal").question, Question::Session);
+    }
     let refusal = Session::from_parts(Vec::new(), Vec::new()).enter(&ENTRY_1, NAMES_1, &mut []).expect_err("no words");
     assert_eq!(refusal.question, Question::Session);
 }

@@ -138,7 +138,7 @@ q{i} = {joined(request_text(request) for request, _, _ in run)}
 abbrev M{i} : Memory
 M{i} = afterRun room (freshMemory room) q{i}
 """ + claim(f"k{i}", f"kinds (effects room (freshMemory room) q{i})", effects) + \
-        claim(f"r{i}", f"take 8 (M{i} .words)", plain(session_row(after, False))) + \
+        claim(f"r{i}", f"take 8 (M{i} .words)", plain(session_row(after))) + \
         claim(f"h{i}", f"sessionIn room (M{i} .words) (M{i} .bytes)", session_text(after))
 
 

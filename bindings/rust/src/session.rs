@@ -129,6 +129,11 @@ impl Session {
         self.words.first().copied().unwrap_or(0)
     }
 
+    /// How many different names are visible, the nine core names among them: a name that is declared again counts once.
+    pub fn names_shown(&self) -> u32 {
+        self.words.get(2).copied().unwrap_or(0)
+    }
+
     /// The text of a name, as a part of the session's bytes or of the entry's names. Empty where the number names nothing, or where the
     /// list in which it would stand is refused.
     pub fn name_text<'a>(&'a self, whose: NumberOf<'a>, number: u32) -> &'a [u8] {
