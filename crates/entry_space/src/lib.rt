@@ -3,18 +3,19 @@
 ghost use mathlib.Core.List.{List};
 ghost use Prim.Native.Nat.{ℕ, _≤_};
 ghost use lib.ListN.{length};
+ghost use Rattle.machine.specs.Space.{nodesFor};
 ghost use Rattle.session_outside.specs.Readable.{outsideSize};
 ghost use Rattle.prepare_entry.specs.Told.{Told};
 ghost use Rattle.entry_space.specs.Space.{EnteredTold};
 use answer::Answer;
 use enter_entry::enter_in;
 use prepare_entry::SMALL_OUTSIDE;
-use prepare_entry::SMALL_SHEET;
 use prepare_entry::write_entry;
 use session_outside::outside_size;
+use walk_space::is_small;
 
 // A sheet of up to 320 rows over a small session. For its walk, with 2,072 names and 1,048 visible ones: a class for each row, 4,084 open entries of five
-// words, a table of eight words a row, 6,720 nodes of four.
+// words, a table of eight words a row, 3,360 nodes of four.
 fn enter_small(
     words: &mut [u32],
     sheet: &[u32],
@@ -24,7 +25,7 @@ fn enter_small(
     out: &mut [u32],
 ) -> Answer
     requires { ⌜ ((n : List ℕ) × (ns : List ℕ) × Told (now words) (now sheet) (now numbers) new bytes n ns) × (length (now sheet) ≤ 2560)
-        × (outsideSize (now words) ≤ 2048) ⌝ }
+        × (outsideSize (now words) ≤ 2048) × (nodesFor (now sheet) ≤ 3360) ⌝ }
     ensures { λ x. ⌜ EnteredTold (now (words .entry)) (now (sheet .entry)) (now (numbers .entry)) new bytes (length (now (out .entry))) x (now (out .exit))
         (now (words .exit)) ⌝ }
 {
@@ -40,7 +41,7 @@ fn enter_small(
     let mut classes = [0u32; 320];
     let mut entries = [0u32; 20420];
     let mut results = [0u32; 2560];
-    let mut nodes = [0u32; 26880];
+    let mut nodes = [0u32; 13440];
     enter_in(
         words,
         &copy[..sheet.len()],
@@ -64,7 +65,8 @@ fn enter_middle(
     bytes: usize,
     out: &mut [u32],
 ) -> Answer
-    requires { ⌜ ((n : List ℕ) × (ns : List ℕ) × Told (now words) (now sheet) (now numbers) new bytes n ns) × (length (now sheet) ≤ 2560) ⌝ }
+    requires { ⌜ ((n : List ℕ) × (ns : List ℕ) × Told (now words) (now sheet) (now numbers) new bytes n ns) × (length (now sheet) ≤ 2560)
+        × (nodesFor (now sheet) ≤ 3360) ⌝ }
     ensures { λ x. ⌜ EnteredTold (now (words .entry)) (now (sheet .entry)) (now (numbers .entry)) new bytes (length (now (out .entry))) x (now (out .exit))
         (now (words .exit)) ⌝ }
 {
@@ -80,7 +82,7 @@ fn enter_middle(
     let mut classes = [0u32; 320];
     let mut entries = [0u32; 20420];
     let mut results = [0u32; 2560];
-    let mut nodes = [0u32; 26880];
+    let mut nodes = [0u32; 13440];
     enter_in(
         words,
         &copy[..sheet.len()],
@@ -148,7 +150,7 @@ pub fn enter_sheet(
     ensures { λ x. ⌜ EnteredTold (now (words .entry)) (now (sheet .entry)) (now (numbers .entry)) new bytes (length (now (out .entry))) x (now (out .exit))
         (now (words .exit)) ⌝ }
 {
-    if sheet.len() > SMALL_SHEET {
+    if !is_small(sheet) {
         return enter_large(words, sheet, numbers, new, bytes, out);
     }
     if outside_size(words) > SMALL_OUTSIDE {

@@ -21,6 +21,8 @@ use Rattle.definition.proofs.Walk.Fitting.{fits}
 use Rattle.definition.proofs.Walk.Rows.{kind-not-zero}
 use Rattle.machine.specs.Machine.{entryRoom, nodeRoom, State, Store, startState, runState}
 use Rattle.machine.specs.Reads.{StoreReads, Walked, PastFour, walkRefusal}
+use Rattle.machine.specs.Space.{nodesFor}
+use Rattle.machine.proofs.NodeBound.{nodes-few}
 use Rattle.machine.proofs.StoreAgrees.{StoreAgrees}
 use Rattle.machine.proofs.Refinement.{StateAgrees, Ends, refusalOf, until-all, refusal-part}
 use Rattle.machine.proofs.AfterRows.{parent-word}
@@ -50,9 +52,9 @@ pub rows-few : (s : Sheet) → T (rowsFit s) → rows s ≤ 2048
 rows-few s h = leb→le (rows s) 2048 (and-right (eqb (8 * rows s) (length s) && leb 1 (rows s)) (leb (rows s) 2048) h)
 
 -- A sheet past the first four questions, and buffers with room: an open entry for each of its names, each from outside and two more, three for each row,
--- a table row of zeros for each sheet row, 21 nodes for each.
+-- a table row of zeros for each sheet row, the nodes that its rows may take.
 module _ {O : Outside} (s : Sheet) (v t q : List ℕ) (ok : PastFour O s) (clear : (j : ℕ) → getD t j 0 ≡ 0)
-    (entries : ok .names + 2 + length (O .names) + 3 * rows s < length v / 5) (table : rows s ≤ length t / 8) (nodes : 21 * rows s ≤ length q / 4) where
+    (entries : ok .names + 2 + length (O .names) + 3 * rows s < length v / 5) (table : rows s ≤ length t / 8) (nodes : nodesFor s ≤ length q / 4) where
   few : rows s ≤ 2048
   few = rows-few s (ok .whole)
 
@@ -71,7 +73,7 @@ module _ {O : Outside} (s : Sheet) (v t q : List ℕ) (ok : PastFour O s) (clear
         for-rows = table;
         for-entries = omega (arith, few, ok .few, ok .outside .few);
         for-words = omega (arith, few, ok .few, ok .outside .few);
-        for-nodes = omega (arith, few);
+        for-nodes = omega (arith, few, nodes-few s);
       })
 
   -- Run over its walk, the machine refuses with the definition's first no of questions 5 to 17, or it holds what the definition's answer rows say.

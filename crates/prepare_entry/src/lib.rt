@@ -22,9 +22,7 @@ use session_check::check_session;
 use session_outside::outside_words;
 use words::word_at;
 
-// The words of a small sheet, 320 rows, and of what a small session is to an entry: what is entered or previewed chooses its scratch space by them.
-pub const SMALL_SHEET: usize = 2560;
-
+// The words of what a small session is to an entry: what is entered or previewed chooses its scratch space by them, and by its sheet.
 pub const SMALL_OUTSIDE: usize = 2048;
 
 // The question before the walk that got a no (0: none). If none did: how many names the entry lists, how many of them are new to the session, in how many bytes

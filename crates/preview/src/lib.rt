@@ -5,6 +5,7 @@ ghost use Prim.Native.Nat.{ℕ, suc, _≤_};
 ghost use lib.ListN.{length};
 ghost use Rattle.session.specs.Session.{allNames};
 ghost use Rattle.session.specs.Words.{whole, sessionIn};
+ghost use Rattle.machine.specs.Space.{nodesFor};
 ghost use Rattle.session_outside.specs.Readable.{outsideSize};
 ghost use Rattle.prepare_entry.specs.Told.{Told};
 ghost use Rattle.preview.specs.Previewed.{AskedTold, Previewed};
@@ -13,11 +14,11 @@ use answer::refuse;
 use entry_names::entry_number;
 use prepare_entry::Prepared;
 use prepare_entry::SMALL_OUTSIDE;
-use prepare_entry::SMALL_SHEET;
 use prepare_entry::prepare;
 use prepare_entry::write_entry;
 use session_outside::outside_size;
 use try_entry::try_over;
+use walk_space::is_small;
 
 // A sheet of up to 320 rows tried over a small session, in scratch space of the sizes that an entry has (crate `entry_space`).
 fn try_small(
@@ -29,7 +30,7 @@ fn try_small(
     out: &mut [u32],
 ) -> Answer
     requires { ⌜ ((n : List ℕ) × (ns : List ℕ) × Told (now words) (now sheet) (now numbers) new bytes n ns) × (length (now sheet) ≤ 2560)
-        × (outsideSize (now words) ≤ 2048) ⌝ }
+        × (outsideSize (now words) ≤ 2048) × (nodesFor (now sheet) ≤ 3360) ⌝ }
     ensures { λ x. ⌜ AskedTold (now (words .entry)) (now (sheet .entry)) (now (numbers .entry)) new bytes (length (now (out .entry))) x (now (out .exit)) ⌝ }
 {
     let mut outside = [0u32; 2048];
@@ -44,7 +45,7 @@ fn try_small(
     let mut classes = [0u32; 320];
     let mut entries = [0u32; 20420];
     let mut results = [0u32; 2560];
-    let mut nodes = [0u32; 26880];
+    let mut nodes = [0u32; 13440];
     let tried = try_over(
         words,
         &copy[..sheet.len()],
@@ -69,7 +70,8 @@ fn try_middle(
     bytes: usize,
     out: &mut [u32],
 ) -> Answer
-    requires { ⌜ ((n : List ℕ) × (ns : List ℕ) × Told (now words) (now sheet) (now numbers) new bytes n ns) × (length (now sheet) ≤ 2560) ⌝ }
+    requires { ⌜ ((n : List ℕ) × (ns : List ℕ) × Told (now words) (now sheet) (now numbers) new bytes n ns) × (length (now sheet) ≤ 2560)
+        × (nodesFor (now sheet) ≤ 3360) ⌝ }
     ensures { λ x. ⌜ AskedTold (now (words .entry)) (now (sheet .entry)) (now (numbers .entry)) new bytes (length (now (out .entry))) x (now (out .exit)) ⌝ }
 {
     let mut outside = [0u32; 41198];
@@ -84,7 +86,7 @@ fn try_middle(
     let mut classes = [0u32; 320];
     let mut entries = [0u32; 20420];
     let mut results = [0u32; 2560];
-    let mut nodes = [0u32; 26880];
+    let mut nodes = [0u32; 13440];
     let tried = try_over(
         words,
         &copy[..sheet.len()],
@@ -152,7 +154,7 @@ fn try_sheet(
     requires { ⌜ ((n : List ℕ) × (ns : List ℕ) × Told (now words) (now sheet) (now numbers) new bytes n ns) ⌝ }
     ensures { λ x. ⌜ AskedTold (now (words .entry)) (now (sheet .entry)) (now (numbers .entry)) new bytes (length (now (out .entry))) x (now (out .exit)) ⌝ }
 {
-    if sheet.len() > SMALL_SHEET {
+    if !is_small(sheet) {
         return try_large(words, sheet, numbers, new, bytes, out);
     }
     if outside_size(words) > SMALL_OUTSIDE {

@@ -1,6 +1,7 @@
 // The public routine: a sheet and its names, resolved into the lent answer words, or refused.
 ghost use Prim.Native.Nat.{_≤_};
 ghost use lib.ListN.{length};
+ghost use Rattle.machine.specs.Space.{nodesFor};
 ghost use Rattle.row_events.specs.Prepared.{Ready};
 ghost use Rattle.finish.specs.Settled.{Settled};
 ghost use Rattle.resolver.specs.Plain.{Plain};
@@ -14,6 +15,11 @@ use finish::finish;
 use first_four::first_four;
 use outside::plain::core_words;
 use resolve_syms::resolve_units;
+use walk_space::is_small;
+use walk_space::nodes_for;
+
+// The nodes that `resolve_middle` has room for.
+const MIDDLE_NODES: u32 = 10752;
 
 // The walk, in lent scratch space, and what follows it.
 fn resolve_in(
@@ -56,15 +62,15 @@ fn resolve_large(sheet: &[u32], outside: &[u32], out: &mut [u32]) -> Answer
     )
 }
 
-// The same for up to 320 rows, which would spend a quarter of their time on clearing 906 KB.
-fn resolve_small(sheet: &[u32], outside: &[u32], out: &mut [u32]) -> Answer
-    requires { ⌜ Plain (over (now outside)) (now sheet) × (length (now sheet) ≤ 2560) ⌝ }
+// The same for sheets that take at most 10,752 nodes, as those do of which a quarter of the rows are identifiers: 172 KB of nodes in place of 688.
+fn resolve_middle(sheet: &[u32], outside: &[u32], out: &mut [u32]) -> Answer
+    requires { ⌜ Plain (over (now outside)) (now sheet) × (nodesFor (now sheet) ≤ 10752) ⌝ }
     ensures { λ x. ⌜ Settled (over (now (outside .entry))) (now (sheet .entry)) (length (now (out .entry))) x (now (out .exit)) ⌝ }
 {
-    let mut classes = [0u32; 320];
-    let mut entries = [0u32; 10100];
-    let mut results = [0u32; 2560];
-    let mut nodes = [0u32; 26880];
+    let mut classes = [0u32; 2048];
+    let mut entries = [0u32; 36020];
+    let mut results = [0u32; 16384];
+    let mut nodes = [0u32; 43008];
     resolve_in(
         sheet,
         outside,
@@ -76,13 +82,36 @@ fn resolve_small(sheet: &[u32], outside: &[u32], out: &mut [u32]) -> Answer
     )
 }
 
-// A sheet past the first four questions, by its size.
+// The same for small sheets, which would spend most of their time on clearing: 320 rows and 3,360 nodes.
+fn resolve_small(sheet: &[u32], outside: &[u32], out: &mut [u32]) -> Answer
+    requires { ⌜ Plain (over (now outside)) (now sheet) × (length (now sheet) ≤ 2560) × (nodesFor (now sheet) ≤ 3360) ⌝ }
+    ensures { λ x. ⌜ Settled (over (now (outside .entry))) (now (sheet .entry)) (length (now (out .entry))) x (now (out .exit)) ⌝ }
+{
+    let mut classes = [0u32; 320];
+    let mut entries = [0u32; 10100];
+    let mut results = [0u32; 2560];
+    let mut nodes = [0u32; 13440];
+    resolve_in(
+        sheet,
+        outside,
+        &mut classes,
+        &mut entries,
+        &mut results,
+        &mut nodes,
+        out,
+    )
+}
+
+// A sheet past the first four questions, by its rows and the nodes that they may take.
 fn resolve_sized(sheet: &[u32], outside: &[u32], out: &mut [u32]) -> Answer
     requires { ⌜ Plain (over (now outside)) (now sheet) ⌝ }
     ensures { λ x. ⌜ Settled (over (now (outside .entry))) (now (sheet .entry)) (length (now (out .entry))) x (now (out .exit)) ⌝ }
 {
-    if sheet.len() <= 2560 {
+    if is_small(sheet) {
         return resolve_small(sheet, outside, out);
+    }
+    if nodes_for(sheet) <= MIDDLE_NODES {
+        return resolve_middle(sheet, outside, out);
     }
     resolve_large(sheet, outside, out)
 }

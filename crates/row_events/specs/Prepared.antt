@@ -5,6 +5,7 @@ use lib.ListN.{length}
 use Rattle.definition.specs.Sheet.{Sheet, rows}
 use Rattle.definition.specs.Outside.{Outside}
 use Rattle.machine.specs.Reads.{PastFour}
+use Rattle.machine.specs.Space.{nodesFor}
 use Rattle.classes.specs.Table.{Clear, ClassTable}
 
 -- The sheet has at most 2,048 rows, and the table holds the class of each.
@@ -13,12 +14,12 @@ pub record Prepared (s : Sheet) (cs : List ℕ) : Type 0 where
   pub classes : ClassTable s cs
 
 -- The lent buffers have room for a sheet whose last name is n: a word for the class of each row, an open entry for each name, each from outside and
--- two more, three for each row, a table row for each row, 21 nodes for each row. The first and the third are clear.
+-- two more, three for each row, a table row for each row, the nodes that its rows may take. The first and the third are clear.
 pub record Lent (n : ℕ) (O : Outside) (s : Sheet) (cs v t q : List ℕ) : Type 0 where
   pub for-classes : rows s ≤ length cs
   pub for-entries : n + 2 + length (O .names) + 3 * rows s < length v / 5
   pub for-rows : rows s ≤ length t / 8
-  pub for-nodes : 21 * rows s ≤ length q / 4
+  pub for-nodes : nodesFor s ≤ length q / 4
   pub clear-classes : Clear cs
   pub clear-rows : Clear t
 

@@ -1,4 +1,5 @@
 use native.Mathlib.Omega.{arith}
+use Rattle.machine.proofs.NodeBound.{nodes-few}
 use Rattle.answer_rows.proofs.ScratchLaws.{rows-most}
 use Rattle.resolver.proofs.LentLaws.{lent-zeros}
 use borrow.Author.Needs.{needs}
@@ -23,7 +24,7 @@ resolve-in-requires c κs =
     record {
       past = start .pre .past;
       lent = lent-zeros _ _ _ 2048 2048 36020 16384 172032 (rows-most _ (start .pre .past)) (omega arith)
-          (omega (arith, start .pre .listed, start .pre .nine)) (omega arith) (omega arith);
+          (omega (arith, start .pre .listed, start .pre .nine)) (omega arith) (omega (arith, nodes-few (start .args .sheet .now), rows-most _ (start .pre .past)));
     }
 
 same-length : tie.Need-same-length
