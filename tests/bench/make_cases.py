@@ -1,7 +1,8 @@
 """make_cases.py ORACLE FOLDER
 
-Writes the sheets that are timed, as FOLDER/CASE.sheet and FOLDER/CASE.names. The Rust resolves each of them into at most 2,048
-answer rows, as many as the program lends. Prints the size of each.
+Writes the sheets that are timed, as FOLDER/CASE.sheet and FOLDER/CASE.names, and as FOLDER/CASE.lent how many answer rows are lent
+and the number of the answer: 0, or 22 where the Rust gives more rows than that. The program lends 2,048, and so do most cases.
+Prints the size of each.
 """
 import random
 import subprocess
@@ -10,11 +11,12 @@ import tempfile
 from pathlib import Path
 
 sys.path.insert(0, str(Path(__file__).resolve().parent.parent / "oracle"))
-from directed import block, call, do, give, let, lit, member, method, record, sheet, unit, use
+from directed import array, block, call, do, fun, give, let, lit, member, method, record, sheet, unit, use
 from sheets import INIT, Sheet, class_chain, generate
 from tree import text_of
 
 FIRST_LISTED = 25
+LENT = 2048  # by the program
 
 
 def numbers(count):
@@ -76,6 +78,16 @@ def nested(depth, params, uses):
     return sheet_of(sheet(unit(let(f, inner))), 1 + len(names))
 
 
+def captures(params, depth=19):
+    """A method with many parameters, and functions in each other in it; the innermost uses all parameters, so each of them is
+    captured by each function. A method lies less deep than a literal: 19 functions is the most that a depth of 64 leaves."""
+    of, name, *names = numbers(params + 2)
+    body = give(array(*map(use, names)))
+    for _ in range(depth):
+        body = give(lit([], body))
+    return sheet_of(sheet(unit(classes=[record(of, methods=[fun(name, names, body)])])), params + 2)
+
+
 def write(made, folder, name):
     files = folder / f"{name}.sheet", folder / f"{name}.names"
     files[0].write_text(text_of(made.rows))
@@ -104,14 +116,30 @@ def cases(oracle):
     yield "nested_20", nested(20, 4, 600)
 
 
+def bad_shapes():
+    """What is slow by its shape, and how many answer rows are lent: None for as many as there are."""
+    yield "captures_960", captures(960), None
+    yield "captures_960_refused", captures(960), LENT
+
+
+def write_case(oracle, made, folder, name, lent):
+    """Writes the three files; the number of answer rows, how many are lent, and the answer's number."""
+    rows = answer_rows(oracle, made)
+    assert 0 < rows and len(made.rows) <= 2048, (name, rows, len(made.rows))
+    lent = lent or rows
+    number = 22 if lent < rows else 0
+    write(made, folder, name)
+    (folder / f"{name}.lent").write_text(f"{lent} {number}\n")
+    return rows, lent, number
+
+
 def main():
     oracle, folder = sys.argv[1], Path(sys.argv[2])
     folder.mkdir(parents=True, exist_ok=True)
-    for name, made in cases(oracle):
-        rows = answer_rows(oracle, made)
-        assert 0 < rows <= 2048 and len(made.rows) <= 2048, (name, rows, len(made.rows))
-        write(made, folder, name)
-        print(f"{name}: {len(made.rows)} rows, {made.names.count(10)} names, {rows} answer rows", flush=True)
+    for name, made, lent in [*((name, made, LENT) for name, made in cases(oracle)), *bad_shapes()]:
+        rows, lent, number = write_case(oracle, made, folder, name, lent)
+        told = "" if number == 0 and lent == LENT else f", {lent} lent: answer {number}"
+        print(f"{name}: {len(made.rows)} rows, {made.names.count(10)} names, {rows} answer rows{told}", flush=True)
 
 
 if __name__ == "__main__":

@@ -58,7 +58,8 @@ while [ $round -lt "$rounds" ]; do
             "$out/oracle/oracle_hash" $way "$count" "$sheet" "$names" |
                 sed "s/^.*median \([0-9]*\) ns, least \([0-9]*\) ns/$case rust$way \1 \2/" >> "$out/times"
         done
-        "$out/driver" "$count" "$sheet" "$names" | sed "s/^/$case /" >> "$out/times"
+        # unquoted: two numbers, the answer rows lent and the answer's number
+        "$out/driver" "$count" "$sheet" "$names" $(cat "$out/cases/$case.lent") | sed "s/^/$case /" >> "$out/times"
     done
     round=$((round + 1))
 done

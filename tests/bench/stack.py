@@ -31,7 +31,8 @@ def main():
         print(f"{sys.argv[3]}: {least(driver, sys.argv[3], cases)} KiB of stack")
         return
     for sheet in sorted(cases.glob("*.sheet")):
-        print(f"{sheet.stem}: {least(driver, sheet, sheet.with_suffix('.names'))} KiB of stack")
+        lent = sheet.with_suffix(".lent").read_text().split()
+        print(f"{sheet.stem}: {least(driver, sheet, sheet.with_suffix('.names'), *lent)} KiB of stack")
 
 
 if __name__ == "__main__":
