@@ -88,6 +88,14 @@ def captures(params, depth=19):
     return sheet_of(sheet(unit(classes=[record(of, methods=[fun(name, names, body)])])), params + 2)
 
 
+def upwards(count):
+    """Chained classes, each before its parent, each with a field and a method of its own. The two share a name, so that the names
+    are enough for as many classes as fit."""
+    names, own = numbers(count), numbers(2 * count)[count:]
+    made = [record(names[i], names[i - 1] if i else 0, [own[i]], [method(own[i])]) for i in range(count)]
+    return sheet_of(sheet(unit(classes=made[::-1])), 2 * count)
+
+
 def write(made, folder, name):
     files = folder / f"{name}.sheet", folder / f"{name}.names"
     files[0].write_text(text_of(made.rows))
@@ -120,6 +128,8 @@ def bad_shapes():
     """What is slow by its shape, and how many answer rows are lent: None for as many as there are."""
     yield "captures_960", captures(960), None
     yield "captures_960_refused", captures(960), LENT
+    yield "upwards_43", upwards(43), LENT
+    yield "upwards_400", upwards(400), None
 
 
 def write_case(oracle, made, folder, name, lent):
