@@ -96,6 +96,14 @@ def upwards(count):
     return sheet_of(sheet(unit(classes=made[::-1])), 2 * count)
 
 
+def constructor_array(count, calls):
+    """As `constructors`, with the calls in one array: a call takes two rows, not three."""
+    names = numbers(count)
+    init = method(INIT, params=names[:1])
+    made = [record(name, names[i - 1] if i else 0, (), [] if i else [init]) for i, name in enumerate(names)]
+    return sheet_of(sheet(unit(do(array(*[call(use(names[-1])) for _ in range(calls)])), classes=made)), count)
+
+
 def write(made, folder, name):
     files = folder / f"{name}.sheet", folder / f"{name}.names"
     files[0].write_text(text_of(made.rows))
@@ -130,6 +138,8 @@ def bad_shapes():
     yield "captures_960_refused", captures(960), LENT
     yield "upwards_43", upwards(43), LENT
     yield "upwards_400", upwards(400), None
+    yield "constructors_1000_calls", constructor_array(19, 1000), LENT
+    yield "constructors_510_classes", constructor_array(510, 509), LENT
 
 
 def write_case(oracle, made, folder, name, lent):
