@@ -11,12 +11,13 @@ import tempfile
 from pathlib import Path
 
 sys.path.insert(0, str(Path(__file__).resolve().parent.parent / "oracle"))
-from directed import array, block, call, do, fun, give, let, lit, member, method, record, sheet, unit, use
+from directed import array, block, call, do, fun, give, let, lit, loop, member, method, record, sheet, stop, unit, use
 from sheets import INIT, Sheet, class_chain, generate
 from tree import text_of
 
 FIRST_LISTED = 25
 LENT = 2048  # by the program
+DEEPEST_LOOP = 28  # loops in each other in a literal, with what stands in the last one, until the depth is 64
 
 
 def numbers(count):
@@ -104,6 +105,23 @@ def constructor_array(count, calls):
     return sheet_of(sheet(unit(do(array(*[call(use(names[-1])) for _ in range(calls)])), classes=made)), count)
 
 
+def loop_tower(names):
+    """Loops in each other, each in the block that is the body of the one around it. Each declares a local, tests it and steps with
+    the outermost one."""
+    body = block(stop())
+    for name in reversed(names):
+        body = block(loop(let(name), use(name), do(use(names[0])), body))
+    return body
+
+
+def loops(count):
+    """So many loops, in towers up to the limit of depth, each tower in a function of its own."""
+    names = numbers(DEEPEST_LOOP)
+    towers = [loop_tower(names[:min(DEEPEST_LOOP, count - i)]) for i in range(0, count, DEEPEST_LOOP)]
+    functions = numbers(DEEPEST_LOOP + len(towers))[DEEPEST_LOOP:]
+    return sheet_of(sheet(unit(*[let(name, lit([], tower)) for name, tower in zip(functions, towers)])), functions[-1] - FIRST_LISTED + 1)
+
+
 def write(made, folder, name):
     files = folder / f"{name}.sheet", folder / f"{name}.names"
     files[0].write_text(text_of(made.rows))
@@ -140,6 +158,7 @@ def bad_shapes():
     yield "upwards_400", upwards(400), None
     yield "constructors_1000_calls", constructor_array(19, 1000), LENT
     yield "constructors_510_classes", constructor_array(510, 509), LENT
+    yield "loops_280", loops(280), LENT
 
 
 def write_case(oracle, made, folder, name, lent):
