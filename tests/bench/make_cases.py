@@ -11,9 +11,9 @@ import tempfile
 from pathlib import Path
 
 sys.path.insert(0, str(Path(__file__).resolve().parent.parent / "oracle"))
-from directed import array, block, call, do, fun, give, let, lit, loop, member, method, record, sheet, stop, unit, use
+from directed import array, block, bring, call, do, fun, give, let, lit, loop, member, method, record, sheet, stop, unit, use
 from sheets import INIT, Sheet, class_chain, generate
-from tree import text_of
+from tree import Node, text_of
 
 FIRST_LISTED = 25
 LENT = 2048  # by the program
@@ -122,6 +122,22 @@ def loops(count):
     return sheet_of(sheet(unit(*[let(name, lit([], tower)) for name, tower in zip(functions, towers)])), functions[-1] - FIRST_LISTED + 1)
 
 
+def imports_all(count, constants):
+    """Units that import all of each other: `constants` constants of each, or a class if 0."""
+    each = constants or 1
+    names = numbers(count * each)
+    made = []
+    for i in range(count):
+        own = names[i * each:(i + 1) * each]
+        if constants:
+            made.append(unit(consts=[Node(8, name) for name in own]))
+        else:
+            made.append(unit(classes=[record(own[0])]))
+    for one in made:
+        one.kids[:0] = [bring(other, everything=1) for other in made if other is not one]
+    return sheet_of(sheet(*made), count * each)
+
+
 def write(made, folder, name):
     files = folder / f"{name}.sheet", folder / f"{name}.names"
     files[0].write_text(text_of(made.rows))
@@ -159,6 +175,8 @@ def bad_shapes():
     yield "constructors_1000_calls", constructor_array(19, 1000), LENT
     yield "constructors_510_classes", constructor_array(510, 509), LENT
     yield "loops_280", loops(280), LENT
+    yield "imports_43", imports_all(43, 0), LENT
+    yield "imports_30_constants", imports_all(30, 34), LENT
 
 
 def write_case(oracle, made, folder, name, lent):
