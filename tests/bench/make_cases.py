@@ -61,12 +61,16 @@ def many_names(classes, fields):
     return sheet_of(sheet(unit(*reads, classes=made)), len(names))
 
 
-def constructors(count, calls):
-    """Chained classes, the first with a constructor that the others inherit, and calls of the last one."""
-    names = numbers(count)
+def inheriting(names):
+    """Chained classes, the first with a constructor that the others inherit."""
     init = method(INIT, params=names[:1])
-    made = [record(name, names[i - 1] if i else 0, (), [] if i else [init]) for i, name in enumerate(names)]
-    return sheet_of(sheet(unit(*[do(call(use(names[-1]))) for _ in range(calls)], classes=made)), count)
+    return [record(name, names[i - 1] if i else 0, (), [] if i else [init]) for i, name in enumerate(names)]
+
+
+def constructors(count, calls):
+    """Classes that inherit a constructor, and calls of the last one."""
+    names = numbers(count)
+    return sheet_of(sheet(unit(*[do(call(use(names[-1]))) for _ in range(calls)], classes=inheriting(names))), count)
 
 
 def nested(depth, params, uses):
@@ -100,9 +104,7 @@ def upwards(count):
 def constructor_array(count, calls):
     """As `constructors`, with the calls in one array: a call takes two rows, not three."""
     names = numbers(count)
-    init = method(INIT, params=names[:1])
-    made = [record(name, names[i - 1] if i else 0, (), [] if i else [init]) for i, name in enumerate(names)]
-    return sheet_of(sheet(unit(do(array(*[call(use(names[-1])) for _ in range(calls)])), classes=made)), count)
+    return sheet_of(sheet(unit(do(array(*[call(use(names[-1])) for _ in range(calls)])), classes=inheriting(names))), count)
 
 
 def loop_tower(names):
