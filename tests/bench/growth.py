@@ -3,7 +3,8 @@
 Times `resolve` and the Rust, from words to words, on each shape of make_cases.py in sheets of about 250, 500, 1,000 and 2,000 rows, with what
 run.sh has built in OUT. COUNT runs of each in a round (50), ROUNDS rounds in turn (3); where these take more than SECONDS there are fewer,
 but LEAST. Prints the sheets, then a table: the median over the rounds of each round's median, in ns for each row of the
-sheet, and the factor from the smallest sheet to the largest.
+sheet; the factor from the smallest sheet to the largest; and the same factor of the least times, which other work on the machine
+changes less.
 """
 import subprocess
 import sys
@@ -81,17 +82,20 @@ def run(*command):
 
 
 def ours(out, count, sheet, names, told):
-    return int(run(out / "driver", "--resolve", count, sheet, names, *told).split()[1])
+    """The median and the least time of so many runs."""
+    _, middle, least = run(out / "driver", "--resolve", count, sheet, names, *told).split()
+    return int(middle), int(least)
 
 
 def rust(out, count, sheet, names, _):
-    """The Rust lists all answer rows, whatever is lent."""
-    return int(run(out / "oracle" / "oracle_hash", "--time-words", count, sheet, names).split("median ")[1].split()[0])
+    """The same of the Rust, which lists all answer rows, whatever is lent."""
+    *_, middle, _, _, least, _ = run(out / "oracle" / "oracle_hash", "--time-words", count, sheet, names).split()
+    return int(middle), int(least)
 
 
 def fitting(way, out, count, case):
     """How many runs to make: `count`, or fewer if one takes long."""
-    return max(LEAST, min(count, SECONDS * 10**9 // way(out, 1, *case)))
+    return max(LEAST, min(count, SECONDS * 10**9 // way(out, 1, *case)[0]))
 
 
 def time_all(out, folder, made, count, rounds):
@@ -114,8 +118,10 @@ def line_of(shape, cases, times):
     """A size that a limit forbids stays empty; the factor is that of the sizes that are there."""
     line = [shape]
     for way in (ours, rust):
-        costs = [median(times[name, way]) / rows for name, rows, _ in cases]
-        line += [number(cost) for cost in costs] + [""] * (len(SIZES) - len(costs)) + [f"{costs[-1] / costs[0]:.1f}"]
+        costs = [median(middle for middle, _ in times[name, way]) / rows for name, rows, _ in cases]
+        leasts = [min(least for _, least in times[name, way]) / rows for name, rows, _ in cases]
+        line += [number(cost) for cost in costs] + [""] * (len(SIZES) - len(costs))
+        line += [f"{each[-1] / each[0]:.1f}" for each in (costs, leasts)]
     return f"| {' | '.join(line)} |"
 
 
@@ -128,8 +134,8 @@ def main():
     made = make(out / "oracle" / "oracle", folder)
     times = time_all(out, folder, made, count, rounds)
     sizes = [f"{size:,}" for size in SIZES]
-    print(f"| shape | {' | '.join([*sizes, 'factor', *('Rust, ' + size for size in sizes), 'factor'])} |")
-    print("|---" * (3 + 2 * len(SIZES)) + "|")
+    print(f"| shape | {' | '.join([*sizes, 'factor', 'least', *('Rust, ' + size for size in sizes), 'factor', 'least'])} |")
+    print("|---" * (5 + 2 * len(SIZES)) + "|")
     for shape, cases in made.items():
         print(line_of(shape, cases, times))
 
