@@ -1094,13 +1094,13 @@ FINDING = [
 ]
 
 # The order of units: of order_cases.py. That a list is cleared after a refusal does not show over the pipe.
-STEP = "        started.append(min(u for u, vs in imports.items() if u not in started and vs <= set(started)))\n"
+STEP = "        started.append(min(u for u, vs in imports.items() if u not in done and vs <= done))\n"
 CIRCLING = "circling = [u for u, vs in led_to(imports).items() if u in vs]"
 ADD_IMPORT = "units[u].add(rows[kid][A])"
 AT_CIRCLE = "[[CIRCLE, row[FILE], row[LINE], min(row[COLUMN], MAX_COLUMN), 0, 0, 0, 0]]"
 TOO_SHORT = "    if lent < len(imports):\n        return [[ROOM, 0, 0, 0, 0, 0, 0, 0]]\n"
 ORDERING = [
-    ("layer by layer", STEP, "        started += [u for u, vs in imports.items() if u not in started and vs <= set(started)]\n"),
+    ("layer by layer", STEP, "        started += [u for u, vs in imports.items() if u not in done and vs <= done]\n"),
     ("in the order of becoming ready", STEP,
      "        queue = [u for u in imports if not imports[u]]\n"
      "        while queue:\n"
@@ -1120,8 +1120,8 @@ ORDERING = [
      "        for u in imports:\n"
      "            start(u)\n"),
     ("the highest that is ready", "started.append(min(", "started.append(max("),
-    ("on from the last that started, then around", "min(u for u, vs in imports.items() if u not in started and vs <= set(started)))",
-     "min((u for u, vs in imports.items() if u not in started and vs <= set(started)), key=lambda u: (u < max(started[-1:], default=0), u)))"),
+    ("on from the last that started, then around", "min(u for u, vs in imports.items() if u not in done and vs <= done))",
+     "min((u for u, vs in imports.items() if u not in done and vs <= done), key=lambda u: (u < max(started[-1:], default=0), u)))"),
     ("before what it imports", "    return started\n", "    return started[::-1]\n"),
     ("row order", "    return started\n", "    return sorted(started)\n"),
     ("29 at a unit that only leads in", CIRCLING, "led = led_to(imports)\n    circling = [u for u, vs in led.items() if any(v in led[v] for v in vs)]"),

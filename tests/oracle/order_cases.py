@@ -55,7 +55,8 @@ def order(imports):
     """Each time the lowest unit of all that are ready."""
     started = []
     while len(started) < len(imports):
-        started.append(min(u for u, vs in imports.items() if u not in started and vs <= set(started)))
+        done = set(started)
+        started.append(min(u for u, vs in imports.items() if u not in done and vs <= done))
     return started
 
 
