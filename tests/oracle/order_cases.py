@@ -10,7 +10,7 @@ import sys
 from collections import Counter
 from pathlib import Path
 
-from directed import bring, unit
+from directed import bring, record, unit
 from format_check import first_no, words_of_text
 from limits import at_depth, limits
 from sheets import Sheet
@@ -158,6 +158,9 @@ def directed():
     }
     for i, (what, lists) in enumerate(long.items()):
         cases.append(case_of(what, sheet_of(lists, random.Random(i))))
+    first, second = unit(classes=[record(25)]), unit(classes=[record(26, 25), record(25)])
+    first.kids.insert(0, bring(second, 25, 26))
+    cases.append(case_of("units with classes", Sheet(Node(0, 0, 0, [first, second]), [b"ab", b"cd"], random.Random(0), "preorder")))
     small = text_of(sheet_of(SHAPES["imports itself"], random.Random(0)).rows).encode()
     cases.append(Case("no rows", b"", b""))
     cases.append(Case("no text of a sheet", small[:-1], b""))
