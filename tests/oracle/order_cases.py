@@ -160,7 +160,7 @@ def directed():
         cases.append(case_of(what, sheet_of(lists, random.Random(i))))
     first, second = unit(classes=[record(25)]), unit(classes=[record(26, 25), record(25)])
     first.kids.insert(0, bring(second, 25, 26))
-    cases.append(case_of("units with classes", Sheet(Node(0, 0, 0, [first, second]), [b"ab", b"cd"], random.Random(0), "preorder")))
+    cases.append(case_of("units with classes, after 5 globals", Sheet(Node(0, 5, first.kids[-1], [first, second]), [b"ab", b"cd"], random.Random(0), "preorder")))
     small = text_of(sheet_of(SHAPES["imports itself"], random.Random(0)).rows).encode()
     cases.append(Case("no rows", b"", b""))
     cases.append(Case("no text of a sheet", small[:-1], b""))
