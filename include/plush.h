@@ -36,6 +36,21 @@ extern "C" {
 uint32_t plush_resolve(const uint32_t *sheet, size_t sheet_words, const uint8_t *names, size_t name_bytes, uint32_t *answer,
                        size_t answer_words, uint32_t *report, size_t report_words);
 
+/* Tells in which order the units of a sheet start: each after all that it imports, and each time the lowest row among all that are ready.
+ *
+ * sheet, sheet_words     the sheet's rows, eight words each
+ * names, name_bytes      the listed names, each ended by byte 10
+ * list, list_words       lent: the row of each unit in that order, a word each, and zeros to its end. If they do not fit, question 22 gets a no
+ * report, report_words   lent, of any length, also 0: the words PLUSH_REPORT_.. as far as it goes, and zeros after the eighth. The number of rows
+ *                        is that of the units, the number of globals is 0
+ *
+ * Returns 0, or the question that got a no: PLUSH_QUESTION_ROWS_FIT to PLUSH_QUESTION_DEPTH_FITS; PLUSH_QUESTION_NO_CIRCLE if some chain of imports
+ * comes back to its start, with the position of the lowest unit on such a chain in the report; then PLUSH_QUESTION_ROOM. No other question is asked.
+ * After a refusal every word of the list is 0.
+ */
+uint32_t plush_order_units(const uint32_t *sheet, size_t sheet_words, const uint8_t *names, size_t name_bytes, uint32_t *list, size_t list_words,
+                           uint32_t *report, size_t report_words);
+
 /* Stores a sheet by column: word c of row r goes to place c * rows + r, and next and child are stored as their difference from r modulo
  * 2^32. plush_from_columns is the way back: handed the other's result at the source's length, each gives the source again, whatever its words.
  *
@@ -155,7 +170,7 @@ enum {
     PLUSH_REPORT_LINE = 2,
     PLUSH_REPORT_COLUMN = 3,
     PLUSH_REPORT_NAME = 4,
-    PLUSH_REPORT_ROWS = 5, /* answer rows */
+    PLUSH_REPORT_ROWS = 5, /* answer rows, or units */
     PLUSH_REPORT_GLOBALS = 6,
     PLUSH_REPORT_WORDS = 8
 };
@@ -284,10 +299,11 @@ enum {
     PLUSH_QUESTION_PARENT_RECORD = 19, /* a class's parent has a record */
     PLUSH_QUESTION_INIT_THERE = 20, /* a constructed class has an init */
     PLUSH_QUESTION_INIT_ARITY = 21, /* with one parameter more than arguments */
-    PLUSH_QUESTION_ROOM = 22, /* the answer rows fit the lent words */
+    PLUSH_QUESTION_ROOM = 22, /* the answer fits the lent words */
     PLUSH_QUESTION_SESSION = 23, /* the session is one; the entry is one unit without imports, and starts at its globals or above */
     PLUSH_QUESTION_SESSION_ROOM = 24, /* the session has room for the entry */
-    PLUSH_QUESTION_ENTRY_LEFT = 25 /* an entry is left to withdraw */
+    PLUSH_QUESTION_ENTRY_LEFT = 25, /* an entry is left to withdraw */
+    PLUSH_QUESTION_NO_CIRCLE = 29 /* no chain of imports comes back to its start */
 };
 
 /* The limits of what is accepted. */

@@ -62,6 +62,38 @@ static void check_refused(uint32_t number, const uint32_t *sheet, size_t words, 
     }
 }
 
+/* Three units, in rows 1, 5 and 9: the first imports the unit in row `first`, the second that in row `second`; the third imports none. */
+static void check_order(uint32_t first, uint32_t second, size_t lent, const uint32_t line[8], const uint32_t order[3], const char *what) {
+    const uint32_t sheet[96] = {
+        0,  0, 1,  0, 0, 0, 0, 0,  2, 5, 2, 7, 1, 1, 0,      0,  3, 3, 0, 7, 1, 2, first,  0,  6,  0, 4, 7, 1, 3, 0, 1,
+        25, 0, 0,  7, 1, 4, 0, 0,  2, 9, 6, 7, 2, 20000, 0,  0,  3, 7, 0, 7, 2, 2, second, 1,  6,  0, 8, 7, 2, 3, 0, 1,
+        25, 0, 0,  7, 2, 4, 0, 0,  2, 0, 10, 7, 3, 1, 0,     0,  6, 0, 11, 7, 3, 3, 0,     1,  25, 0, 0, 7, 3, 4, 0, 0};
+    for (size_t room = 0; room <= 16; room++) {
+        uint32_t told[16] = {0};
+        memcpy(told, line, 8 * sizeof *line);
+        memset(answer, 0xA5, sizeof answer);
+        memset(report, 0xA5, sizeof report);
+        check(plush_order_units(sheet, 96, NAMES, 4, answer, lent, report, room) == line[PLUSH_REPORT_QUESTION], what);
+        check(memcmp(report, told, room * sizeof *report) == 0 && all(report + room, 16 - room, STALE), what);
+        size_t units = line[PLUSH_REPORT_ROWS];
+        check(units == 0 || memcmp(answer, order, units * sizeof *order) == 0, what);
+        check(all(answer + units, lent - units, 0) && all(answer + lent, 64 - lent, STALE), "zeros after the order, and as before after the list");
+    }
+}
+
+static void check_orders(void) {
+    static const uint32_t three[8] = {0, 0, 0, 0, 0, 3}, no_room[8] = {PLUSH_QUESTION_ROOM}, itself[8] = {PLUSH_QUESTION_NO_CIRCLE, 7, 2, 16383};
+    static const uint32_t no_unit[8] = {PLUSH_QUESTION_FORMAT_FITS}, last_first[3] = {9, 5, 1}, second_last[3] = {9, 1, 5}, circle[8] = {PLUSH_QUESTION_NO_CIRCLE, 7, 1, 1};
+    check_order(5, 9, 64, three, last_first, "each imports the next");
+    check_order(5, 9, 3, three, last_first, "a word for each unit");
+    check_order(9, 1, 3, three, second_last, "the second imports the first, which imports the third");
+    check_order(5, 9, 2, no_room, NULL, "two words for three units");
+    check_order(5, 9, 0, no_room, NULL, "no words for three units");
+    check_order(5, 5, 0, itself, NULL, "the second imports itself, and the first leads there: its position, its column cut, whatever is lent");
+    check_order(5, 1, 3, circle, NULL, "the first two import each other");
+    check_order(5, 10, 3, no_unit, NULL, "an import of a row that is no unit");
+}
+
 /* S1 by column and back, in targets that go on behind the lent words. */
 static void check_columns(void) {
     uint32_t columns[96], back[96];
@@ -334,6 +366,7 @@ int main(void) {
     check_found(4, "", 0, 1, "no bytes are absent");
     check_found(3, "f", 0, 0, "a list without its end has no index");
     check_columns();
+    check_orders();
     for (size_t room = 0; room <= 16; room++) {
         check_resolved(64, room);
     }
@@ -353,6 +386,6 @@ int main(void) {
     static const uint32_t line[8] = {PLUSH_QUESTION_NULL_DECLARED, 7, 1, 20, PLUSH_NAME_NULL, 0, 0, 0};
     check(resolve(undeclared, 80, 4, 64, 8) == PLUSH_QUESTION_NULL_DECLARED, "null is not declared");
     check(memcmp(report, line, sizeof line) == 0, "position and name of a refusal");
-    puts(failed ? "edges: FAILED" : "edges: S1, refusals 1, 2, 3, 9 and 22, report slices of 0 to 16 words, S1 by column and back, names found, fresh sessions, texts of names, entries and their refusals 8, 22, 23 and 24: as they must be");
+    puts(failed ? "edges: FAILED" : "edges: S1, refusals 1, 2, 3, 9 and 22, report slices of 0 to 16 words, orders of units and their refusals 3, 22 and 29, S1 by column and back, names found, fresh sessions, texts of names, entries and their refusals 8, 22, 23 and 24: as they must be");
     return failed;
 }

@@ -1,5 +1,5 @@
-//! session: sessions through the Rust binding. Panics if something is not as it must be.
-use plush::{Answer, AnswerRow, NumberOf, Question, Session, SESSION_BYTES, SESSION_WORDS};
+//! session: sessions, and orders of units, through the Rust binding. Panics if something is not as it must be.
+use plush::{order_units, Answer, AnswerRow, NumberOf, Position, Question, Refusal, Session, SESSION_BYTES, SESSION_WORDS};
 
 // Two entries of crates/session/specs/Samples.antt and their answers.
 // class A { init(a, p) { a.q = p; } m(a) {} } let f = || return nil; let var b = nil;
@@ -105,7 +105,31 @@ fn entries() {
     assert_eq!(refusal.question, Question::Session);
 }
 
+/// Three units, in rows 1, 5 and 9: the first imports that in row `first`, the second that in row `second`.
+#[rustfmt::skip]
+fn units(first: u32, second: u32) -> [u32; 96] {
+    [
+        0, 0, 1, 0, 0, 0, 0, 0, 2, 5, 2, 7, 1, 1, 0, 0, 3, 3, 0, 7, 1, 2, first, 0, 6, 0, 4, 7, 1, 3, 0, 1, 25, 0, 0, 7, 1, 4, 0, 0, 2, 9, 6, 7, 2, 20000, 0, 0,
+        3, 7, 0, 7, 2, 2, second, 1, 6, 0, 8, 7, 2, 3, 0, 1, 25, 0, 0, 7, 2, 4, 0, 0, 2, 0, 10, 7, 3, 1, 0, 0, 6, 0, 11, 7, 3, 3, 0, 1, 25, 0, 0, 7, 3, 4, 0, 0,
+    ]
+}
+
+fn orders() {
+    let mut list = [7; 5];
+    assert_eq!(order_units(&units(5, 9), b"", &mut list), Ok(&[9, 5, 1][..]));
+    assert_eq!(list, [9, 5, 1, 0, 0]);
+    assert_eq!(order_units(&units(9, 1), b"", &mut list[..3]), Ok(&[9, 1, 5][..]));
+    let whole = Position { file: 0, line: 0, column: 0 };
+    list.fill(7);
+    assert_eq!(order_units(&units(5, 9), b"", &mut list[..2]), Err(Refusal { question: Question::Room, position: whole, name: 0 }));
+    assert_eq!(list, [0, 0, 7, 7, 7]);
+    let refusal = order_units(&units(5, 5), b"", &mut []).expect_err("the second imports itself");
+    assert_eq!(refusal, Refusal { question: Question::NoCircle, position: Position { file: 7, line: 2, column: 16383 }, name: 0 });
+    assert_eq!(refusal.to_string(), "a unit is on a circle of imports (question 29; file 7, line 2, column 16383)");
+}
+
 fn main() {
+    orders();
     entries();
     let names = b"f\np\n";
     let mut session = Session::new();
@@ -128,5 +152,5 @@ fn main() {
     let fresh = session.clone();
     session.clear();
     assert_eq!(session, fresh);
-    println!("session: fresh sessions, texts of names, entries and refusals through the Rust binding, as they must be");
+    println!("session: orders of units, fresh sessions, texts of names, entries and refusals through the Rust binding, as they must be");
 }

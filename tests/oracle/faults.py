@@ -1,7 +1,7 @@
 """Faults to plant: what each is, then pairs of a text that occurs once in the file and what stands in its place.
 
 RESOLVER is of second.py, FORMAT and TEXT of format_check.py, COLUMNS, COLUMN_REPLIES and COLUMN_SIZES of columns_cases.py,
-FINDING of find_cases.py. `format_faults(source)` adds to FORMAT those that can be listed by rule: each demand left out, each
+FINDING of find_cases.py, ORDERING of order_cases.py. `format_faults(source)` adds to FORMAT those that can be listed by rule: each demand left out, each
 child list a little too wide or too narrow, kinds taken for statements or expressions.
 """
 import re
@@ -1091,6 +1091,99 @@ FINDING = [
     ("a refused list takes a place", "        return 0, 0\n", "        return 0, 1\n"),
     ("the place for the number", "(places[place][1] if places[place] else 0), read", "(place if places[place] else 0), read"),
     ("number and places exchanged", "[*find(names, name), 0,", "[*find(names, name)[::-1], 0,"),
+]
+
+# The order of units: of order_cases.py. That a list is cleared after a refusal does not show over the pipe.
+STEP = "        started.append(min(u for u, vs in imports.items() if u not in done and vs <= done))\n"
+CIRCLING = "circling = [u for u, vs in led_to(imports).items() if u in vs]"
+ADD_IMPORT = "units[u].add(rows[kid][A])"
+AT_CIRCLE = "[[CIRCLE, row[FILE], row[LINE], min(row[COLUMN], MAX_COLUMN), 0, 0, 0, 0]]"
+TOO_SHORT = "    if lent < len(imports):\n        return [[ROOM, 0, 0, 0, 0, 0, 0, 0]]\n"
+ORDERING = [
+    ("layer by layer", STEP, "        started += [u for u, vs in imports.items() if u not in done and vs <= done]\n"),
+    ("in the order of becoming ready", STEP,
+     "        queue = [u for u in imports if not imports[u]]\n"
+     "        while queue:\n"
+     "            started.append(queue.pop(0))\n"
+     "            queue += [u for u, vs in imports.items() if u not in started + queue and vs <= set(started)]\n"),
+    ("the latest that became ready", STEP,
+     "        stack = [u for u in imports if not imports[u]]\n"
+     "        while stack:\n"
+     "            started.append(stack.pop())\n"
+     "            stack += [u for u, vs in imports.items() if u not in started + stack and vs <= set(started)]\n"),
+    ("a search from the lowest unit", STEP,
+     "        def start(u):\n"
+     "            for v in sorted(imports[u] - set(started)):\n"
+     "                start(v)\n"
+     "            if u not in started:\n"
+     "                started.append(u)\n"
+     "        for u in imports:\n"
+     "            start(u)\n"),
+    ("the highest that is ready", "started.append(min(", "started.append(max("),
+    ("on from the last that started, then around", "min(u for u, vs in imports.items() if u not in done and vs <= done))",
+     "min((u for u, vs in imports.items() if u not in done and vs <= done), key=lambda u: (u < max(started[-1:], default=0), u)))"),
+    ("before what it imports", "    return started\n", "    return started[::-1]\n"),
+    ("row order", "    return started\n", "    return sorted(started)\n"),
+    ("29 at a unit that only leads in", CIRCLING, "led = led_to(imports)\n    circling = [u for u, vs in led.items() if any(v in led[v] for v in vs)]"),
+    ("29 at a unit that a circle imports", CIRCLING,
+     "led = led_to(imports)\n    circling = [u for u in led if any(v in led[v] and u in led[v] for v in led)]"),
+    ("29 at the lowest unit of all", "rows[min(circling)]", "rows[min(imports)]"),
+    ("29 at the highest on a circle", "rows[min(circling)]", "rows[max(circling)]"),
+    ("29 at the last on the circle found first", "rows[min(circling)]",
+     "rows[max(u for u in circling if u in led_to(imports)[min(circling)] and min(circling) in led_to(imports)[u])]"),
+    ("29 at the header", "row = rows[min(circling)]", "row = rows[0]"),
+    ("29 at an import of the unit", "row = rows[min(circling)]", "row = rows[rows[min(circling)][CHILD]]"),
+    ("29 with a unit's row for the name", AT_CIRCLE, AT_CIRCLE.replace("MAX_COLUMN), 0", "MAX_COLUMN), min(circling)")),
+    ("29 with the units for rows", AT_CIRCLE, AT_CIRCLE.replace("MAX_COLUMN), 0, 0", "MAX_COLUMN), 0, len(imports)")),
+    ("29 without its position", AT_CIRCLE, "[[CIRCLE, 0, 0, 0, 0, 0, 0, 0]]"),
+    ("file and line exchanged", "row[FILE], row[LINE]", "row[LINE], row[FILE]"),
+    ("the column is not cut", "min(row[COLUMN], MAX_COLUMN)", "row[COLUMN]"),
+    ("the column is cut at 16,382", "MAX_COLUMN = 16383", "MAX_COLUMN = 16382"),
+    ("the column is cut at 16,384", "MAX_COLUMN = 16383", "MAX_COLUMN = 16384"),
+    ("28 for 29", "CIRCLE, ROOM = 29, 22", "CIRCLE, ROOM = 28, 22"),
+    ("18 for 29", "CIRCLE, ROOM = 29, 22", "CIRCLE, ROOM = 18, 22"),
+    ("24 for 22", "CIRCLE, ROOM = 29, 22", "CIRCLE, ROOM = 29, 24"),
+    ("an import of itself is overlooked", ADD_IMPORT, "units[u] |= {rows[kid][A]} - {u}"),
+    ("an import of itself is overlooked beside others", CIRCLING, "circling = [u for u, vs in led_to(imports).items() if u in vs and (u not in imports[u] or len(imports[u]) == 1)]"),
+    ("only circles of one", CIRCLING, "circling = [u for u, vs in imports.items() if u in vs]"),
+    ("only circles of one or two", CIRCLING, "circling = [u for u, vs in imports.items() if u in vs or any(u in imports[v] for v in vs)]"),
+    ("chains of few imports alone", "    while grown:\n        grown = False\n", "    for _ in range(2):\n"),
+    ("the first import alone", ADD_IMPORT, "units[u] = units[u] or {rows[kid][A]}"),
+    ("the last import alone", ADD_IMPORT, "units[u] = {rows[kid][A]}"),
+    ("imports that bring everything are passed over", ADD_IMPORT, "units[u] |= set() if rows[kid][7] else {rows[kid][A]}"),
+    ("imports that bring what is listed are passed over", ADD_IMPORT, "units[u] |= {rows[kid][A]} if rows[kid][7] else set()"),
+    ("imports that list nothing are passed over", ADD_IMPORT, "units[u] |= {rows[kid][A]} if rows[kid][CHILD] or rows[kid][7] else set()"),
+    ("imports that list names are passed over", ADD_IMPORT, "units[u] |= set() if rows[kid][CHILD] else {rows[kid][A]}"),
+    ("imports of earlier units are passed over", ADD_IMPORT, "units[u] |= {rows[kid][A]} if rows[kid][A] >= u else set()"),
+    ("imports of later units are passed over", ADD_IMPORT, "units[u] |= {rows[kid][A]} if rows[kid][A] <= u else set()"),
+    ("imports the other way round", "    imports = imports_of(rows)\n",
+     "    given = imports_of(rows)\n    imports = {u: {v for v in given if u in given[v]} for u in given}\n"),
+    ("classes are units", "if row[KIND] == UNIT:", "if row[KIND] in (UNIT, 4):"),
+    ("a unit without an import is left out", "    return units\n", "    return {u: vs for u, vs in units.items() if vs or any(u in ws for ws in units.values())}\n"),
+    ("22 before 29", "    if circling:\n", "    if lent < len(imports):\n        return [[ROOM, 0, 0, 0, 0, 0, 0, 0]]\n    if circling:\n"),
+    ("22 before the first four", "    no = first_no(words, names)\n", "    no = first_no(words, names) or (22 if lent < words[::8].count(UNIT) else 0)\n"),
+    ("room is asked even before 1", "    no = first_no(words, names)\n", "    no = 22 if lent == 0 else first_no(words, names)\n"),
+    ("an exact list is too short", "    if lent < len(imports):", "    if lent <= len(imports):"),
+    ("a list a word short is enough", "    if lent < len(imports):", "    if lent + 1 < len(imports):"),
+    ("room in rows", "    if lent < len(imports):", "    if lent < 8 * len(imports):"),
+    ("room for words a row", "    if lent < len(imports):", "    if 8 * lent < len(imports):"),
+    ("as many as fit", TOO_SHORT, ""),
+    ("no units and no room are refused", "    if lent < len(imports):", "    if lent < max(1, len(imports)):"),
+    ("room is asked of all rows", "    if lent < len(imports):", "    if lent < len(rows):"),
+    ("2,047 words at most", "    if lent < len(imports):", "    if min(lent, 681) < len(imports):"),
+    ("the first four are not asked", "    no = first_no(words, names)\n", "    no = 0\n"),
+    ("the names are not asked", "first_no(words, names)\n", "first_no(words, b'ab\\ncd\\n')\n"),
+    ("question 4 is not asked", "    if no:\n", "    if no and no != 4:\n"),
+    ("29 before 4", "    if no:\n", "    if no and (no != 4 or not any(u in vs for u, vs in imports_of([words[i:i + 8] for i in range(0, len(words), 8)]).items())):\n"),
+    ("a unit by its place", "([u, 0, 0, 0, 0, 0, 0, 0] for u in order(imports))", "([sorted(imports).index(u) + 1, 0, 0, 0, 0, 0, 0, 0] for u in order(imports))"),
+    ("a unit in the second column", "([u, 0, 0, 0, 0, 0, 0, 0] for", "([0, u, 0, 0, 0, 0, 0, 0] for"),
+    ("eight units to a row", "*([u, 0, 0, 0, 0, 0, 0, 0] for u in order(imports))]",
+     "*((order(imports) + [0] * 8)[i:i + 8] for i in range(0, len(imports), 8))]"),
+    ("a unit's function for the unit", "([u, 0, 0, 0, 0, 0, 0, 0] for", "([u + 1, 0, 0, 0, 0, 0, 0, 0] for"),
+    ("the number of imports in the row", "([u, 0, 0, 0, 0, 0, 0, 0] for", "([u, len(imports[u]), 0, 0, 0, 0, 0, 0] for"),
+    ("no rows are told", "[[0, 0, 0, 0, 0, len(imports), 0, 0],", "[[0, 0, 0, 0, 0, 0, 0, 0],"),
+    ("the lent words are told", "[[0, 0, 0, 0, 0, len(imports), 0, 0],", "[[0, 0, 0, 0, 0, lent, 0, 0],"),
+    ("the sheet's globals are told", "[[0, 0, 0, 0, 0, len(imports), 0, 0],", "[[0, 0, 0, 0, 0, len(imports), rows[0][A], 0],"),
 ]
 
 # The first line and the rows of a reply.

@@ -1,16 +1,18 @@
 """order_cases.py COUNT SEED OUTDIR
 
-Makes requests of verb 7, the order of units: those of directed() and COUNT random ones. Writes OUTDIR/stdin, the requests, and
-OUTDIR/stdout, the replies that plush_serve must write, out of `reply`, which is written from document 02 (F-10) by sets of
-units that chains of imports lead to, and shares nothing with the program. Prints the counts by question.
+Makes requests of verb 7, the order of units: those of recorded(), which serve_cases.py takes too, and COUNT random ones. Writes
+OUTDIR/stdin, the requests, and OUTDIR/stdout, the replies that plush_serve must write, out of `reply`, which is written from
+document 02 (F-10) by sets of units that chains of imports lead to, and shares nothing with the program. Prints the counts by
+question.
 """
 import random
 import sys
 from collections import Counter
 from pathlib import Path
 
-from directed import bring, unit
+from directed import bring, record, unit
 from format_check import first_no, words_of_text
+from limits import at_depth, limits
 from sheets import Sheet
 from tree import A, CHILD, COLUMN, FILE, KIND, LINE, NEXT, Node, text_of
 
@@ -53,7 +55,8 @@ def order(imports):
     """Each time the lowest unit of all that are ready."""
     started = []
     while len(started) < len(imports):
-        started.append(min(u for u, vs in imports.items() if u not in started and vs <= set(started)))
+        done = set(started)
+        started.append(min(u for u, vs in imports.items() if u not in done and vs <= done))
     return started
 
 
@@ -148,14 +151,16 @@ def directed():
         for lent in sorted({0, max(0, len(SHAPES[what]) - 1), len(SHAPES[what]), len(SHAPES[what]) + 1}):
             cases.append(case_of(f"{what}, {lent} words lent", sheet_of(SHAPES[what], random.Random(lent)), lent))
     long = {
-        "682 units": [[] for _ in range(682)],
         "511 units in a line": [[i + 1] if i < 510 else [] for i in range(511)],
-        "511 units, all import the last": [[510] if i < 510 else [] for i in range(511)],
-        "a web of 61 units": [list(range(i + 1, 61)) for i in range(61)],
-        "a line of 300 into a circle": [[i + 1] if i < 499 else [300] for i in range(500)],
+        "101 units, all import the last": [[100] if i < 100 else [] for i in range(101)],
+        "a web of 31 units": [list(range(i + 1, 31)) for i in range(31)],
+        "a line of 30 into a circle": [[i + 1] if i < 49 else [30] for i in range(50)],
     }
     for i, (what, lists) in enumerate(long.items()):
         cases.append(case_of(what, sheet_of(lists, random.Random(i))))
+    first, second = unit(classes=[record(25)]), unit(classes=[record(26, 25), record(25)])
+    first.kids.insert(0, bring(second, 25, 26))
+    cases.append(case_of("units with classes, after 5 globals", Sheet(Node(0, 5, first.kids[-1], [first, second]), [b"ab", b"cd"], random.Random(0), "preorder")))
     small = text_of(sheet_of(SHAPES["imports itself"], random.Random(0)).rows).encode()
     cases.append(Case("no rows", b"", b""))
     cases.append(Case("no text of a sheet", small[:-1], b""))
@@ -165,6 +170,33 @@ def directed():
         if row[KIND] == IMPORT:
             row[A] = 0
     cases.append(Case("an import of the header", text_of(wrong).encode(), b"ab\n"))
+    return cases + at_limits()
+
+
+def at_limits():
+    """2,048 rows and one more; bodies that are longer than any accepted one, though a beginning of them would be accepted; depths
+    of 63 to 65, also with a circle; positions of a unit on a circle at their limits."""
+    full = [[] for _ in range(682)]
+    full[0] = [681]
+    cases = [case_of("682 units and an import, 2,048 rows", sheet_of(full, random.Random(1)))]
+    full[1] = [681]
+    cases.append(case_of("2,049 rows", sheet_of(full, random.Random(1))))
+    one = text_of(sheet_of([[]], random.Random(0)).rows).encode()
+    cases.append(Case("bytes after the rows", one + b" " * 165_888, b""))
+    cases.append(Case("names of 32,768 bytes", one, limits()["32,768 bytes of names"][1]))
+    cases.append(Case("names of 32,768 bytes, and more", one, limits()["32,768 bytes of names"][1] + b"a\n"))
+    for depth in 63, 64, 65:
+        cases.append(case_of(f"depth {depth}", at_depth(depth)))
+    for depth in 64, 65:
+        root = at_depth(depth).root
+        root.kids[0].kids.insert(0, bring(root.kids[0]))
+        cases.append(case_of(f"a circle and depth {depth}", Sheet(root, [], random.Random(0), "preorder")))
+    for what, column, values in (("file", FILE, (0, 262143)), ("line", LINE, (0, 2**32 - 1)), ("column", COLUMN, (0, 16382, 16383, 16384, 2**32 - 1))):
+        for value in values:
+            circle = sheet_of([[1], [2], [1]], random.Random(0))
+            units = [row for row in circle.rows if row[KIND] == UNIT]
+            units[1][column] = value
+            cases.append(case_of(f"29 with {what} {value}", circle))
     return cases
 
 
@@ -185,9 +217,13 @@ def random_cases(count, seed):
         yield case_of(f"random {i}", sheet_of(lists, rng, rng.choice(ORDERS), True), lent)
 
 
+def recorded():
+    return directed() + list(random_cases(24, 1))
+
+
 def main():
     count, seed, folder = int(sys.argv[1]), int(sys.argv[2]), Path(sys.argv[3])
-    cases = directed() + list(random_cases(count, seed))
+    cases = recorded() + list(random_cases(count, seed))
     (folder / "stdin").write_bytes(b"".join(case.input() for case in cases))
     (folder / "stdout").write_bytes(b"".join(case.out for case in cases))
     counts = Counter(case.question for case in cases)

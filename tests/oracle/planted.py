@@ -1,7 +1,7 @@
 """planted.py [WORD]
 
-Plants the faults of faults.py in copies of second.py, format_check.py, columns_cases.py and find_cases.py, and those of
-session_faults.py in copies of session.py, one at a time, and counts the recorded cases that notice each: those of
+Plants the faults of faults.py in copies of second.py, format_check.py, columns_cases.py, find_cases.py and order_cases.py, and those
+of session_faults.py in copies of session.py, one at a time, and counts the recorded cases that notice each: those of
 crates/plush_serve whose reply changes, and those of crates/question_tests and crates/columns_tests whose answer changes. A copy
 of session.py goes through all requests of verbs 2, 4 and 5 over one session, which may differ from the first difference on.
 Prints a line for each fault, first those that no case notices; exit status 1 if there is one, or if a copy without a fault
@@ -22,6 +22,7 @@ HERE = Path(__file__).resolve().parent
 CRATES = HERE.parents[1] / "crates"
 RESOLVE = 1
 FIND = 6
+ORDER = 7
 # verbs whose reply has a row that tells the session
 TELLING = 2, 3, 4
 TO_COLUMNS, FROM_COLUMNS = 9, 10
@@ -82,6 +83,7 @@ class Recorded:
         self.columns = [(verb, self.format.words_of_text(text), lent, out) for verb, text, _, lent, _, _, out in cases
                         if verb in (TO_COLUMNS, FROM_COLUMNS)]
         self.found = [(names, name, out) for verb, _, names, _, _, name, out in cases if verb == FIND]
+        self.ordered = [(self.format.words_of_text(text), names, lent, out) for verb, text, names, lent, _, _, out in cases if verb == ORDER]
         self.session = [(case[:5], out) for *case, _, out in cases if case[0] in HAS]
         self.column_tests = column_tests()
         self.questions = question_cases()
@@ -115,6 +117,10 @@ class Recorded:
     def finding_notices(self, module):
         """How many cases of crates/plush_serve in which a name is looked for the module answers otherwise."""
         return sum(outcome(lambda: module.reply(names, name)) != out for names, name, out in self.found)
+
+    def ordering_notices(self, module):
+        """How many cases of crates/plush_serve in which the order of units is asked the module answers otherwise."""
+        return sum(outcome(lambda: text_of(module.reply(words, names, lent)).encode()) != out for words, names, lent, out in self.ordered)
 
     def session_notices(self, module):
         """How many requests of verbs 2, 4 and 5 the module answers otherwise."""
@@ -152,6 +158,7 @@ def planted(recorded, word):
         ("question_tests", "format_check.py", faults.format_faults(source), recorded.format_notices),
         ("plush_serve", "columns_cases.py", [*faults.COLUMNS, *faults.COLUMN_REPLIES], recorded.columns_notice),
         ("plush_serve", "find_cases.py", faults.FINDING, recorded.finding_notices),
+        ("plush_serve", "order_cases.py", faults.ORDERING, recorded.ordering_notices),
         ("plush_serve", "session.py", session_faults.SESSION, recorded.session_notices),
         ("columns_tests", "columns_cases.py", [*faults.COLUMNS, *faults.COLUMN_SIZES], recorded.column_tests_notice),
     ]
@@ -168,6 +175,7 @@ def main():
              recorded.format_notices(recorded.format)]
     wrong += [notices(altered("columns_cases.py", ())) for notices in (recorded.columns_notice, recorded.column_tests_notice)]
     wrong.append(recorded.finding_notices(altered("find_cases.py", ())))
+    wrong.append(recorded.ordering_notices(altered("order_cases.py", ())))
     wrong.append(recorded.session_notices(altered("session.py", ())))
     if any(wrong):
         sys.exit(f"without a fault, cases answered otherwise: {wrong}")
@@ -175,7 +183,7 @@ def main():
     for count, line in sorted(found, key=lambda each: each[0] > 0):
         print(f"{count:5} {line}")
     missed = sum(count == 0 for count, _ in found)
-    serve = sum(map(len, (recorded.serve, recorded.columns, recorded.found, recorded.session)))
+    serve = sum(map(len, (recorded.serve, recorded.columns, recorded.found, recorded.ordered, recorded.session)))
     print(f"{serve} cases of plush_serve, {len(recorded.questions)} of question_tests, {len(recorded.column_tests)} of "
           "columns_tests")
     print(f"{len(found)} faults planted, {missed} not noticed")

@@ -8,7 +8,8 @@ The cases are the samples of document 01, the small programs of directed.py, som
 at most MOST_ROWS rows; of each question from 5 to 21 at least LEAST. The later ones follow these in order: small programs
 that planted.py asks for, sheets and texts at the limits, bodies that are too long, sheets with few answer rows lent, and small
 programs for distances. Of those that questions 1 to 4 refuse, format_check.py says so; the oracle is not asked. Then come
-sheets to store by column and to take back, with the replies of columns_cases.py, and names to find, with those of find_cases.py.
+sheets to store by column and to take back, with the replies of columns_cases.py, names to find, with those of find_cases.py, and
+sheets whose units are put in order, with those of order_cases.py.
 Last comes a run of entries and texts of names over the program's one session, by session_cases.py, which is compared with the
 Rust as compare_session.py does; in its middle stand requests of other verbs once more. Prints the counts by question and by
 kind of row.
@@ -21,6 +22,7 @@ from pathlib import Path
 import columns_cases
 import directed
 import find_cases
+import order_cases
 import session_cases
 from compare_session import Run, compared
 from distance import distances
@@ -212,9 +214,10 @@ def make_cases(oracle, count, seed):
     rng.shuffle(cases)
     cases += expect(oracle, list(later_cases()))
     cases += expect(oracle, [*lent_cases(cases), *distance_cases()])
-    columns, found = list(column_cases()), find_cases.directed()
+    columns, found, ordered = list(column_cases()), find_cases.directed(), order_cases.recorded()
     accepted = [case for case in cases if case.question == 0 and case.answer_rows]
-    return [*cases, *columns, *found, *session_run(oracle, [min(accepted, key=lambda case: len(case.text)), columns[0], found[0]])]
+    middle = [min(accepted, key=lambda case: len(case.text)), columns[0], found[0]]
+    return [*cases, *columns, *found, *ordered, *session_run(oracle, middle)]
 
 
 def summary(cases):

@@ -44,7 +44,7 @@ def broken():
     yield "two zeros", "row", head[:70] + b"00".rjust(10) + WHOLE[80:]
     yield "no newline after the header", "row", head[:80] + b" " + WHOLE[81:]
     yield "81 zero bytes", "row", bytes(81)
-    for verb in (0, 7, 8, 11, 12, MOST):
+    for verb in (0, 8, 11, 12, MOST):
         yield f"verb {verb}", "verb", resolve(verb=verb)
     for flags in (1, 2, 3, 4, MOST):
         yield f"flags {flags}", "flag", resolve(flags=flags)
@@ -85,6 +85,14 @@ def broken():
     yield "verb 6 with 32,769 bytes to look for", "body", header(6, 0, 0, 0, 0, 0, 0, 32769) + b"q" * 32769
     yield "verb 6, and the input ends in the names", "end", looked_for[:82]
     yield "verb 6, and the input ends in what is looked for", "end", looked_for[:-1]
+    for flags in (1, 2, 3, 4):
+        yield f"verb 7 with flags {flags}", "flag", resolve(verb=7, flags=flags)
+    yield "verb 7 with x 2049", "x", resolve(verb=7, x=2049)
+    yield "verb 7 with y 1", "y", resolve(verb=7, y=1)
+    yield "verb 7 with a second sheet", "body", resolve(verb=7, second_sheet=81) + b" " * 81
+    yield "verb 7 with second names", "body", resolve(verb=7, second_names=2) + b"a\n"
+    yield "verb 7, and the input ends in the sheet", "end", resolve(verb=7)[:-len(NAMES) - 1]
+    yield "verb 7, and the input ends in the names", "end", resolve(verb=7)[:-1]
     for verb in (9, 10):
         yield f"verb {verb} with a flag", "flag", columns(verb, flags=1)
         yield f"verb {verb} with x 2049", "x", columns(verb, x=2049)

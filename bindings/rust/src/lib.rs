@@ -38,6 +38,16 @@ extern "C" {
         report: *mut u32,
         report_words: usize,
     ) -> u32;
+    fn plush_order_units(
+        sheet: *const u32,
+        sheet_words: usize,
+        names: *const u8,
+        name_bytes: usize,
+        list: *mut u32,
+        list_words: usize,
+        report: *mut u32,
+        report_words: usize,
+    ) -> u32;
     fn plush_find_name(
         names: *const u8,
         name_bytes: usize,
@@ -295,11 +305,37 @@ pub fn resolve<'a>(sheet: &[u32], names: &[u8], answer: &'a mut [u32]) -> Result
 
 /// What a report says, with the answer rows of the lent words.
 fn told(report: [u32; REPORT_WORDS], answer: &[u32]) -> Result<Resolved<'_>, Refusal> {
+    let (rows, globals) = counted(report)?;
+    Ok(Resolved { words: &answer[..ROW_WORDS * rows as usize], globals })
+}
+
+/// The numbers of rows and globals that a report tells.
+fn counted(report: [u32; REPORT_WORDS]) -> Result<(u32, u32), Refusal> {
     let [number, file, line, column, name, rows, globals, _] = report;
     if number == 0 {
-        return Ok(Resolved { words: &answer[..ROW_WORDS * rows as usize], globals });
+        return Ok((rows, globals));
     }
     Err(Refusal { question: refusing(number), position: Position { file, line, column }, name })
+}
+
+/// The order in which a sheet's units start, their rows, in the lent list: each after all that it imports, and each time the lowest row among all that are
+/// ready. After a refusal every word of the list is 0, else those after the units.
+pub fn order_units<'a>(sheet: &[u32], names: &[u8], list: &'a mut [u32]) -> Result<&'a [u32], Refusal> {
+    let mut report = [0; REPORT_WORDS];
+    unsafe {
+        plush_order_units(
+            sheet.as_ptr(),
+            sheet.len(),
+            names.as_ptr(),
+            names.len(),
+            list.as_mut_ptr(),
+            list.len(),
+            report.as_mut_ptr(),
+            report.len(),
+        )
+    };
+    let (units, _) = counted(report)?;
+    Ok(&list[..units as usize])
 }
 
 /// The answer rows and the globals of a sheet, with as many words as they need.

@@ -30,9 +30,10 @@ pub enum Question {
     Session = 23,
     SessionRoom = 24,
     EntryLeft = 25,
+    NoCircle = 29,
 }
 
-const ALL: [Question; 25] = [
+const ALL: [Question; 26] = [
     Question::RowsFit,
     Question::NamesFit,
     Question::FormatFits,
@@ -58,17 +59,18 @@ const ALL: [Question; 25] = [
     Question::Session,
     Question::SessionRoom,
     Question::EntryLeft,
+    Question::NoCircle,
 ];
 
 impl Question {
-    /// `None` for 0, which is no refusal, and for numbers above the last question.
+    /// `None` for 0, which is no refusal, and for numbers that no question has.
     pub fn from_number(number: u32) -> Option<Question> {
         ALL.into_iter().find(|&question| question as u32 == number)
     }
 
     /// Is it asked of a row? The others are asked of the whole input, of the lent words, or of the session.
     pub fn has_position(self) -> bool {
-        (Question::InLoop as u32..=Question::InitArity as u32).contains(&(self as u32))
+        self == Question::NoCircle || (Question::InLoop as u32..=Question::InitArity as u32).contains(&(self as u32))
     }
 }
 
@@ -98,12 +100,13 @@ impl fmt::Display for Question {
             Question::ParentRecord => "a core class cannot be a parent",
             Question::InitThere => "the constructed class has no init",
             Question::InitArity => "init has another number of parameters than the call has arguments, self besides",
-            Question::Room => "the answer rows do not fit the lent words",
+            Question::Room => "the answer does not fit the lent words",
             Question::Session => {
                 "the session is none, or the entry is not one unit without imports, or starts below the session's globals"
             }
             Question::SessionRoom => "the session has no room for the entry",
             Question::EntryLeft => "no entry is left to withdraw",
+            Question::NoCircle => "a unit is on a circle of imports",
         })
     }
 }

@@ -69,3 +69,6 @@ pub const SESSION_ROOM: u32 = 24;
 
 // An entry is left to withdraw.
 pub const ENTRY_LEFT: u32 = 25;
+
+// No chain of imports comes back to its start.
+pub const NO_CIRCLE: u32 = 29;

@@ -22,9 +22,6 @@ use words::clear;
 use words::entry_at;
 use words::word;
 
-// The question whether no chain of imports comes back to its start.
-pub const NO_CIRCLE: u32 = 29;
-
 // Is row `u` a unit without a mark?
 fn is_left(sheet: &[u32], u: u32, marks: &[u32]) -> bool
     ensures { λ x. ⌜ x ≡ (is (now (sheet .entry)) UNIT u && not (marked (now (marks .entry)) u)) ⌝ }
@@ -75,7 +72,7 @@ fn order_in(sheet: &[u32], marks: &mut [u32], list: &mut [u32]) -> Answer
     let started = start_units(sheet, marks, list);
     if some_left(sheet, marks) {
         let u = lowest_circling(sheet, started as u32, marks);
-        return refuse_at(sheet, NO_CIRCLE, u, 0, list);
+        return refuse_at(sheet, question::NO_CIRCLE, u, 0, list);
     }
     accept_list(started, list)
 }

@@ -31,6 +31,9 @@ use Rattle.plush.specs.Resolved.{Resolved}
 use Rattle.plush.specs.SessionEntered.{SessionEntered}
 use Rattle.plush.specs.SessionPreviewed.{SessionPreviewed}
 use Rattle.plush.specs.SessionWithdrawn.{SessionWithdrawn}
+use Rattle.unit_order.specs.Order.{orderOutcome}
+use Rattle.order_units.specs.Ordered.{Ordered}
+use Rattle.plush.specs.UnitsOrdered.{UnitsOrdered}
 use Rattle.plush.specs.Found.{NameFound}
 use Rattle.plush.specs.Named.{placeWords, NameTold}
 
@@ -89,6 +92,16 @@ session-withdrawn w n room x line r w′ a e f = record {
   fits = a .fits;
   held = a .held;
   shown = a .shown;
+}
+
+-- what `order_units` answers, with its line in the report words
+pub units-ordered : (s : Sheet) (ns : List ℕ) (lent room : ℕ) (x : Answer) (w line r : List ℕ)
+    → Ordered s ns lent x w → line ≡ toldBy x → r ≡ fitted room line → UnitsOrdered s ns lent room (x .number) w r
+units-ordered s ns lent room x w line r a e f = record {
+  number = a .tells .number;
+  words = a .words;
+  report = f ∙ ap (fitted room) (e ∙ told-line (orderOutcome s ns lent) x (a .tells));
+  claims = a .claims;
 }
 
 -- what `find_name` answers, in the lent words

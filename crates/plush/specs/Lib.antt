@@ -4,3 +4,4 @@ pub mod SessionPreviewed
 pub mod SessionWithdrawn
 pub mod Found
 pub mod Named
+pub mod UnitsOrdered

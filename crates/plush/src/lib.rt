@@ -10,11 +10,13 @@ ghost use Rattle.plush.specs.Resolved.{Resolved};
 ghost use Rattle.plush.specs.SessionEntered.{SessionEntered};
 ghost use Rattle.plush.specs.SessionPreviewed.{SessionPreviewed};
 ghost use Rattle.plush.specs.SessionWithdrawn.{SessionWithdrawn};
+ghost use Rattle.plush.specs.UnitsOrdered.{UnitsOrdered};
 use columns::from_columns;
 use columns::to_columns;
 use fresh_session::fresh;
 use name_index::find_name;
 use name_place::name_place;
+use order_units::order_units;
 use preview::preview;
 use prompt::enter;
 use report::first_line;
@@ -35,6 +37,24 @@ pub extern "C" fn plush_resolve(
         n (now (out .exit)) (now (report .exit)) ⌝ }
 {
     let x = resolve(sheet, names, out);
+    let line = first_line(x);
+    write_fitted(&line, report);
+    x.number
+}
+
+// Writes the order in which a sheet's units start into the lent list, a word for each unit: its row; and the report's first line into the lent report
+// words, as far as they go. Returns the number of the question that got a no, 1 to 4, 29 or 22, or 0.
+#[no_mangle]
+pub extern "C" fn plush_order_units(
+    sheet: &[u32],
+    names: &[u8],
+    list: &mut [u32],
+    report: &mut [u32],
+) -> u32
+    ensures { λ n. ⌜ UnitsOrdered (now (sheet .entry)) (now (names .entry)) (length (now (list .entry))) (length (now (report .entry)))
+        n (now (list .exit)) (now (report .exit)) ⌝ }
+{
+    let x = order_units(sheet, names, list);
     let line = first_line(x);
     write_fitted(&line, report);
     x.number

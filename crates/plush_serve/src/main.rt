@@ -14,6 +14,7 @@ use input::read_body;
 use libc::STDIN_FILENO;
 use libc::STDOUT_FILENO;
 use name_reply::name_lent;
+use order_text::order_lent;
 use preview_text::preview_lent;
 use request::Request;
 use request::broken;
@@ -75,6 +76,12 @@ fn reply_withdrawn(words: &mut [u32], bytes: &[u8], text: &mut [u8]) -> bool {
     write(&text[..n])
 }
 
+// The reply of the order of the units of a sheet's text, with so many words lent.
+fn reply_ordered(sheet: &[u8], names: &[u8], lent: usize, text: &mut [u8]) -> bool {
+    let n = order_lent(sheet, names, lent, text);
+    write(&text[..n])
+}
+
 // The reply of a sheet's text stored by column, or taken back, with so many rows lent.
 fn reply_columns(sheet: &[u8], back: bool, lent: usize, text: &mut [u8]) -> bool {
     let n = columns_lent(sheet, back, lent, text);
@@ -132,6 +139,7 @@ fn reply(
         verb::PREVIEW => reply_previewed(words, bytes, sheet, names, x as usize, text),
         verb::WITHDRAW => reply_withdrawn(words, bytes, text),
         verb::NAME_TEXT => reply_name(words, bytes, names, x, request.y, text),
+        verb::ORDER_UNITS => reply_ordered(sheet, names, x as usize, text),
         verb::TO_COLUMNS => reply_columns(sheet, false, x as usize, text),
         verb::FROM_COLUMNS => reply_columns(sheet, true, x as usize, text),
         _ => complain(broken::VERB),

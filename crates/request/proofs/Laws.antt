@@ -16,9 +16,11 @@ use Rattle.request.specs.declared.Request.{Request}
 use Rattle.request.specs.Header.{largest, brokenBy, told, isRow, requestOf}
 
 -- the row of a verb that is none of the table
-pub unknown-verb : (v : ℕ) → (v ≡ 1 → ⊥) → (v ≡ 2 → ⊥) → (v ≡ 3 → ⊥) → (v ≡ 4 → ⊥) → (v ≡ 5 → ⊥) → (v ≡ 6 → ⊥) → (v ≡ 9 → ⊥) → (v ≡ 10 → ⊥) → replicate 8 0 ≡ largest v
+pub unknown-verb : (v : ℕ) → (v ≡ 1 → ⊥) → (v ≡ 2 → ⊥) → (v ≡ 3 → ⊥) → (v ≡ 4 → ⊥) → (v ≡ 5 → ⊥) → (v ≡ 6 → ⊥) → (v ≡ 7 → ⊥) → (v ≡ 9 → ⊥)
+    → (v ≡ 10 → ⊥) → replicate 8 0 ≡ largest v
 unfolding largest
-unknown-verb v a b c d e f g h = rw (ne-eqb v 1 a, ne-eqb v 2 b, ne-eqb v 3 c, ne-eqb v 4 d, ne-eqb v 5 e, ne-eqb v 6 f, ne-eqb v 9 g, ne-eqb v 10 h)
+unknown-verb v a b c d e f g h i =
+    rw (ne-eqb v 1 a, ne-eqb v 2 b, ne-eqb v 3 c, ne-eqb v 4 d, ne-eqb v 5 e, ne-eqb v 6 f, ne-eqb v 7 g, ne-eqb v 9 h, ne-eqb v 10 i)
 
 module _ (m w : List ℕ) where
   pub no-verb : getD w 0 0 ≡ 0 → 2 ≡ brokenBy m w

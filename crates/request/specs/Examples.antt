@@ -72,18 +72,29 @@ text-verb : map (λ w. requestOf (header w) .broken)
 unfolding requestOf brokenBy largest told
 text-verb = refl
 
--- verb 6: names, and at most 32,768 bytes that are looked for; no sheet; the verb after it is unknown
+-- verb 6: names, and at most 32,768 bytes that are looked for; no sheet
 find-verb : map (λ w. requestOf (header w) .broken)
     ((6 ∷ 0 ∷ 4294967295 ∷ 0 ∷ 0 ∷ 0 ∷ 0 ∷ 32768 ∷ []) ∷
     (6 ∷ 0 ∷ 4 ∷ 0 ∷ 0 ∷ 0 ∷ 0 ∷ 32769 ∷ []) ∷
     (6 ∷ 1 ∷ 4 ∷ 0 ∷ 0 ∷ 0 ∷ 0 ∷ 1 ∷ []) ∷
-    (6 ∷ 0 ∷ 4 ∷ 0 ∷ 1 ∷ 0 ∷ 0 ∷ 1 ∷ []) ∷
-    (7 ∷ 0 ∷ 0 ∷ 0 ∷ 0 ∷ 0 ∷ 0 ∷ 0 ∷ []) ∷ [])
-    ≡ 0 ∷ 6 ∷ 6 ∷ 4 ∷ 2 ∷ []
+    (6 ∷ 0 ∷ 4 ∷ 0 ∷ 1 ∷ 0 ∷ 0 ∷ 1 ∷ []) ∷ [])
+    ≡ 0 ∷ 6 ∷ 6 ∷ 4 ∷ []
 unfolding requestOf brokenBy largest told
 find-verb = refl
 
--- verbs 9 and 10: rows lent up to 2,048, no names, no second sheet; the verbs beside them are unknown
+-- verb 7: a sheet, names, up to 2,048 words lent; no flag, no y, no second bodies
+order-verb : map (λ w. requestOf (header w) .broken)
+    ((7 ∷ 4294967295 ∷ 4294967295 ∷ 0 ∷ 2048 ∷ 0 ∷ 0 ∷ 0 ∷ []) ∷
+    (7 ∷ 0 ∷ 0 ∷ 0 ∷ 2049 ∷ 0 ∷ 0 ∷ 0 ∷ []) ∷
+    (7 ∷ 0 ∷ 0 ∷ 1 ∷ 0 ∷ 0 ∷ 0 ∷ 0 ∷ []) ∷
+    (7 ∷ 0 ∷ 0 ∷ 0 ∷ 0 ∷ 1 ∷ 0 ∷ 0 ∷ []) ∷
+    (7 ∷ 0 ∷ 0 ∷ 0 ∷ 0 ∷ 0 ∷ 81 ∷ 0 ∷ []) ∷
+    (7 ∷ 0 ∷ 0 ∷ 0 ∷ 0 ∷ 0 ∷ 0 ∷ 2 ∷ []) ∷ [])
+    ≡ 0 ∷ 4 ∷ 3 ∷ 5 ∷ 6 ∷ 6 ∷ []
+unfolding requestOf brokenBy largest told
+order-verb = refl
+
+-- verbs 9 and 10: rows lent up to 2,048, no names, no second sheet; the verbs beside them, 8 and 11, are unknown
 column-verbs : map (λ w. requestOf (header w) .broken)
     ((9 ∷ 162 ∷ 0 ∷ 0 ∷ 2048 ∷ 0 ∷ 0 ∷ 0 ∷ []) ∷
     (10 ∷ 162 ∷ 0 ∷ 0 ∷ 2048 ∷ 0 ∷ 0 ∷ 0 ∷ []) ∷

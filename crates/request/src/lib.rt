@@ -42,6 +42,7 @@ fn largest_of(verb: u32) -> [u32; 8]
         verb::WITHDRAW => [verb::WITHDRAW, 0, 0, 0, 0, 0, 0, 0],
         verb::NAME_TEXT => [verb::NAME_TEXT, 0, ANY, 0, OF_ENTRY, ANY, 0, 0],
         verb::FIND_NAME => [verb::FIND_NAME, 0, ANY, 0, 0, 0, 0, LOOKED_FOR],
+        verb::ORDER_UNITS => [verb::ORDER_UNITS, ANY, ANY, 0, limit::LENT_ROWS, 0, 0, 0],
         verb::TO_COLUMNS => [verb::TO_COLUMNS, ANY, 0, 0, limit::LENT_ROWS, 0, 0, 0],
         verb::FROM_COLUMNS => [verb::FROM_COLUMNS, ANY, 0, 0, limit::LENT_ROWS, 0, 0, 0],
         _ => [0; 8],

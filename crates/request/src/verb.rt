@@ -16,6 +16,9 @@ pub const NAME_TEXT: u32 = 5;
 // Bytes looked for in a list of names.
 pub const FIND_NAME: u32 = 6;
 
+// The order of a sheet's units.
+pub const ORDER_UNITS: u32 = 7;
+
 // A sheet stored by column, and taken back.
 pub const TO_COLUMNS: u32 = 9;
 

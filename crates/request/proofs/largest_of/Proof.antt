@@ -38,10 +38,14 @@ unfolding largest
 returns-8 c = ap largest (sym (c .match .keys8))
 
 returns-9 : tie.Need-returns-9
-returns-9 c =
+unfolding largest
+returns-9 c = ap largest (sym (c .match .keys9))
+
+returns-10 : tie.Need-returns-10
+returns-10 c =
     let rest = c .match .rest in
-    unknown-verb (c .before .args .verb) (rest .0 .0 .0 .0 .0 .0 .0 .1) (rest .0 .0 .0 .0 .0 .0 .1) (rest .0 .0 .0 .0 .0 .1) (rest .0 .0 .0 .0 .1) (rest .0 .0 .0 .1)
-    (rest .0 .0 .1) (rest .0 .1) (rest .1)
+    unknown-verb (c .before .args .verb) (rest .0 .0 .0 .0 .0 .0 .0 .0 .1) (rest .0 .0 .0 .0 .0 .0 .0 .1) (rest .0 .0 .0 .0 .0 .0 .1)
+    (rest .0 .0 .0 .0 .0 .1) (rest .0 .0 .0 .0 .1) (rest .0 .0 .0 .1) (rest .0 .0 .1) (rest .0 .1) (rest .1)
 
 pub largest-of-spec : {M : Type 1} → statement M
-largest-of-spec = tie.close (tie.spec returns returns-2 returns-3 returns-4 returns-5 returns-6 returns-7 returns-8 returns-9)
+largest-of-spec = tie.close (tie.spec returns returns-2 returns-3 returns-4 returns-5 returns-6 returns-7 returns-8 returns-9 returns-10)
