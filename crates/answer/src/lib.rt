@@ -1,4 +1,6 @@
 // The answer of a sheet: refused, or with its rows.
+#![tactic(auto)]
+
 ghost use Rattle.std.specs.Prelude.{◌≡◌, ◌<◌, length, replicate};
 ghost use Rattle.definition.specs.Sheet.{file as fileAt};
 ghost use Rattle.definition.specs.Outcome.{refused, refused_at};

@@ -1,4 +1,6 @@
 // All answer rows, in rising sheet row.
+#![tactic(auto)]
+
 ghost use Rattle.std.specs.Prelude.{◌≡◌, ◌+◌, ◌<◌, [], ◌∷◌, eqb, replicate};
 ghost use Rattle.definition.specs.Sheet.{rows};
 ghost use Rattle.after.specs.Rows.{rows_in, answers_in};

@@ -1,4 +1,6 @@
 // Assignments: question 6, and the fields that they register.
+#![tactic(auto)]
+
 ghost use Rattle.std.specs.Prelude.{◌≡◌, List, ℕ};
 ghost use Rattle.definition.specs.Sheet.{kind, child};
 ghost use Rattle.definition.specs.Walk.{visit};

@@ -1,4 +1,6 @@
 // What a name stands for, the numbers of functions and classes, and names for the numbers of the format.
+#![tactic(auto)]
+
 ghost use Rattle.std.specs.Prelude.{◌≡◌};
 ghost use Rattle.ast.specs.Decl.{code_and_values, decl_of, mutable};
 

@@ -1,4 +1,6 @@
 // Calls: the questions on a callee, once it is resolved and before the arguments are.
+#![tactic(auto)]
+
 ghost use Rattle.std.specs.Prelude.{◌≡◌, List, ℕ};
 ghost use Rattle.definition.specs.Sheet.{kind, a};
 ghost use Rattle.definition.specs.Walk.{visit};

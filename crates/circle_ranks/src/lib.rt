@@ -3,6 +3,8 @@
 //
 // The ranks only spare searches: `import_circle` looks at them before it uses them, and answers rightly whatever they are. So nothing is promised
 // of them here, beside that the routines end and stay within the tables.
+#![tactic(auto)]
+
 use ast::{column, kind};
 use words::{entry_at, one_more, put, put_entry, word};
 

@@ -1,3 +1,5 @@
 // Which names a class has, and which classes have children.
+#![tactic(auto)]
+
 pub mod held;
 pub mod marks;

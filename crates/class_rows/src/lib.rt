@@ -1,4 +1,6 @@
 // The answer rows of a class, written into the lent answer words.
+#![tactic(auto)]
+
 ghost use Rattle.std.specs.Prelude.{◌≡◌, ◌∷◌, map, not, ◌+◌, ◌<◌, eqb, length, get_or};
 ghost use Rattle.definition.specs.Basics.{bit};
 ghost use Rattle.definition.specs.Answer.{eight};

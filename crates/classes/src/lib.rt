@@ -1,4 +1,6 @@
 // The class of every row of a sheet, in a table that one pass over the rows fills.
+#![tactic(auto)]
+
 ghost use Rattle.std.specs.Prelude.{◌≡◌, ◌≤◌, length};
 ghost use Rattle.definition.specs.Sheet.{rows};
 ghost use Rattle.definition.specs.Outside.{Outside};

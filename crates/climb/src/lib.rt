@@ -1,4 +1,6 @@
 // The climb from a class to its parents, which finds circles: the Rust's `process` as a loop over a run of parent numbers.
+#![tactic(auto)]
+
 ghost use Rattle.std.specs.Prelude.{◌≡◌, min};
 ghost use Rattle.climb.specs.Process.{is_pending, in_lineage, step_at, marks_after, run_size, is_top, leaving, climbed, climbed_all};
 

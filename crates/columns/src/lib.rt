@@ -1,4 +1,6 @@
 // A sheet stored by column, for disks (document 02, F-12), and the way back. Only the sheet's size is asked, not what its words say.
+#![tactic(auto)]
+
 ghost use Rattle.std.specs.Prelude.{◌≡◌, not, ◌++◌, ◌-◌, ◌*◌, ◌≤◌, length, take, drop, replicate};
 ghost use Rattle.definition.specs.Sheet.{rows as rows_of};
 ghost use Rattle.columns.specs.Columns.{is_link, stored, restored, to_columns, from_columns, way, first_no, Rearranged};

@@ -7,6 +7,8 @@
 //   3     what each word of the target holds before
 //   4, 5  the source's first word, and how much each is above the one before it, modulo 2^32
 //   6, 7  a place of the source, and the word that it has instead
+#![tactic(auto)]
+
 use columns::{from_columns, to_columns};
 use libc::{STDIN_FILENO, STDOUT_FILENO};
 use words::{put_entry, word};

@@ -1,4 +1,6 @@
 // A sheet's text stored by column, or taken back, as text: the replies to verbs 9 and 10 of the pipe.
+#![tactic(auto)]
+
 ghost use Rattle.std.specs.Prelude.{◌≡◌, ◌≤◌, length};
 ghost use Rattle.report.specs.Report.{Begins};
 ghost use Rattle.columns_text.specs.Reply.{told_by, printed_columns, RepliedOfText};

@@ -1,4 +1,6 @@
 // Names of one unit's classes and exports, and of one class's fields and methods: is none there twice?
+#![tactic(auto)]
+
 ghost use Rattle.std.specs.Prelude.{◌≡◌, true, ◌*◌, ◌<◌, ◌≤◌};
 ghost use Rattle.definition.specs.Basics.{all};
 ghost use Rattle.definition.specs.Sheet.{rows, kids};

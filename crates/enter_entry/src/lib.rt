@@ -1,4 +1,6 @@
 // An entry entered: tried over the session, and laid over it if it is accepted. Its sheet has the session's name numbers.
+#![tactic(auto)]
+
 ghost use Rattle.std.specs.Prelude.{◌≡◌, true, List, ℕ, ◌+◌, ◌*◌, ◌≤◌, length, get_or};
 ghost use Rattle.definition.specs.Names.{Name};
 ghost use Rattle.definition.specs.Scope.{history};

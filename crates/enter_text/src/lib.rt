@@ -1,5 +1,7 @@
 // An entry from text to text: a sheet's text and the bytes of its names, entered into a session, and the report with the session's row as text. It is the reply
 // to verb 2 of the pipe.
+#![tactic(auto)]
+
 ghost use Rattle.std.specs.Prelude.{◌≡◌, ◌++◌, ◌+◌, ◌*◌, ◌≤◌, length};
 ghost use Rattle.report.specs.Report.{Begins, answer_text};
 ghost use Rattle.enter_text.specs.Reply.{session_row, EnteredText, RepliedOfEntry};

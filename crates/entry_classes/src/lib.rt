@@ -1,5 +1,7 @@
 // The classes of an accepted entry with their members after inheritance, written into the words of its session. Its answer rows tell them in order: a
 // class, its fields by slot, its methods.
+#![tactic(auto)]
+
 ghost use Rattle.std.specs.Prelude.{◌≡◌, ◌||◌, List, ℕ, ◌+◌, ◌*◌, ◌<◌, ◌≤◌, eqb, T, length};
 ghost use Rattle.std.proofs.lemmas.List.Edits.{sets};
 ghost use Rattle.definition.specs.Basics.{all, bit, concat_map, total};

@@ -1,5 +1,7 @@
 // The names of an entry by the session's numbers (document 02, F-1), and its sheet with these numbers. Names are looked for in the index
 // of the session's list.
+#![tactic(auto)]
+
 ghost use Rattle.std.specs.Prelude.{◌≡◌, true, List, ℕ, suc, ◌+◌, ◌^◌, ◌<◌, ◌≤◌, length, set, eqb};
 ghost use Rattle.std.proofs.lemmas.List.Edits.{sets};
 ghost use Rattle.definition.specs.Basics.{if◌then◌else◌, bit, concat_map, place, unlike};

@@ -1,4 +1,6 @@
 // Which entries are asked questions 5 to 22: after 1 to 4 of an entry by itself, 23 of it.
+#![tactic(auto)]
+
 ghost use Rattle.std.specs.Prelude.{◌≡◌, get_or};
 ghost use Rattle.definition.specs.Sheet.{a};
 ghost use Rattle.entry_ready.specs.Asked.{fits_over, entry_no};

@@ -1,5 +1,7 @@
 // The scratch space in which an entry is entered: what the session is to it, a copy of its sheet with the session's name numbers, and the space of its walk,
 // in three sizes, so that a small entry into a small session does not spend its time on clearing words.
+#![tactic(auto)]
+
 ghost use Rattle.std.specs.Prelude.{List, ℕ, ◌≤◌, length};
 ghost use Rattle.machine.specs.Space.{nodes_for};
 ghost use Rattle.session_outside.specs.Readable.{outside_size};

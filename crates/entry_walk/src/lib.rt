@@ -1,5 +1,7 @@
 // The walk of an entry at a prompt: a sheet of one unit without imports, resolved over what earlier entries left. It stops where the body of the unit
 // ends, before its scopes close, so that the declarations of the unit and of its body still stand among the open entries.
+#![tactic(auto)]
+
 ghost use Rattle.std.specs.Prelude.{◌≡◌, List, ◌++◌, ℕ, ◌<◌, ◌≤◌, length};
 ghost use Rattle.definition.specs.Basics.{head};
 ghost use Rattle.definition.specs.Sheet.{kind, child, kids_of};

@@ -1,4 +1,6 @@
 // A name looked for in a list, as text: the reply to verb 6 of the pipe.
+#![tactic(auto)]
+
 ghost use Rattle.std.specs.Prelude.{◌≡◌};
 ghost use Rattle.find_text.specs.Reply.{row_of, RepliedOfNames};
 

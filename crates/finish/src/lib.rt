@@ -1,4 +1,6 @@
 // What follows a walk that no question refused: inheritance and constructor calls, then the answer rows.
+#![tactic(auto)]
+
 ghost use Rattle.std.specs.Prelude.{◌≡◌, List, [], ◌∷◌, ℕ, length};
 ghost use Rattle.definition.specs.Question.{first_no};
 ghost use Rattle.machine.specs.Reads.{PastFour, StoreReads, Walked};

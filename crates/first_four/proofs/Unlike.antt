@@ -73,7 +73,7 @@ module _ (s : Sheet) (k v : ℕ) where
 
   unmarked_gives : (cs m : List ℕ) → InRange (length m) cs → T (unmarked s k v m cs) → Apart m (names cs)
   unfolding Apart unmarked child_unmarked child_marked
-  unmarked_gives [] m r h = (tt, λ y i. absurd (Memᴰ.not_nil i))
+  unmarked_gives [] m r h = (tt, λ y i. absurd (Memᴰ.not-nil i))
   unmarked_gives (c ∷ cs) m r h =
       go (decide (is s k c)) (T_and (child_unmarked s k v m c) (unmarked s k v (child_marked s k v m c) cs) h) (unmarked_gives cs (set m (a s c) v)) (unmarked_gives cs m)
     where

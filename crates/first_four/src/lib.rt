@@ -1,4 +1,6 @@
 // Questions 1 to 4 of document 01 about a sheet and its name list.
+#![tactic(auto)]
+
 ghost use Rattle.std.specs.Prelude.{◌≡◌};
 ghost use Rattle.first_four.specs.Questions.{first_four};
 

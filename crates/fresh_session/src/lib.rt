@@ -1,4 +1,6 @@
 // The fresh session: the nine core names on show, nothing else counted, and the fixed names.
+#![tactic(auto)]
+
 ghost use Rattle.std.specs.Prelude.{◌≡◌, length};
 ghost use Rattle.fresh_session.specs.Fresh.{fresh_byte, fresh_in, Fresh};
 

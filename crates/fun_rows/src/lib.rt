@@ -1,4 +1,6 @@
 // The answer rows of functions and of their literals.
+#![tactic(auto)]
+
 mod escapes;
 pub mod literals;
 

@@ -1,4 +1,6 @@
 // Identifiers: what one means where it stands, and which functions around capture it.
+#![tactic(auto)]
+
 ghost use Rattle.std.specs.Prelude.{◌≡◌, ◌≤◌, eqb, length};
 ghost use Rattle.definition.specs.Basics.{if◌then◌else◌};
 ghost use Rattle.definition.specs.Sheet.{kind};

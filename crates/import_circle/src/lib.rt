@@ -3,6 +3,8 @@
 // A search from every unit would look at every import again and again. So each unit gets a rank first (`circle_ranks`). If ranks rise along no
 // import, a unit all of whose imports have lower ranks is on no circle, and no search starts there. Nothing is promised of the ranks, and
 // nothing is taken on trust: whether they rise is looked at here. With ranks as they should be, the first search comes back.
+#![tactic(auto)]
+
 ghost use Rattle.std.specs.Prelude.{◌≡◌, true, false, ◌&&◌, List, [], ℕ, ◌<◌, ◌≤◌, T, length, get_or};
 ghost use Rattle.definition.specs.Basics.{first, ◌∈?◌};
 ghost use Rattle.definition.specs.Kind.{UNIT, IMPORT};

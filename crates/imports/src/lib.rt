@@ -1,4 +1,6 @@
 // Imports: what a unit brings into its scope from other units.
+#![tactic(auto)]
+
 ghost use Rattle.std.specs.Prelude.{◌≡◌, List, [], ◌∷◌, map, ℕ, ◌≤◌, eqb, length};
 ghost use Rattle.definition.specs.Basics.{if◌then◌else◌, first as firstWith, concat_map};
 ghost use Rattle.definition.specs.Sheet.{a, b, is, kids, kids_of};

@@ -1,4 +1,6 @@
 // The questions that follow the walk: 18 and 19 on the parents of classes, 20 and 21 on constructor calls.
+#![tactic(auto)]
+
 ghost use Rattle.std.specs.Prelude.{◌≡◌, false, List, [], ◌∷◌, ℕ, ◌*◌, ◌≤◌, length};
 ghost use Rattle.definition.specs.Sheet.{a, rows};
 ghost use Rattle.definition.specs.Question.{ask, first_no};

@@ -1,4 +1,6 @@
 // What an entry declared, laid over the visible names of its session: four words for each declaration.
+#![tactic(auto)]
+
 ghost use Rattle.std.specs.Prelude.{◌≡◌, ℕ, ◌+◌, ◌-◌, ◌≤◌, eqb, length};
 ghost use Rattle.std.proofs.lemmas.List.Edits.{sets};
 ghost use Rattle.definition.specs.Basics.{bit, concat_map};

@@ -1,5 +1,7 @@
 // Source positions, packed into 64 bits: the column in bits 0..14, the line in 14..46, the file in 46..64.
 // Shifts are written as products and quotients by powers of two, on which the proofs compute.
+#![tactic(auto)]
+
 ghost use Rattle.std.specs.Prelude.{◌≡◌};
 ghost use Rattle.lexer.specs.SrcPos.{packed, file_of, line_of, column_of};
 

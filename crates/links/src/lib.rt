@@ -1,4 +1,6 @@
 // The links of a sheet: do all go to higher rows, and is every row but 0 linked exactly once?
+#![tactic(auto)]
+
 ghost use Rattle.std.specs.Prelude.{◌≡◌, true, ◌&&◌, ◌||◌, ℕ, ◌*◌, ◌<◌, ◌≤◌, eqb, ltb, length, get_or};
 ghost use Rattle.definition.specs.Basics.{all, from};
 ghost use Rattle.definition.specs.Sheet.{rows};

@@ -36,7 +36,7 @@ pub record Callee (s : Sheet) (c e r : ℕ) : Type 0 where
   pub kids_base : kids s r ≡ []
 
 moments_mem : (s : Sheet) (z : Stack) (es : List Event) (m : Moment) → Mem m (moments s z es) → Mem m.event es
-moments_mem s z [] m q = absurd (Memᴰ.not_nil q)
+moments_mem s z [] m q = absurd (Memᴰ.not-nil q)
 moments_mem s z (e ∷ es) m (here q) = here (ap (λ (x : Moment). x.event) q)
 moments_mem s z (e ∷ es) m (there q) = there (moments_mem s (step s z e) es m q)
 
@@ -66,7 +66,7 @@ follows_two : (s : Sheet) (c r : ℕ) → Follows s c r (visit r ∷ visit c ∷
 unfolding Follows
 follows_two s c r z m (here q) e = here (ap (λ (x : Moment). record { event = visit r; stack = x.stack }) q)
 follows_two s c r z m (there (here q)) e = here (ap (λ (x : Moment). record { event = visit r; stack = x.stack }) q)
-follows_two s c r z m (there (there q)) e = absurd (Memᴰ.not_nil q)
+follows_two s c r z m (there (there q)) e = absurd (Memᴰ.not-nil q)
 
 follows_each : (s : Sheet) (c r : ℕ) (go : ℕ → List Event) (x i : ℕ) (ks : List ℕ)
     → count (of c) (each (λ k. []) s x i ks) ≡ 0 → ((k : ℕ) → Mem k ks → Follows s c r (go k))

@@ -45,7 +45,7 @@ same_test false true f g = absurd (g tt)
 same_test false false f g = refl
 
 mem_total : (f : ℕ → ℕ) (x : ℕ) (xs : List ℕ) → Mem x xs → f x ≤ total f xs
-mem_total f x [] m = absurd (Memᴰ.not_nil m)
+mem_total f x [] m = absurd (Memᴰ.not-nil m)
 mem_total f x (y ∷ ys) (here e) = let q : f x ≡ f y = ap f e in omega arith
 mem_total f x (y ∷ ys) (there m) = omega (arith, mem_total f x ys m)
 
@@ -192,7 +192,7 @@ module _ (n : ℕ) {O : Outside} {s : Sheet} (ok : Fits O s) (fa : SheetFacts n 
         held_first e r l t k = go (member_kid e l t) (ok.links.children e l)
           where
             go : (k : ℕ) × (kids s e ≡ k ∷ []) → Rises s e (child s e) → child s e ≡ r
-            go q (inl z) = absurd (Memᴰ.not_nil (subst (λ (xs : List ℕ). Mem r xs) (ap (chain (rows s) s) z ∙ chain_zero (rows s)) k))
+            go q (inl z) = absurd (Memᴰ.not-nil (subst (λ (xs : List ℕ). Mem r xs) (ap (chain (rows s) s) z ∙ chain_zero (rows s)) k))
               where
                 chain_zero : (n : ℕ) → chain n s 0 ≡ []
                 chain_zero zero = refl
@@ -201,7 +201,7 @@ module _ (n : ℕ) {O : Outside} {s : Sheet} (ok : Fits O s) (fa : SheetFacts n 
               where
                 last : Mem r (child s e ∷ []) → child s e ≡ r
                 last (here h) = sym h
-                last (there h) = absurd (Memᴰ.not_nil h)
+                last (there h) = absurd (Memᴰ.not-nil h)
 
     pub hidden_is_base : is_hidden s (history O s) r ≡ (is_callee_base s r && is_class (use_at s m).means)
     hidden_is_base = same_test (is_hidden s (history O s) r) (is_callee_base s r && is_class (use_at s m).means) found_at_call hidden_there

@@ -1,4 +1,6 @@
 // The name index of document 02, F-2: a name is found by its bytes in a table of 2,048 places. Question 2 goes through it.
+#![tactic(auto)]
+
 ghost use Rattle.std.specs.Prelude.{◌≡◌, true, ◌+◌, ◌*◌, ◌%◌, ◌^◌, ◌<◌, ◌≤◌, length, replicate};
 ghost use Rattle.definition.specs.Names.{fixed, names_unlike, names_fit};
 ghost use Rattle.names.specs.Listed.{starts, numbered};

@@ -1,4 +1,6 @@
 // Where the text of a name stands, for callers that cannot be handed a part of a slice.
+#![tactic(auto)]
+
 ghost use Rattle.std.specs.Prelude.{◌≡◌, not, ◌-◌, ◌≤◌, eqb};
 ghost use Rattle.definition.specs.Basics.{if◌then◌else◌};
 ghost use Rattle.name_place.specs.Place.{bytes_before, NamePlaced};

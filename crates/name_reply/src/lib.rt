@@ -1,4 +1,6 @@
 // The text of a name as a reply: the reply to verb 5 of the pipe.
+#![tactic(auto)]
+
 ghost use Rattle.std.specs.Prelude.{◌≡◌, not, ◌++◌, ◌≤◌, eqb, length, drop};
 ghost use Rattle.report.specs.Report.{Begins};
 ghost use Rattle.name_reply.specs.Reply.{printed_name, RepliedOfName};

@@ -1,4 +1,6 @@
 // The text of a name, as a part of the lent bytes in which it stands: those of a session, or the list of an entry.
+#![tactic(auto)]
+
 ghost use Rattle.std.specs.Prelude.{◌≡◌, not, ◌-◌, ◌≤◌, eqb, length, take, drop};
 ghost use Rattle.definition.specs.Basics.{if◌then◌else◌};
 ghost use Rattle.definition.specs.Names.{fixed, listed};

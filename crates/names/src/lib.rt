@@ -1,5 +1,7 @@
 // The names of a sheet: a byte list in which byte 10 ends each. What question 2 asks of each name by itself, and the bytes of a name by its
 // number.
+#![tactic(auto)]
+
 ghost use Rattle.std.specs.Prelude.{◌≡◌, ◌&&◌, [], ◌+◌, ◌<◌, ◌≤◌, length, get_or, take};
 ghost use Rattle.definition.specs.Names.{listed, same_name, names_few, names_sized, names_ended};
 ghost use Rattle.names.specs.Listed.{name_of, Ends, starts, numbered, named};

@@ -1,4 +1,6 @@
 // How many different names a session shows (document 02, F-8), counted over all its declarations: each name once, by a table of marks.
+#![tactic(auto)]
+
 ghost use Rattle.std.specs.Prelude.{◌≡◌, List, [], ◌∷◌, ◌+◌, ◌≤◌, length, get_or, replicate};
 ghost use Rattle.definition.specs.Meaning.{Named};
 ghost use Rattle.definition.specs.Outside.{core};

@@ -1,4 +1,6 @@
 // The order of a sheet's units from text to text: the reply to verb 7 of the pipe.
+#![tactic(auto)]
+
 ghost use Rattle.std.specs.Prelude.{◌≡◌, ◌∷◌, ◌++◌, ◌+◌, ◌-◌, ◌*◌, ◌≤◌, length, replicate};
 ghost use Rattle.definition.specs.Basics.{concat_map};
 ghost use Rattle.unit_order.specs.Order.{unit_row};

@@ -1,4 +1,6 @@
 // Which unit starts first (document 02, F-10): an order of a sheet's units in which each comes after all that it imports, the lowest ready one first.
+#![tactic(auto)]
+
 ghost use Rattle.std.specs.Prelude.{◌≡◌, not, ◌&&◌, [], length};
 ghost use Rattle.definition.specs.Kind.{UNIT};
 ghost use Rattle.definition.specs.Sheet.{is};

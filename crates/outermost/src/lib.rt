@@ -1,4 +1,6 @@
 // The outermost scope: the names from outside as the first open entries.
+#![tactic(auto)]
+
 ghost use Rattle.std.specs.Prelude.{◌≡◌, List, ℕ};
 ghost use Rattle.machine.specs.Machine.{no_scopes, open_names};
 ghost use Rattle.outside.specs.Words.{name_at, over};

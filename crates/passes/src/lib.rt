@@ -1,4 +1,6 @@
 // The passes over all rows of a sheet.
+#![tactic(auto)]
+
 ghost use Rattle.std.specs.Prelude.{◌≡◌, true};
 ghost use Rattle.definition.specs.Basics.{all, from};
 ghost use Rattle.row_fits.specs.Pass.{rows_ok, rows_noted, literal_ok, declaration_ok, class_ok, method_ok, cross_ok, depth_ok};

@@ -1,4 +1,6 @@
 // The library to link: what C, or Rust through `bindings/rust`, calls. `include/plush.h` declares it.
+#![tactic(auto)]
+
 ghost use Rattle.std.specs.Prelude.{not, eqb, length};
 ghost use Rattle.columns.specs.Columns.{to_columns, from_columns, Rearranged};
 ghost use Rattle.fresh_session.specs.Fresh.{Fresh};

@@ -1,4 +1,6 @@
 // Reads sheet.txt and names.txt, and prints the first question that gets a no, or the answer rows.
+#![tactic(auto)]
+
 ghost use Rattle.io.specs.Counts.{IsPrefixLen};
 
 use libc::STDOUT_FILENO;

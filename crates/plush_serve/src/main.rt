@@ -2,6 +2,8 @@
 //
 // The bodies of a request are read, a routine of a library makes the reply of its verb, and that is written. A request that is broken ends the
 // program, with a line on standard error.
+#![tactic(auto)]
+
 mod input;
 mod say;
 

@@ -1,5 +1,7 @@
 // An entry made ready for its walk, over a session that is only read: what is asked of session and entry before the walk, the entry's names by the session's
 // numbers, and what the walk reads, the sheet with these numbers and what the session is to it. Entering and previewing begin with it.
+#![tactic(auto)]
+
 ghost use Rattle.std.specs.Prelude.{◌≡◌, true, List, ℕ, ◌≤◌, length, get_or};
 ghost use Rattle.definition.specs.Outcome.{rows_fit};
 ghost use Rattle.names.specs.Listed.{starts, numbered};

@@ -1,4 +1,6 @@
 // A preview (document 02, F-5): what entering a sheet into a session would answer. The session is lent for reading alone, so it stays as it is.
+#![tactic(auto)]
+
 ghost use Rattle.std.specs.Prelude.{◌≡◌, List, ℕ, suc, ◌≤◌, length};
 ghost use Rattle.session.specs.Session.{all_names};
 ghost use Rattle.session.specs.Words.{whole, session_in};

@@ -1,5 +1,7 @@
 // A preview from text to text: the report of a sheet's text and the bytes of its names, as if they were entered, with the session's row. It is the reply to verb 3
 // of the pipe.
+#![tactic(auto)]
+
 ghost use Rattle.std.specs.Prelude.{◌≡◌, length};
 ghost use Rattle.preview_text.specs.Reply.{PreviewedText, RepliedOfPreview};
 

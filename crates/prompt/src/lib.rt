@@ -1,4 +1,6 @@
 // Entries at a prompt (document 02, F-1): a sheet entered into a session that stands in lent words and bytes.
+#![tactic(auto)]
+
 ghost use Rattle.std.specs.Prelude.{◌≡◌, suc, length};
 ghost use Rattle.session.specs.Session.{all_names};
 ghost use Rattle.session.specs.Words.{whole, session_in};

@@ -11,6 +11,8 @@
 //   c ROW COLUMN VALUE    changes a word until the next case is asked
 //   ? CASE                asks the questions
 // Any other line is a remark.
+#![tactic(auto)]
+
 ghost use Rattle.std.specs.Prelude.{◌≤◌, length};
 
 mod edit;

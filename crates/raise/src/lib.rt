@@ -1,4 +1,6 @@
 // The numbers of functions and classes in answer rows: over a base, which is 2,048 for each entry of a session before this one.
+#![tactic(auto)]
+
 ghost use Rattle.std.specs.Prelude.{◌≡◌, ◌*◌, ◌≤◌, T, length};
 ghost use Rattle.definition.specs.Basics.{all};
 ghost use Rattle.definition.specs.Answer.{raised_function, raised_class, raised_row};

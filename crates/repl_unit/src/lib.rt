@@ -1,4 +1,6 @@
 // An entry past question 23, resolved over what stands outside it: the walk, what follows it, and the numbers of its answer rows.
+#![tactic(auto)]
+
 ghost use Rattle.std.specs.Prelude.{◌≡◌, List, ℕ, ◌≤◌, length};
 ghost use Rattle.machine.specs.Reads.{PastFour, Walked};
 ghost use Rattle.row_events.specs.Prepared.{Ready};

@@ -1,4 +1,6 @@
 // Reports: an answer as the eight numbers of document 01, and with its rows as text.
+#![tactic(auto)]
+
 ghost use Rattle.std.specs.Prelude.{◌≡◌, ◌+◌, ◌*◌, ◌≤◌, min, length};
 ghost use Rattle.report.specs.Report.{fitted, told_by, Printed};
 

@@ -1,4 +1,6 @@
 // The header of a request: a row of eight numbers, and what the verb allows of each.
+#![tactic(auto)]
+
 pub mod broken;
 mod column;
 pub mod verb;

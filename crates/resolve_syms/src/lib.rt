@@ -1,4 +1,6 @@
 // The walk over a sheet past the first four questions.
+#![tactic(auto)]
+
 ghost use Rattle.machine.specs.Reads.{Walked};
 ghost use Rattle.outside.specs.Words.{over};
 ghost use Rattle.walk.specs.WalkState.{state_of};

@@ -1,4 +1,6 @@
 // The resolver from text to text: a sheet's text and the bytes of its names, and the report as text.
+#![tactic(auto)]
+
 ghost use Rattle.std.specs.Prelude.{◌≡◌, ◌≤◌, length};
 ghost use Rattle.report.specs.Report.{Begins};
 ghost use Rattle.resolve_text.specs.Report.{printed_with, RepliedOfTexts, PrintedOfFiles};

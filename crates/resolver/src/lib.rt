@@ -1,4 +1,6 @@
 // The public routine: a sheet and its names, resolved into the lent answer words, or refused.
+#![tactic(auto)]
+
 ghost use Rattle.std.specs.Prelude.{◌≤◌, length};
 ghost use Rattle.machine.specs.Space.{nodes_for};
 ghost use Rattle.row_events.specs.Prepared.{Ready};

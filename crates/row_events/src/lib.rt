@@ -1,4 +1,6 @@
 // What happens at a row before its parts, after each of them, and after all: a routine for each sort of row.
+#![tactic(auto)]
+
 ghost use Rattle.std.specs.Prelude.{◌≡◌, true, List, ℕ, ◌≤◌, ◌<◌, length};
 ghost use Rattle.definition.specs.Basics.{if◌then◌else◌};
 ghost use Rattle.definition.specs.Sheet.{kind, child, a, is};

@@ -36,7 +36,7 @@ use Rattle.session.proofs.NewMembers.{good_method, good_record, names_of, in_ran
 
 -- no question of a list got a no, so none of its members did
 no_no : (rs : List Refusal) → (first_no rs).number ≡ 0 → (x : Refusal) → Mem x rs → x.number ≡ 0
-no_no [] e x m = absurd (Memᴰ.not_nil m)
+no_no [] e x m = absurd (Memᴰ.not-nil m)
 no_no (r ∷ rs) e x m = go (eqb r.number 0) refl e m (no_no rs)
   where
     go : (t : Bool) → eqb r.number 0 ≡ t → (if not t then r else first_no rs).number ≡ 0 → Mem x (r ∷ rs)

@@ -42,7 +42,7 @@ use Rattle.session.proofs.Pushed.{Pushed, from_outside, declared_at, brought_at,
 
 -- a member's place is below the length
 place_below : (r : ℕ) (xs : List ℕ) → Mem r xs → place (eqb r) xs < length xs
-place_below r [] m = absurd (Memᴰ.not_nil m)
+place_below r [] m = absurd (Memᴰ.not-nil m)
 place_below r (x ∷ xs) m = go (eqb r x) refl m (place_below r xs)
   where
     go : (t : Bool) → eqb r x ≡ t → Mem r (x ∷ xs) → (Mem r xs → place (eqb r) xs < length xs) → (if t then 0 else suc (place (eqb r) xs)) < suc (length xs)
@@ -223,7 +223,7 @@ module _ (E N g : ℕ) (O : Outside) (s : Sheet) (facts : SheetFacts (24 + N) s)
 
         only_one : Mem r (u ∷ []) → r ≡ u
         only_one (here e) = e
-        only_one (there m) = absurd (Memᴰ.not_nil m)
+        only_one (there m) = absurd (Memᴰ.not-nil m)
 
     is_function_lem : T (is s 6 f)
     is_function_lem = eqb_of (kind s f) 6 rows_are.function_kind
@@ -246,7 +246,7 @@ module _ (E N g : ℕ) (O : Outside) (s : Sheet) (facts : SheetFacts (24 + N) s)
 
     in_body : (r : ℕ) → Declarer s (f ∷ []) r → T (is s 4 r) ⊎ (T (is s 29 r) × (b s f ≡ 1))
     in_body r (a_class t) = inl t
-    in_body r (a_parameter t k l m) = absurd (Memᴰ.not_nil (subst (λ (x : List ℕ). Mem r x) rows_are.no_parameters (mem_filter (is s 11) r (kids s f) t m)))
+    in_body r (a_parameter t k l m) = absurd (Memᴰ.not-nil (subst (λ (x : List ℕ). Mem r x) rows_are.no_parameters (mem_filter (is s 11) r (kids s f) t m)))
     in_body r (a_let t some) = inr (t, one)
 
     abbrev x : BodyStack O u f c (z O s u f c rows_are header)

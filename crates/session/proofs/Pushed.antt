@@ -47,7 +47,7 @@ module _ (s : Sheet) (h : List Moment) where
   sound_step z (visit r) m x = x
 
   sound_run : (z : Stack) (es : List Event) → ((m : Moment) → Mem m (moments s z es) → Mem m h) → Sound s h z → (m : Moment) → Mem m (moments s z es) → Sound s h m.stack
-  sound_run z [] up x m q = absurd (Memᴰ.not_nil q)
+  sound_run z [] up x m q = absurd (Memᴰ.not-nil q)
   sound_run z (e ∷ es) up x m (here p) = subst (λ (k : Moment). Sound s h k.stack) (sym p) x
   sound_run z (e ∷ es) up x m (there q) =
       sound_run (step s z e) es (λ k l. up k (there l)) (sound_step z e (up (record { event = e; stack = z }) (here refl)) x) m q
@@ -74,7 +74,7 @@ sound_at O s m q = sound_run s (history O s) (start O) (walk s) (λ k l. l) (sou
 
 -- an event of a moment is one of the walk
 event_in : (s : Sheet) (z : Stack) (es : List Event) (m : Moment) → Mem m (moments s z es) → Mem m.event es
-event_in s z [] m q = absurd (Memᴰ.not_nil q)
+event_in s z [] m q = absurd (Memᴰ.not-nil q)
 event_in s z (e ∷ es) m (here p) = here (ap (λ (k : Moment). k.event) p)
 event_in s z (e ∷ es) m (there q) = there (event_in s (step s z e) es m q)
 

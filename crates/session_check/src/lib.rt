@@ -1,5 +1,7 @@
 // Question 23 of a session in lent words and bytes: its declarations, classes and members. Names (crate session_names), counts, rows of entries and class
 // numbers (crate session_rows) are asked about first; a class is then found by halving. Names on show are counted last (crate names_shown).
+#![tactic(auto)]
+
 ghost use Rattle.std.specs.Prelude.{◌≡◌, true, [], suc, ◌+◌, ◌-◌, ◌*◌, ◌^◌, ◌<◌, ◌≤◌, eqb, length, get_or, set, replicate};
 ghost use Rattle.definition.specs.Basics.{if◌then◌else◌, any, all, from};
 ghost use Rattle.definition.specs.Outside.{is_recorded, core};

@@ -1,4 +1,6 @@
 // The names of a session in its bytes: the fixed ones, and then the listed ones past question 2.
+#![tactic(auto)]
+
 ghost use Rattle.std.specs.Prelude.{◌≡◌, ◌≤◌, length, get_or, take, drop, replicate};
 ghost use Rattle.definition.specs.Names.{same_name};
 ghost use Rattle.name_index.specs.Indexed.{Indexed};

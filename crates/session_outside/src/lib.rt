@@ -1,4 +1,6 @@
 // What a session is to an entry, written as the words of an outside, from which the entry's walk reads it.
+#![tactic(auto)]
+
 ghost use Rattle.std.specs.Prelude.{◌≡◌, true, List, ℕ, ◌≤◌, length};
 ghost use Rattle.definition.specs.Outside.{based};
 ghost use Rattle.outside.specs.Words.{over};

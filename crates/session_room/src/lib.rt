@@ -1,4 +1,6 @@
 // Question 24, whether a session has room for what an entry adds, and the counts of the session with it.
+#![tactic(auto)]
+
 ghost use Rattle.std.specs.Prelude.{◌≡◌, true, ◌∷◌, suc, ◌+◌, ◌*◌, ◌≤◌, get_or, leb};
 ghost use Rattle.std.proofs.lemmas.List.Edits.{sets};
 ghost use Rattle.session.specs.Words.{whole, entry_place};

@@ -1,5 +1,7 @@
 // Words of a session: their counts, the rows of its entries and the numbers of its classes. What else question 23 asks stands in session_check, which
 // finds a class by halving, since the numbers asked about here rise.
+#![tactic(auto)]
+
 ghost use Rattle.std.specs.Prelude.{◌≡◌, ◌&&◌, List, [], ℕ, suc, ◌/◌, ◌^◌, ◌<◌, ◌≤◌, eqb, leb, length, get_or};
 ghost use Rattle.session.specs.Words.{whole, counts_fit, is_function_up_to};
 ghost use Rattle.session_rows.specs.Rows.{five_right, after, count_rises, counts_rise, row_right, rows_right, last_right};

@@ -1,5 +1,7 @@
 // The tables of question 3: what stands in the columns of each kind, and which children follow which. They are written as
 // matches, which the compiler turns into constant data; a constant array it would build on the stack at every read.
+#![tactic(auto)]
+
 ghost use Rattle.std.specs.Prelude.{◌≡◌, ◌+◌, ◌/◌, ◌%◌, eqb};
 ghost use Rattle.shapes.specs.States.{entry_of, kind_table, state_table};
 

@@ -1,4 +1,6 @@
 // The child lists of a sheet. A loop looks at no more rows than the sheet has, so it also ends where the links form a circle.
+#![tactic(auto)]
+
 ghost use Rattle.std.specs.Prelude.{◌≡◌, map, ◌≤◌, eqb, length};
 ghost use Rattle.definition.specs.Basics.{filter, first, head, place, ◌∈?◌};
 ghost use Rattle.definition.specs.Sheet.{a, kids, kids_of};

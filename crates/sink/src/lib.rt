@@ -1,4 +1,6 @@
 // The lent answer words, filled row by row.
+#![tactic(auto)]
+
 ghost use Rattle.std.specs.Prelude.{◌≡◌, [], ◌∷◌};
 ghost use Rattle.sink.specs.Sink.{sink, emit as emitted};
 

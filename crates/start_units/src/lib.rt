@@ -1,4 +1,6 @@
 // Starts the units of a sheet one after another, each time the lowest of those ready: what comes of it is the order of document 02, F-10.
+#![tactic(auto)]
+
 ghost use Rattle.std.specs.Prelude.{◌≡◌, [], ◌<◌};
 ghost use Rattle.definition.specs.Sheet.{rows as rows_of};
 ghost use Rattle.start_units.specs.Starting.{Importing, waits_for, WaitsAt, Waits, waiting_from, startable, LowestFrom, Unnoted, noted_at, noted_unit, Importers};

@@ -1,4 +1,6 @@
 // A sheet's text and its words: a row is eight numbers, each right-justified in ten columns, and a newline.
+#![tactic(auto)]
+
 ghost use Rattle.std.specs.Prelude.{◌≡◌, true, ◌*◌, ◌≤◌, length, take, drop};
 ghost use Rattle.definition.specs.Text.{trimmed, in_ten};
 ghost use Rattle.text.specs.Lines.{is_line, numbers_of, number_in, digits_from, whole_lines, good_lines, numbers_in, line_of, place_byte};

@@ -1,4 +1,6 @@
 // An entry tried over a session that is only read: questions 5 to 22 over what earlier entries left, then 24, and what it would add.
+#![tactic(auto)]
+
 ghost use Rattle.std.specs.Prelude.{◌≡◌, ◌*◌, ◌≤◌, length, get_or};
 ghost use Rattle.row_events.specs.Prepared.{Ready};
 ghost use Rattle.outside.specs.Words.{over};

@@ -1,5 +1,7 @@
 // What jumps, host constants, literals, instanceof and class declarations ask and store. A class declaration is visited before its parts, the
 // others after.
+#![tactic(auto)]
+
 ghost use Rattle.std.specs.Prelude.{◌≡◌, ◌||◌, true, not, List, [], ◌∷◌, ℕ, eqb};
 ghost use Rattle.definition.specs.Basics.{if◌then◌else◌};
 ghost use Rattle.definition.specs.Sheet.{kind, is, b};

@@ -1,4 +1,6 @@
 // The space that the walk of a sheet takes, by the kinds of its rows.
+#![tactic(auto)]
+
 ghost use Rattle.std.specs.Prelude.{◌≡◌, true, ◌≤◌, length};
 ghost use Rattle.definition.specs.Sheet.{rows};
 ghost use Rattle.machine.specs.Space.{nodes_of, nodes_for};

@@ -1,4 +1,6 @@
 // A withdrawal as a reply: the reply to verb 4 of the pipe.
+#![tactic(auto)]
+
 ghost use Rattle.std.specs.Prelude.{[], ◌∷◌, ◌≤◌, length};
 ghost use Rattle.definition.specs.Text.{text_of};
 ghost use Rattle.report.specs.Report.{fitted, Begins};

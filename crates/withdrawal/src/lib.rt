@@ -1,5 +1,7 @@
 // Withdrawals at a prompt (document 02, F-7): the latest accepted entry of a session in lent words and bytes is taken back. Its runs are cut by their counts, and
 // nothing is moved; then the names on show are counted again (F-8).
+#![tactic(auto)]
+
 ghost use Rattle.std.specs.Prelude.{◌≡◌, [], ◌<◌, ◌≤◌, get_or};
 ghost use Rattle.session.specs.Words.{whole};
 ghost use Rattle.session.specs.Withdraw.{words_without, withdraw_no};

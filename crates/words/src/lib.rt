@@ -1,4 +1,6 @@
 // Words of lent slices, read and written without a bound to prove: a word past the end reads as 0, and writing there does nothing.
+#![tactic(auto)]
+
 ghost use Rattle.std.specs.Prelude.{◌≡◌, ◌+◌, ◌*◌, ◌≤◌, length, get_or, set, replicate};
 ghost use Rattle.std.proofs.lemmas.List.Edits.{sets};
 ghost use Rattle.definition.specs.Sheet.{word as word_at};

@@ -219,7 +219,7 @@ was_step s z e es pl n d st v (inl p) = go (back s z e pl p.0 n d st p.1 v)
 was : (s : Sheet) (z : Stack) (es : List Event) → Plain es → (m : Moment) → Memᴰ m (moments s z es)
     → (i n : ℕ) (d : Meaning) (st : Stack) → OpenAt m.stack i n d st → T (is_variable d) → Was s z es n d st
 unfolding Was
-was s z [] pl m q i n d st p v = absurd (mathlib.Core.List.Memᴰ.not_nil q)
+was s z [] pl m q i n d st p v = absurd (mathlib.Core.List.Memᴰ.not-nil q)
 was s z (e ∷ es) (one pe pl) m (mathlib.Core.List.Memᴰ.head q) i n d st p v = inl (i, subst (λ (x : Moment). OpenAt x.stack i n d st) q p)
 was s z (e ∷ es) (one pe pl) m (mathlib.Core.List.Memᴰ.tail q) i n d st p v = was_step s z e es pe n d st v (was s (step s z e) es pl m q i n d st p v)
 

@@ -100,7 +100,7 @@ and_not true y h = h
 and_not false y h = tt
 
 beyond_mem : (g o : ℕ) (l : List ℕ) → Mem o (beyond g l) → Mem g l × Mem o l
-beyond_mem g o [] m = absurd (Memᴰ.not_nil m)
+beyond_mem g o [] m = absurd (Memᴰ.not-nil m)
 beyond_mem g o (x ∷ xs) m = go (decide (eqb x g)) (beyond_mem g o xs)
   where
     go : T (eqb x g) ⊎ T (not (eqb x g)) → (Mem o (beyond g xs) → Mem g xs × Mem o xs) → Mem g (x ∷ xs) × Mem o (x ∷ xs)
@@ -108,7 +108,7 @@ beyond_mem g o (x ∷ xs) m = go (decide (eqb x g)) (beyond_mem g o xs)
     go (inr t) up = let q = up (subst (λ (l : List ℕ). Mem o l) (if_false (eqb x g) xs (beyond g xs) t) m) in (there q.0, there q.1)
 
 mem_total : (f : ℕ → ℕ) (x : ℕ) (xs : List ℕ) → Mem x xs → f x ≤ total f xs
-mem_total f x [] m = absurd (Memᴰ.not_nil m)
+mem_total f x [] m = absurd (Memᴰ.not-nil m)
 mem_total f x (y ∷ ys) (here e) = let q : f x ≡ f y = ap f e in omega arith
 mem_total f x (y ∷ ys) (there m) = omega (arith, mem_total f x ys m)
 
@@ -403,7 +403,7 @@ module _ {O : Outside} {s : Sheet} (ok : Fits O s) where
     where
       go : T (eqb (owner_of u.means) g) ⊎ T (not (eqb (owner_of u.means) g)) → Leads r g u (place (eqb (owner_of u.means)) (g ∷ []))
       go (inl t) = subst (λ (n : ℕ). Leads r g u n) (sym (if_true (eqb (owner_of u.means) g) 0 1 t)) (follow_here r g u v t)
-      go (inr t) = absurd (Memᴰ.not_nil (not_head (owner_of u.means) g [] t o))
+      go (inr t) = absurd (Memᴰ.not-nil (not_head (owner_of u.means) g [] t o))
   follow (g' ∷ rest) g e u q v i o r f =
       let w = around_walks ok u.row g (located u q v).walks (subst (λ (l : List ℕ). Mem g l) (located u q v).funs_is i) in
       go (decide (eqb (owner_of u.means) g)) (follow rest g' (around_rest ok g g' rest w.0 (sym e)))

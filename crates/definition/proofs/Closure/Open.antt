@@ -39,7 +39,7 @@ abbrev under : (x : Entry) (S : Stack) (d : ℕ) → OpenRow S d → OpenRow (x 
 under x S d o = record { at = suc o.at; name = o.name; means = o.means; before = o.before; is_open = o.is_open; is_variable_lem = o.is_variable_lem; row_is_lem = o.row_is_lem }
 
 pub open_row : (S : Stack) (d : ℕ) → Mem d (open_rows S) → OpenRow S d
-open_row [] d m = absurd (Memᴰ.not_nil m)
+open_row [] d m = absurd (Memᴰ.not-nil m)
 open_row (scope r ∷ S) d m = under (scope r) S d (open_row S d m)
 open_row (looping ∷ S) d m = under looping S d (open_row S d m)
 open_row (bound n e ∷ S) d m = go (is_variable e) (λ t. t) m (open_row S d)
@@ -75,7 +75,7 @@ bit_one false h = absurd h
 
 -- what is open at one place is open once
 pub count_open : (S : Stack) (d : ℕ) → ((x y : OpenRow S d) → x.at ≡ y.at) → Mem d (open_rows S) → count (eqb d) (open_rows S) ≡ 1
-count_open [] d f m = absurd (Memᴰ.not_nil m)
+count_open [] d f m = absurd (Memᴰ.not-nil m)
 count_open (scope r ∷ S) d f m = count_open S d (λ x y. let e : suc x.at ≡ suc y.at = f (under (scope r) S d x) (under (scope r) S d y) in omega arith) m
 count_open (looping ∷ S) d f m = count_open S d (λ x y. let e : suc x.at ≡ suc y.at = f (under looping S d x) (under looping S d y) in omega arith) m
 count_open (bound n e ∷ S) d f m = go (is_variable e) (λ t. t) m (count_open S d deeper)

@@ -45,7 +45,7 @@ module _ {O : Outside} {s : Sheet} (ok : Fits O s) where
           × Follows s (answers O s (history O s)) (eight (r ∷ seen_from s (history O s) (function_of s r) u))
           (between s r (row_of u.means)) y
           × Tells O s y u
-      go [] e = absurd (Memᴰ.not_nil (subst (λ (l : List ℕ). Mem (owner_of u.means) l) e o))
+      go [] e = absurd (Memᴰ.not-nil (subst (λ (l : List ℕ). Mem (owner_of u.means) l) e o))
       go (g ∷ rest) e =
           let f : function_of s r ≡ g = ap head e in
           let t = follow ok rest g (around_rest ok r g rest w e) u q v (below g (subst (λ (l : List ℕ). Mem g l) (sym e) (here refl))) (subst (λ (l : List ℕ). Mem (owner_of u.means) l) e o) r f in

@@ -231,10 +231,10 @@ module _ (n : ℕ) (s : Sheet) (ok : SheetFacts n s) where
   abbrev Plain : ℕ → Type 0
   Plain r = T (leb 20 (kind s r)) × T (not (is s 52 r))
 
-  inner_plain : {f r : ℕ} (x : ℕ) → Innermost s f r → 0 < r → r < rows s → Plain r → Inside s x r → Plain x ⊎ Inside s x f
-  inner_plain {f} {r} x i z l p self = inl p
-  inner_plain {f} {r} x (here h e) z l p (up y j) = inr (subst (Inside s x) e j)
-  inner_plain {f} {r} x (further h w i) z l p (up y j) =
+  inner_plain : (x : ℕ) {f r : ℕ} → Innermost s f r → 0 < r → r < rows s → Plain r → Inside s x r → Plain x ⊎ Inside s x f
+  inner_plain x {f} {r} i z l p self = inl p
+  inner_plain x {f} {r} (here h e) z l p (up y j) = inr (subst (Inside s x) e j)
+  inner_plain x {f} {r} (further h w i) z l p (up y j) =
       let k : ℕ = kind s (holder s r) in
       let q = holder_edge n s ok (λ p k. leb 20 k ⇒ eqb p 6 || (leb 20 p && not (eqb p 52))) tt r z l in
       inner_plain x i w (omega (arith, (held s (link_facts n s ok) r z l).1))
@@ -274,14 +274,14 @@ module _ (n : ℕ) (s : Sheet) (ok : SheetFacts n s) where
   no_class_in {r} f h (up z i) l u = no_unit_in f h i (omega (arith, (held s (link_facts n s ok) r z l).1)) (class_holder n s ok r l u)
 
   -- the table of classes at the rows of a method
-  class_inside : {r : ℕ} (f : ℕ) → f < rows s → T (is s 6 f) → T (is s 4 (holder s f)) → r < rows s → Inside s f r → class (tables s) r ≡ holder s f
+  class_inside : (f : ℕ) {r : ℕ} → f < rows s → T (is s 6 f) → T (is s 4 (holder s f)) → r < rows s → Inside s f r → class (tables s) r ≡ holder s f
   class_inside f l h c lr self = class_step s (link_facts n s ok) f (not_header n s ok 5 f h) l ∙ go (is s 6 f) (is s 4 (holder s f)) h c
     where
       go : (t u : Bool) → T t → T u → (if t && u then holder s f else class (tables s) (holder s f)) ≡ holder s f
       go true true x y = refl
       go true false x y = absurd y
       go false u x y = absurd x
-  class_inside {r} f l h c lr (up z i) =
+  class_inside f {r} l h c lr (up z i) =
       let b : holder s r < rows s = omega (arith, (held s (link_facts n s ok) r z lr).1) in
       class_step s (link_facts n s ok) r z lr ∙ go (is s 6 r) (is s 4 (holder s r)) (no_class_in f h i b) (class_inside f l h c b i)
     where

@@ -30,6 +30,7 @@ module _ {A : Type 0} where
   every_append (every_one h p) q = every_one h (every_append p q)
 
   pub every_mem : {P : A → Type 0} {xs : List A} {x : A} → Every P xs → Mem x xs → P x
+  every_mem {P = P} every_none m = elim m [ ]
   every_mem {P = P} (every_one h p) (here e) = subst P (sym e) h
   every_mem (every_one h p) (there m) = every_mem p m
 
@@ -47,7 +48,7 @@ module _ {A : Type 0} where
       go false k = k
 
   pub filter_mem : (p : A → Bool) (x : A) (xs : List A) → Mem x (filter p xs) → Mem x xs × T (p x)
-  filter_mem p x [] m = absurd (Memᴰ.not_nil m)
+  filter_mem p x [] m = absurd (Memᴰ.not-nil m)
   filter_mem p x (y ∷ ys) m = go (p y) (λ h. h) (filter_mem p x ys) m
     where
       head_case : T (p y) → (Mem x (filter p ys) → Mem x ys × T (p x)) → Mem x (y ∷ filter p ys) → Mem x (y ∷ ys) × T (p x)
@@ -80,7 +81,7 @@ module _ {A : Type 0} where
   count_append p (x ∷ xs) ys = omega (arith, count_append p xs ys)
 
   pub count_mem : (p : A → Bool) (x : A) (xs : List A) → T (p x) → Mem x xs → 1 ≤ count p xs
-  count_mem p x [] h m = absurd (Memᴰ.not_nil m)
+  count_mem p x [] h m = absurd (Memᴰ.not-nil m)
   count_mem p x (y ∷ ys) h (here e) = go (p y) (subst (λ (z : A). T (p z)) e h)
     where
       go : (t : Bool) → T t → 1 ≤ bit t + count p ys
@@ -98,7 +99,7 @@ module _ {A : Type 0} where
 
   -- two elements that pass a test that at most one passes are one
   pub count_same : (p : A → Bool) (x y : A) (xs : List A) → T (p x) → T (p y) → Mem x xs → Mem y xs → count p xs ≤ 1 → x ≡ y
-  count_same p x y [] h k m q le = absurd (Memᴰ.not_nil m)
+  count_same p x y [] h k m q le = absurd (Memᴰ.not-nil m)
   count_same p x y (z ∷ zs) h k (here e) (here f) le = e ∙ sym f
   count_same p x y (z ∷ zs) h k (here e) (there q) le = absurd (go (p z) (subst (λ (w : A). T (p w)) e h) le (count_mem p y zs k q))
     where
@@ -122,7 +123,7 @@ module _ {A : Type 0} where
       go false k up = up (omega arith)
 
   pub filter_one : (p : A → Bool) (x : A) (xs : List A) → T (p x) → Mem x xs → count p xs ≤ 1 → filter p xs ≡ x ∷ []
-  filter_one p x [] h m le = absurd (Memᴰ.not_nil m)
+  filter_one p x [] h m le = absurd (Memᴰ.not-nil m)
   filter_one p x (y ∷ ys) h (here e) le = go (p y) (subst (λ (z : A). T (p z)) e h) le
     where
       go : (t : Bool) → T t → bit t + count p ys ≤ 1 → (if t then y ∷ filter p ys else filter p ys) ≡ x ∷ []
@@ -135,7 +136,7 @@ module _ {A : Type 0} where
       go false k l up = up (omega arith)
 
   pub first_found : (p : A → Bool) (d x : A) (xs : List A) → T (p x) → Mem x xs → T (p (first p d xs)) × Mem (first p d xs) xs
-  first_found p d x [] h m = absurd (Memᴰ.not_nil m)
+  first_found p d x [] h m = absurd (Memᴰ.not-nil m)
   first_found p d x (y ∷ ys) h m = go (p y) (λ k. k) (λ k. k) m (first_found p d x ys h)
     where
       miss : T (not (p y)) → Mem x (y ∷ ys) → Mem x ys
@@ -161,7 +162,7 @@ module _ {A : Type 0} where
 
   -- the first that passes stands at its place
   pub place_found : (p : A → Bool) (x : A) (xs : List A) → T (p x) → Mem x xs → (y : A) × (ys : List A) × (drop (place p xs) xs ≡ y ∷ ys) × T (p y)
-  place_found p x [] h m = absurd (Memᴰ.not_nil m)
+  place_found p x [] h m = absurd (Memᴰ.not-nil m)
   place_found p x (y ∷ ys) h m = go (p y) (λ k. k) (λ k. k) m (place_found p x ys h)
     where
       miss : T (not (p y)) → Mem x (y ∷ ys) → Mem x ys
@@ -174,7 +175,7 @@ module _ {A : Type 0} where
       go false k n q below = below (miss (n tt) q)
 
   pub mem_any : (p : A → Bool) (x : A) (xs : List A) → T (p x) → Mem x xs → T (any p xs)
-  mem_any p x [] h m = absurd (Memᴰ.not_nil m)
+  mem_any p x [] h m = absurd (Memᴰ.not-nil m)
   mem_any p x (y ∷ ys) h (here e) = or_left (p y) (any p ys) (subst (λ (z : A). T (p z)) e h)
   mem_any p x (y ∷ ys) h (there m) = or_right (p y) (any p ys) (mem_any p x ys h m)
 
@@ -213,22 +214,22 @@ module _ {A : Type 0} where
 
 module _ {A B : Type 0} where
   pub mem_map : (f : A → B) (x : A) (xs : List A) → Mem x xs → Mem (f x) (map f xs)
-  mem_map f x [] m = absurd (Memᴰ.not_nil m)
+  mem_map f x [] m = absurd (Memᴰ.not-nil m)
   mem_map f x (y ∷ ys) (here e) = here (ap f e)
   mem_map f x (y ∷ ys) (there m) = there (mem_map f x ys m)
 
   pub map_mem : (f : A → B) (y : B) (xs : List A) → Mem y (map f xs) → (x : A) × Mem x xs × (y ≡ f x)
-  map_mem f y [] m = absurd (Memᴰ.not_nil m)
+  map_mem f y [] m = absurd (Memᴰ.not-nil m)
   map_mem f y (x ∷ xs) (here e) = (x, here refl, e)
   map_mem f y (x ∷ xs) (there m) = let r = map_mem f y xs m in (r.0, there r.1, r.2)
 
   pub mem_concat_map : (f : A → List B) (x : A) (y : B) (xs : List A) → Mem x xs → Mem y (f x) → Mem y (concat_map f xs)
-  mem_concat_map f x y [] m k = absurd (Memᴰ.not_nil m)
+  mem_concat_map f x y [] m k = absurd (Memᴰ.not-nil m)
   mem_concat_map f x y (z ∷ zs) (here e) k = Memᴰ.append_left (concat_map f zs) (subst (λ (w : A). Mem y (f w)) e k)
   mem_concat_map f x y (z ∷ zs) (there m) k = Memᴰ.append_right (f z) (mem_concat_map f x y zs m k)
 
   pub concat_map_mem : (f : A → List B) (y : B) (xs : List A) → Mem y (concat_map f xs) → (x : A) × Mem x xs × Mem y (f x)
-  concat_map_mem f y [] m = absurd (Memᴰ.not_nil m)
+  concat_map_mem f y [] m = absurd (Memᴰ.not-nil m)
   concat_map_mem f y (x ∷ xs) m = go (Memᴰ.append_cases (f x) m) (concat_map_mem f y xs)
     where
       go : Mem y (f x) ⊎ Mem y (concat_map f xs) → (Mem y (concat_map f xs) → (z : A) × Mem z xs × Mem y (f z)) → (z : A) × Mem z (x ∷ xs) × Mem y (f z)
@@ -243,7 +244,7 @@ pub mem_test : (n : ℕ) (ns : List ℕ) → Mem n ns → T (n ∈? ns)
 mem_test n ns m = mem_any (eqb n) n ns (eqb_refl n) m
 
 pub from_mem : (x i k : ℕ) → Mem x (from i k) → (i ≤ x) × (x < i + k)
-from_mem x i zero m = absurd (Memᴰ.not_nil m)
+from_mem x i zero m = absurd (Memᴰ.not-nil m)
 from_mem x i (suc k) (here e) = omega arith
 from_mem x i (suc k) (there m) = omega (arith, from_mem x (suc i) k m)
 
@@ -294,7 +295,7 @@ module _ {A : Type 0} (key : A → ℕ) where
   distinct_mem x (y ∷ ys) (there m) = there (distinct_mem x ys (filter_mem (λ z. not (same_key y z)) x (distinct same_key ys) m).0)
 
   pub mem_distinct : (x : A) (xs : List A) → Mem x xs → (y : A) × Mem y (distinct same_key xs) × (key y ≡ key x)
-  mem_distinct x [] m = absurd (Memᴰ.not_nil m)
+  mem_distinct x [] m = absurd (Memᴰ.not-nil m)
   mem_distinct x (y ∷ ys) (here e) = (y, here refl, ap key (sym e))
   mem_distinct x (y ∷ ys) (there m) = go (mem_distinct x ys m)
     where

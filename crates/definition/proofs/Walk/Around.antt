@@ -130,11 +130,11 @@ module _ {O : Outside} {s : Sheet} (ok : Fits O s) where
 
   -- a function around a walked row is walked
   climb_walks : (n x g : ℕ) → Walks s x → Mem g (climb n s x) → Walks s g × T (is s 6 g)
-  climb_walks zero x g m k = absurd (Memᴰ.not_nil k)
+  climb_walks zero x g m k = absurd (Memᴰ.not-nil k)
   climb_walks (suc n) x g m k = go (part_of x m) (climb_walks n)
     where
       go : (x ≡ 0) ⊎ PartOf s x → ((y g : ℕ) → Walks s y → Mem g (climb n s y) → Walks s g × T (is s 6 g)) → Walks s g × T (is s 6 g)
-      go (inl e) up = absurd (Memᴰ.not_nil (subst (λ (l : List ℕ). Mem g l) (ap (climb (suc n) s) e ∙ climb_zero s ok.links ok.header (suc n)) k))
+      go (inl e) up = absurd (Memᴰ.not-nil (subst (λ (l : List ℕ). Mem g l) (ap (climb (suc n) s) e ∙ climb_zero s ok.links ok.header (suc n)) k))
       go (inr p) up = case (is s 6 p.whole) (λ t. t) (subst (λ (l : List ℕ). Mem g l) (climb_step ok n x p.whole p.lies) k)
         where
           heads : T (is s 6 p.whole) → Mem g (p.whole ∷ climb n s p.whole) → Walks s g × T (is s 6 g)
@@ -153,7 +153,7 @@ module _ {O : Outside} {s : Sheet} (ok : Fits O s) where
 
   -- beyond a function around a row stand the functions around that function
   beyond_deep : {n x : ℕ} → Deep s n x → (g : ℕ) → Walks s x → Mem g (functions_of s x) → beyond g (functions_of s x) ≡ functions_of s g
-  beyond_deep root g m k = absurd (Memᴰ.not_nil (subst (λ (l : List ℕ). Mem g l) (functions_zero ok) k))
+  beyond_deep root g m k = absurd (Memᴰ.not-nil (subst (λ (l : List ℕ). Mem g l) (functions_zero ok) k))
   beyond_deep (below {r = x} {p = p} z e d) g m k =
       let w : PartOf s x = part_of_nonzero x m z in
       let q : w.whole ≡ p = sym w.lies ∙ e in
@@ -237,11 +237,11 @@ pub record Literal (s : Sheet) (g : ℕ) : Type 0 where
 
 module _ {O : Outside} {s : Sheet} (ok : Fits O s) where
   pub only_child : (n x k : ℕ) → next s x ≡ 0 → Mem k (chain n s x) → k ≡ x
-  only_child zero x k e m = absurd (Memᴰ.not_nil m)
-  only_child (suc n) zero k e m = absurd (Memᴰ.not_nil m)
+  only_child zero x k e m = absurd (Memᴰ.not-nil m)
+  only_child (suc n) zero k e m = absurd (Memᴰ.not-nil m)
   only_child (suc n) (suc x) k e (here q) = q
-  only_child (suc zero) (suc x) k e (there m) = absurd (Memᴰ.not_nil m)
-  only_child (suc (suc n)) (suc x) k e (there m) = absurd (Memᴰ.not_nil (subst (λ (y : ℕ). Mem k (chain (suc n) s y)) e m))
+  only_child (suc zero) (suc x) k e (there m) = absurd (Memᴰ.not-nil m)
+  only_child (suc (suc n)) (suc x) k e (there m) = absurd (Memᴰ.not-nil (subst (λ (y : ℕ). Mem k (chain (suc n) s y)) e m))
 
   -- a function around which lies a function that is not a unit's has a literal
   pub literal_of : (g o : ℕ) → Walks s g → T (is s 6 g) → Mem o (functions_of s g) → (b s o ≡ 1 → ⊥) → Literal s g
@@ -267,10 +267,10 @@ module _ {O : Outside} {s : Sheet} (ok : Fits O s) where
 
           hit : Mem o (f ∷ fs) → ⊥
           hit (here q) = nu (ap (b s) q ∙ c.1)
-          hit (there j) = Memᴰ.not_nil (subst (λ (l : List ℕ). Mem o l) rest j)
+          hit (there j) = Memᴰ.not-nil (subst (λ (l : List ℕ). Mem o l) rest j)
 
       plain : Mem g (kids s p.whole) → T (is s 2 p.whole) ⊎ T (is s 4 p.whole || is s 52 p.whole) → Literal s g
-      plain q (inl t) = absurd (Memᴰ.not_nil (subst (λ (l : List ℕ). Mem o l) (around_other ok 2 p tt t ∙ unit_top ok p.whole p.walks t) k))
+      plain q (inl t) = absurd (Memᴰ.not-nil (subst (λ (l : List ℕ). Mem o l) (around_other ok 2 p tt t ∙ unit_top ok p.whole p.walks t) k))
       plain q (inr t) = last (or_cases (is s 4 p.whole) (is s 52 p.whole) t)
         where
           last : T (is s 4 p.whole) ⊎ T (is s 52 p.whole) → Literal s g

@@ -19,7 +19,7 @@ moments_append s z (x ∷ xs) ys = ap (λ (l : List Moment). record { event = x;
 
 -- moments of events
 pub mem_moments : (s : Sheet) (z : Stack) (e : Event) (es : List Event) → Mem e es → (m : Moment) × Mem m (moments s z es) × (m.event ≡ e)
-mem_moments s z e [] q = absurd (Memᴰ.not_nil q)
+mem_moments s z e [] q = absurd (Memᴰ.not-nil q)
 mem_moments s z e (x ∷ es) (here p) = (record { event = x; stack = z }, here refl, sym p)
 mem_moments s z e (x ∷ es) (there q) = let r = mem_moments s (step s z x) e es q in (r.0, there r.1, r.2)
 

@@ -20,14 +20,14 @@ use Rattle.definition.proofs.Walk.Fits.{Fits}
 
 -- a chain holds no row 0, and from row 0 nothing
 pub chain_nonzero : (n : ℕ) (s : Sheet) (x k : ℕ) → Mem k (chain n s x) → k ≡ 0 → ⊥
-chain_nonzero zero s x k m e = Memᴰ.not_nil m
-chain_nonzero (suc n) s zero k m e = Memᴰ.not_nil m
+chain_nonzero zero s x k m e = Memᴰ.not-nil m
+chain_nonzero (suc n) s zero k m e = Memᴰ.not-nil m
 chain_nonzero (suc n) s (suc x) k (here q) e = omega arith
 chain_nonzero (suc n) s (suc x) k (there m) e = chain_nonzero n s (next s (suc x)) k m e
 
 chain_start : (n : ℕ) (s : Sheet) (x k : ℕ) → Mem k (chain n s x) → x ≡ 0 → ⊥
-chain_start zero s x k m e = Memᴰ.not_nil m
-chain_start (suc n) s zero k m e = Memᴰ.not_nil m
+chain_start zero s x k m e = Memᴰ.not-nil m
+chain_start (suc n) s zero k m e = Memᴰ.not-nil m
 chain_start (suc n) s (suc x) k m e = omega arith
 
 module _ {O : Outside} {s : Sheet} (ok : Fits O s) where

@@ -39,7 +39,7 @@ pub record Found (s : Sheet) (d n r x : ℕ) : Type 0 where
 
 module _ {O : Outside} {s : Sheet} (ok : Fits O s) where
   pub found : (d : ℕ) {n : ℕ} (r x : ℕ) → Reached s n r → Mem x (walked d s r) → Found s d n r x
-  found zero r x w m = absurd (Memᴰ.not_nil m)
+  found zero r x w m = absurd (Memᴰ.not-nil m)
   found (suc d) {n} r x w (here e) =
       let i : n ≡ 0 + n = omega arith in
       record { by = 0; short = omega arith; reached = subst (λ (y : ℕ). Reached s y x) i (subst (λ (y : ℕ). Reached s n y) (sym e) w); under = subst (λ (y : ℕ). Under s r 0 y) (sym e) there_is }
@@ -80,7 +80,7 @@ module _ {O : Outside} {s : Sheet} (ok : Fits O s) where
 
   -- a walked row is the first, or a part of a walked row
   pub walked_up : (d : ℕ) (r x : ℕ) → Mem x (walked d s r) → (x ≡ r) ⊎ ((p : ℕ) × Mem p (walked d s r) × Mem x (parts s p))
-  walked_up zero r x m = absurd (Memᴰ.not_nil m)
+  walked_up zero r x m = absurd (Memᴰ.not-nil m)
   walked_up (suc d) r x (here e) = inl e
   walked_up (suc d) r x (there m) = go (concat_map_mem (walked d s) x (parts s r) m) (λ k. walked_up d k x)
     where

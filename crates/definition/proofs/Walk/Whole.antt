@@ -40,8 +40,8 @@ module _ {O : Outside} {s : Sheet} (ok : Fits O s) where
   no_kids p x l m = not_T (is s 30 p) (λ t. chain_none (rows s) (subst (λ (k : ℕ). Mem x (chain (rows s) s k)) (ok.class_leaf p l t) m))
     where
       chain_none : (n : ℕ) → Mem x (chain n s 0) → ⊥
-      chain_none zero q = Memᴰ.not_nil q
-      chain_none (suc n) q = Memᴰ.not_nil q
+      chain_none zero q = Memᴰ.not-nil q
+      chain_none (suc n) q = Memᴰ.not-nil q
 
   -- a child that is walked as a part
   kid_part : (p x : ℕ) → p < rows s → Mem x (kids s p) → T (is_part s x) → Mem x (parts s p)
@@ -184,13 +184,13 @@ module _ {O : Outside} {s : Sheet} (ok : Fits O s) where
   path_depth : {n x : ℕ} (l : Line s n x) (y : ℕ) → Mem y (path l) → (j : ℕ) × (j ≤ n) × Reached s j y
   unfolding path
   path_depth top y (here e) = (0, omega arith, subst (λ (k : ℕ). Reached s 0 k) (sym e) (reached_root ok))
-  path_depth top y (there m) = absurd (Memᴰ.not_nil m)
+  path_depth top y (there m) = absurd (Memᴰ.not-nil m)
   path_depth (part {n = n} {x = x} l q) y (here e) = (suc n, omega arith, subst (λ (k : ℕ). Reached s (suc n) k) (sym e) (line_reached (part l q)))
   path_depth (part l q) y (there m) = let r = path_depth l y m in (r.0, omega (arith, r.1), r.2)
 
   path_nodup : {n x : ℕ} (l : Line s n x) → Nodup (path l)
   unfolding path
-  path_nodup top = nodup_one Memᴰ.not_nil nodup_none
+  path_nodup top = nodup_one Memᴰ.not-nil nodup_none
   path_nodup (part {n = n} {x = x} l q) =
       nodup_one (λ m. let r = path_depth l x m in
       let e : r.0 ≡ suc n = deep_same r.2.deep (line_reached (part l q)).deep in
