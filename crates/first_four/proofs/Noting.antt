@@ -142,7 +142,7 @@ module _ (s : Sheet) (r : ℕ) (t : List ℕ) where
   seven_stays k f = go (eqb (kind s r) 30) (λ e. eqb_eq e)
     where
       eqb_eq : eqb (kind s r) 30 ≡ true → kind s r ≡ 30
-      eqb_eq e = borrow.Author.Tests.eqb_true (kind s r) 30 e
+      eqb_eq e = borrow.Author.Tests.eqb-true (kind s r) 30 e
 
       go : (b : Bool) → (b ≡ true → kind s r ≡ 30) → word (if b then set u3 (8 * a s r + 7) r else u3) k 7 ≡ word t k 7
       go true h = word_row u3 (a s r) 7 r k 7 (f (h refl)) (omega arith) (omega arith) ∙ seven_u3 k

@@ -152,6 +152,11 @@ times c d h = omega arith
 
 module _ {O : Outside} {s : Sheet} (ok : Fits O s) where
   visit_around : ((x : ℕ) → Walks s x → T (is s 50 x) → length (functions_of s x) ≤ 21) → (fs : List ℕ) (e : Event) → T (visits_kind s 50 e) → Told s fs e → length fs ≤ 21
+  visit_around f fs (enter _) h _ = elim h [ ]
+  visit_around f fs leave h _ = elim h [ ]
+  visit_around f fs loop h _ = elim h [ ]
+  visit_around f fs (declare _) h _ = elim h [ ]
+  visit_around f fs (bring _ _ _) h _ = elim h [ ]
   visit_around f fs (visit x) h (t_visit q w) = subst (λ (l : List ℕ). length l ≤ 21) (sym q) (f x w h)
 
   -- each row is visited at most once, so as many visits pass a test as rows, at most

@@ -115,7 +115,7 @@ state_step O s hd room h z e x pr un w₁ w₂ r₁ r₂ rs out r₃ y g =
 -- what can be run as a whole can be run up to any event
 pub runs_part : {O : Outside} {s : Sheet} {room : Room} {h : List Moment} {z : Stack} (es fs : List Event) → Runs O s room h z (es ++ fs) → Runs O s room h z es
 runs_part [] fs w = over
-runs_part (e ∷ es) fs (next pr un w₁ w₂ r₁ r₂ rs out r₃ w) = next pr un w₁ w₂ r₁ r₂ rs out r₃ (λ q. runs_part es fs (w q))
+runs_part {h = h} {z = z} (e ∷ es) fs (next pr un w₁ w₂ r₁ r₂ rs out r₃ w) = next pr un w₁ w₂ r₁ r₂ rs out r₃ (λ q. runs_part {h = h ++ record { event = e; stack = z } ∷ []} es fs (w q))
 
 -- How a run ends: accepted in agreement with the definition, or refused with its first no, and globals counted up to there.
 pub data Ends (O : Outside) (s : Sheet) (room : Room) (h : List Moment) (z : Stack) (es : List Event) (x : State) : Type 0 where
