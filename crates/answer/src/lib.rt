@@ -12,7 +12,7 @@ use lexer::SrcPos;
 use words::{clear, word};
 
 // The question that got a no (0: none), its position and the name asked about; the number of answer rows, and of globals.
-#[derive(Drop)]
+#[derive(Clone, Copy)]
 pub struct Answer {
     pub number: u32,
     pub pos: SrcPos,

@@ -81,7 +81,7 @@ fn emit_member(results: &[u32], row: u32, k: usize, out: &mut [u32]) -> usize
 }
 
 // A sheet row whose turn it is, and the number of answer rows before its own.
-#[derive(Drop)]
+#[derive(Clone, Copy)]
 pub struct Turn {
     pub row: u32,
     pub count: usize,

@@ -13,10 +13,10 @@ pub mod name;
 pub mod question;
 
 // The number of a function and the number of a class are two types: neither can be given for the other.
-#[derive(Drop)]
+#[derive(Clone, Copy)]
 pub struct FunId(pub u32);
 
-#[derive(Drop)]
+#[derive(Clone, Copy)]
 pub struct ClassId(pub u32);
 
 // The classes that are there without being declared.
@@ -41,7 +41,7 @@ pub const AUDIO_DATA_ID: ClassId = ClassId(102);
 // The number of the class of row 0: a class of the sheet has its row more.
 pub const FIRST_CLASS: u32 = 256;
 
-#[derive(Drop)]
+#[derive(Clone, Copy)]
 pub enum Decl {
     // Global function
     Fun {

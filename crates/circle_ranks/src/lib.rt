@@ -28,7 +28,7 @@ const STEPS: u32 = 6144;
 
 // The unit that is visited, or 0; how many were visited; how many of them have no rank yet; the last rank given; the row from which an unvisited
 // unit is looked for.
-#[derive(Drop)]
+#[derive(Clone, Copy)]
 struct Visit {
     unit: u32,
     visited: u32,

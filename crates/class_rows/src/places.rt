@@ -7,14 +7,14 @@ use ast::{ClassId, FIRST_CLASS, kind};
 use sheet::is_class_row;
 
 // Where the names of a class stand: their first row and their number. Row 0: nowhere.
-#[derive(Drop)]
+#[derive(Clone, Copy)]
 pub struct Above {
     pub row: usize,
     pub count: u32,
 }
 
 // Where the fields and the methods of the parent of a class stand.
-#[derive(Drop)]
+#[derive(Clone, Copy)]
 pub struct Inherited {
     pub fields: Above,
     pub methods: Above,

@@ -13,7 +13,7 @@ pub const NO_RECORD: u32 = 4294967295;
 pub const ENDS: u32 = 4294967294;
 
 // How a climb ended: past the last parent, at a class met for the second time, or at a class whose parent has no record.
-#[derive(Drop)]
+#[derive(Clone, Copy)]
 pub enum Ending {
     Top,
     Circle(u32),
@@ -21,7 +21,7 @@ pub enum Ending {
 }
 
 // What comes after a class: its parent, or the end of the climb.
-#[derive(Drop)]
+#[derive(Clone, Copy)]
 enum Step {
     Up(u32),
     Over(Ending),

@@ -28,7 +28,7 @@ use walk::state::Walk;
 use words::{put_words, word};
 
 // A class: its number and name, its parent's number or 0, how many fields and methods it has.
-#[derive(Drop)]
+#[derive(Clone, Copy)]
 pub struct Class {
     pub number: u32,
     pub name: u32,
@@ -38,7 +38,7 @@ pub struct Class {
 }
 
 // A field or a method: its name, and a method's function and parameters; 0 and 0 of a field.
-#[derive(Drop)]
+#[derive(Clone, Copy)]
 pub struct Member {
     pub name: u32,
     pub fun: u32,
@@ -60,7 +60,7 @@ const FIELDS: usize = 4;
 const METHODS: usize = 5;
 
 // How many classes, and how many fields and methods of theirs.
-#[derive(Drop)]
+#[derive(Clone, Copy)]
 pub struct Counted {
     pub classes: usize,
     pub members: usize,

@@ -25,7 +25,7 @@ use words::word_at;
 const ROW_WORDS: usize = 8;
 
 // How many names are listed, how many of them are new to the session, and how many bytes the new ones take with their ends.
-#[derive(Drop)]
+#[derive(Clone, Copy)]
 pub struct Numbered {
     pub count: usize,
     pub new: usize,

@@ -24,7 +24,7 @@ use walk::state::Walk;
 use words::word;
 
 // The rows of an entry that open its outer scopes: its unit, the unit's function and the body of that.
-#[derive(Drop)]
+#[derive(Clone, Copy)]
 struct Rows {
     unit: u32,
     fun: u32,

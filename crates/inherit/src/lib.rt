@@ -19,7 +19,7 @@ use store::{node, result};
 use words::{put_entry, word};
 
 // A question answered no: its number, the row of its position, the name asked about. Number 0: none.
-#[derive(Drop)]
+#[derive(Clone, Copy)]
 pub struct Refusal {
     pub number: u32,
     pub at: u32,

@@ -18,7 +18,7 @@ use symbols::{entry, tag};
 use words::{put_words, word};
 
 // A declaration laid over: its name, the code of what it means, the number of that, 1 if it is mutable.
-#[derive(Drop)]
+#[derive(Clone, Copy)]
 pub struct Laid {
     pub name: u32,
     pub code: u32,

@@ -19,7 +19,7 @@ const LINE_WEIGHT: u64 = 16384;
 
 const FILE_WEIGHT: u64 = 70368744177664;
 
-#[derive(Drop)]
+#[derive(Clone, Copy)]
 pub struct SrcPos(pub u64);
 
 impl SrcPos {

@@ -28,7 +28,7 @@ const FIXED_PLACES: [u32; 24] = [
 ];
 
 // What a search finds: the number of the name, 0 if it is absent, and how many places were read.
-#[derive(Drop)]
+#[derive(Clone, Copy)]
 pub struct Found {
     pub number: u32,
     pub places: u32,

@@ -14,7 +14,7 @@ const IN_SESSION: u32 = 0;
 const IN_LIST: u32 = 1;
 
 // In which bytes a text stands, from which byte on, and how many it has.
-#[derive(Drop)]
+#[derive(Clone, Copy)]
 pub struct Place {
     pub list: u32,
     pub start: u32,

@@ -20,7 +20,7 @@ use store::{node, result};
 use words::{one_more, word, word_at};
 
 // Whose names are written, and which: the kind of their rows, the class's row, the class.
-#[derive(Drop)]
+#[derive(Clone, Copy)]
 pub struct Wanted {
     pub kind: u32,
     pub row: u32,
@@ -28,14 +28,14 @@ pub struct Wanted {
 }
 
 // Rows written so far, and the next slot.
-#[derive(Drop)]
+#[derive(Clone, Copy)]
 pub struct Written {
     pub count: usize,
     pub slot: u32,
 }
 
 // The parent whose names are passed over, and how far they are climbed for.
-#[derive(Drop)]
+#[derive(Clone, Copy)]
 pub struct Passed {
     pub class: ClassId,
     pub left: usize,

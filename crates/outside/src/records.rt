@@ -11,7 +11,7 @@ use sheet::{arity, first_named, is_class_row};
 use words::{word, word_at};
 
 // The record of a class from outside: its name, where its fields and methods begin and how many there are. `some` is false if it has none.
-#[derive(Drop)]
+#[derive(Clone, Copy)]
 pub struct Recorded {
     pub some: bool,
     pub name: u32,
@@ -22,14 +22,14 @@ pub struct Recorded {
 }
 
 // A method: its function, and how many parameters that has. Function 0: no method.
-#[derive(Drop)]
+#[derive(Clone, Copy)]
 pub struct Method {
     pub fun: FunId,
     pub params: usize,
 }
 
 // Names in the lent words, of fields or of methods by the kind of their rows: where the first stands, and how many there are.
-#[derive(Drop)]
+#[derive(Clone, Copy)]
 pub struct Listed {
     pub kind: u32,
     pub at: u32,

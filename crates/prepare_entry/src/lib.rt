@@ -24,7 +24,7 @@ pub const SMALL_OUTSIDE: usize = 2048;
 
 // The question before the walk that got a no (0: none). If none did: how many names the entry lists, how many of them are new to the session, in how many bytes
 // with their ends, and the number of the first new one.
-#[derive(Drop)]
+#[derive(Clone, Copy)]
 pub struct Prepared {
     pub no: u32,
     pub names: usize,

@@ -1,7 +1,7 @@
 // What the lines of a script do to a sheet and its names. A word or a byte that finds no room is left out.
 
 // How many words of the sheet and bytes of the names are in use.
-#[derive(Drop)]
+#[derive(Clone, Copy)]
 pub struct Used {
     pub words: usize,
     pub names: usize,

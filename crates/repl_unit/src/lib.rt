@@ -17,7 +17,7 @@ use raise::raise_rows;
 use walk::state::Walk;
 
 // The answer, and the walk where it ended: its next global, and the open entries with what was declared.
-#[derive(Drop)]
+#[derive(Clone, Copy)]
 pub struct Resolved {
     pub answer: Answer,
     pub walk: Walk,

@@ -21,7 +21,7 @@ const OF_ENTRY: u32 = 1;
 const LOOKED_FOR: u32 = 32768;
 
 // What breaks the request (0: nothing), and the numbers of its header.
-#[derive(Drop)]
+#[derive(Clone, Copy)]
 pub struct Request {
     pub broken: u32,
     pub verb: u32,

@@ -18,7 +18,7 @@ use walk::state::Walk;
 use words::word;
 
 // Row `child` of the part list of row `row`: its part `index`, if it is a part.
-#[derive(Drop)]
+#[derive(Clone, Copy)]
 pub struct Part {
     pub row: u32,
     pub index: usize,

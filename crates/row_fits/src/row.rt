@@ -13,7 +13,7 @@ use shapes::{may_end, next_state, rule, rule_a, rule_b, sort_of, start_of};
 use words::{put, word};
 
 // The words of a row that are asked about.
-#[derive(Drop)]
+#[derive(Clone, Copy)]
 pub struct Row {
     pub kind: u32,
     pub next: u32,
@@ -24,7 +24,7 @@ pub struct Row {
 }
 
 // What the table says of a row.
-#[derive(Drop)]
+#[derive(Clone, Copy)]
 pub struct Entry {
     pub parent: u32,
     pub depth: u32,

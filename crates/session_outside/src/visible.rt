@@ -35,7 +35,7 @@ const CORE_CLASSES: [u32; 9] = [
 ];
 
 // A name with what it means in an entry's walk.
-#[derive(Drop)]
+#[derive(Clone, Copy)]
 struct SeenName {
     name: u32,
     code: u32,

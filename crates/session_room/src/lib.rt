@@ -11,7 +11,7 @@ use session::layout;
 use words::{put_words, word_at};
 
 // What an entry adds: names and their bytes with ends, declarations laid over, classes, fields and methods.
-#[derive(Drop)]
+#[derive(Clone, Copy)]
 pub struct Added {
     pub names: usize,
     pub bytes: usize,
@@ -21,7 +21,7 @@ pub struct Added {
 }
 
 // The five counts of a session or of the row of an entry.
-#[derive(Drop)]
+#[derive(Clone, Copy)]
 pub struct Counts {
     pub names: u32,
     pub bytes: u32,

@@ -5,7 +5,7 @@ ghost use Rattle.std.specs.Prelude.{◌≡◌, [], ◌∷◌};
 ghost use Rattle.sink.specs.Sink.{sink, emit as emitted};
 
 // An answer row: its sheet row, its code and up to four values.
-#[derive(Drop)]
+#[derive(Clone, Copy)]
 pub struct AnswerRow {
     pub row: u32,
     pub code: u32,

@@ -13,14 +13,14 @@ use symbols::{entry, tag};
 use words::{put, word};
 
 // The counters: nodes in use, and the last node of the constructor calls.
-#[derive(Drop)]
+#[derive(Clone, Copy)]
 pub struct Store {
     pub used: u32,
     pub calls: u32,
 }
 
 // The key and the two values of a node.
-#[derive(Drop)]
+#[derive(Clone, Copy)]
 pub struct Node {
     pub key: u32,
     pub one: u32,

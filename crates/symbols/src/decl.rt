@@ -16,7 +16,7 @@ use words::{one_more, word};
 // A declaration as an open entry holds it. `first` and `second` by its tag: the number of a function or class, 0;
 // the number of a global known before the walk, 1 if it is mutable; the row of a local or argument, its function; the row of a let of a unit,
 // its global number. The slot is that of a local.
-#[derive(Drop)]
+#[derive(Clone, Copy)]
 pub struct OpenDecl {
     pub tag: u32,
     pub first: u32,
@@ -25,7 +25,7 @@ pub struct OpenDecl {
 }
 
 // What a name means, and how far out: the function boundaries between here and a local or argument, 0 for anything else.
-#[derive(Drop)]
+#[derive(Clone, Copy)]
 pub struct Found {
     pub decl: OpenDecl,
     pub distance: u32,

@@ -11,7 +11,7 @@ use ast::{FunId, column, kind};
 use words::word;
 
 // The counters: entries in use, the next slot of a local, the innermost function or 0, the number of the next global.
-#[derive(Drop)]
+#[derive(Clone, Copy)]
 pub struct Env {
     pub count: u32,
     pub slot: u32,
@@ -28,7 +28,7 @@ pub fn entry_word(entries: &[u32], i: u32, c: u32) -> u32
 }
 
 // Where a name is declared: one more than the place of its entry, or 0, and how many functions' marks stand after it.
-#[derive(Drop)]
+#[derive(Clone, Copy)]
 pub struct NamePlace {
     pub place: u32,
     pub marks: u32,

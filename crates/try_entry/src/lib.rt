@@ -22,7 +22,7 @@ use words::{word, word_at};
 const ENTRY_NUMBERS: u32 = session::layout::ENTRY_NUMBERS as u32;
 
 // The answer, the walk where it ended, and what the entry adds if it is accepted.
-#[derive(Drop)]
+#[derive(Clone, Copy)]
 pub struct Tried {
     pub answer: Answer,
     pub walk: Walk,

@@ -8,7 +8,7 @@ use store::nodes::Store;
 use symbols::env::Env;
 
 // The open scopes, what is stored, and the first question that got a no (0: none) with its row and the name asked about.
-#[derive(Drop)]
+#[derive(Clone, Copy)]
 pub struct Walk {
     pub env: Env,
     pub store: Store,
