@@ -31,15 +31,6 @@ pub fn read_full<R: Read>(input: &mut R, bytes: &mut [u8]) -> usize
     done
 }
 
-// Has the input no bytes left? A read that fails says no.
-pub fn at_end<R: Read>(input: &mut R) -> bool {
-    let mut more = [0u8; 1];
-    match input.read(&mut more) {
-        Ok(n) => n == 0,
-        Err(_) => false,
-    }
-}
-
 // The words of an error's text, which stand before its number.
 fn words(text: &str) -> &str {
     match text.split_once(" (os error ") {
