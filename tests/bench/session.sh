@@ -19,9 +19,11 @@ mkdir -p "$bench/src" "$bench/proofs/bench_outside"
 # the libraries, and one more that exports what is timed
 cp -R "$top"/crates/* "$out/repository/crates/"
 grep -v -E '^(question_tests|columns_tests|plush_resolve|plush_serve):' "$top/crates.txt" > "$out/repository/crates.txt"
-echo 'session_bench: definition answer session fresh_session session_names session_check session_outside prompt preview' >> "$out/repository/crates.txt"
+echo 'session_bench staticlib: definition answer session fresh_session session_names session_check session_outside prompt preview' >> "$out/repository/crates.txt"
 (cd "$out/repository/crates" && rm -rf question_tests columns_tests plush_resolve plush_serve)
 cat > "$bench/src/lib.rt" <<'END_OF_CRATE'
+#![tactic(auto)]
+
 use fresh_session::fresh;
 use preview::preview;
 use prompt::enter;
@@ -29,31 +31,31 @@ use session_check::check_session;
 use session_outside::outside_size;
 use session_outside::outside_words;
 
-#[no_mangle]
+#[unsafe(no_mangle)]
 pub extern "C" fn bench_fresh(words: &mut [u32], bytes: &mut [u8]) {
     fresh(words, bytes);
 }
 
-#[no_mangle]
+#[unsafe(no_mangle)]
 pub extern "C" fn bench_enter(words: &mut [u32], bytes: &mut [u8], sheet: &[u32], names: &[u8], out: &mut [u32]) -> u32 {
     let answer = enter(words, bytes, sheet, names, out);
     answer.number
 }
 
-#[no_mangle]
+#[unsafe(no_mangle)]
 pub extern "C" fn bench_preview(words: &[u32], bytes: &[u8], sheet: &[u32], names: &[u8], out: &mut [u32]) -> u32 {
     let answer = preview(words, bytes, sheet, names, out);
     answer.number
 }
 
-#[no_mangle]
+#[unsafe(no_mangle)]
 pub extern "C" fn bench_check(words: &[u32], bytes: &[u8]) -> usize {
     let mut starts = [0u32; 1025];
     let mut index = [0u32; 2048];
     check_session(words, bytes, &mut starts, &mut index)
 }
 
-#[no_mangle]
+#[unsafe(no_mangle)]
 pub extern "C" fn bench_outside(words: &[u32], bytes: &[u8], out: &mut [u32]) -> usize {
     let mut starts = [0u32; 1025];
     let mut index = [0u32; 2048];
@@ -126,9 +128,9 @@ bench-outside-spec =
     same-length
     returns-3)
 END_OF_PROOF
-(cd "$out/repository" && rt staticlib session_bench > "$out/session_staticlib.log" 2>&1) || { tail -20 "$out/session_staticlib.log"; exit 1; }
+(cd "$out/repository/crates/session_bench" && rt lib > "$out/session_staticlib.log" 2>&1) || { tail -20 "$out/session_staticlib.log"; exit 1; }
 "$here/../oracle/build.sh" "$plush" "$out/oracle" > /dev/null
-rustc --edition 2021 -O -L "$out/repository/target/staticlib" -l static=session_bench "$here/session_driver.rs" -o "$out/session_driver"
+rustc --edition 2021 -O -L "$out/repository/crates/session_bench/out" -l static=session_bench "$here/session_driver.rs" -o "$out/session_driver"
 python3 "$here/make_session_cases.py" "$out/sessions"
 
 : > "$out/session_times"
