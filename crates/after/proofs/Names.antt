@@ -79,6 +79,7 @@ unlike_nodup (x ∷ xs) h =
 
 -- a method is found by its name
 found_name : (ms : List Method) → Nodup (names_of ms) → (m : Method) → Mem m ms → method_of m.name ms ≡ m
+found_name [] _ m x3 = elim x3 [ ]
 found_name (x ∷ ms) (nodup_one h n) m (here e) = if_true (eqb x.name m.name) x _ (eqb_of x.name m.name (ap (λ (y : Method). y.name) (sym e))) ∙ sym e
 found_name (x ∷ ms) (nodup_one h n) m (there q) = go (decide (eqb x.name m.name)) (found_name ms n m q)
   where

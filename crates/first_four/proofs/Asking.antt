@@ -13,7 +13,7 @@ use Rattle.definition.specs.Names.{names_fit, name_count}
 use Rattle.definition.specs.Outcome.{refused, rows_fit, asked, outcome}
 use Rattle.definition.proofs.Lists.Tests.{T_true, T_and}
 use Rattle.definition.specs.Outside.{core}
-use Rattle.row_fits_lem.specs.Pass.{rows_noted, depth_ok}
+use Rattle.row_fits.specs.Pass.{rows_noted, depth_ok}
 use Rattle.links.specs.Rising.{Rising}
 use Rattle.first_four.specs.Questions.{format_question, first_four}
 use Rattle.first_four.specs.Whole.{links_ok, rows_all}

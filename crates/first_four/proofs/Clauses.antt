@@ -14,7 +14,7 @@ use Rattle.definition.proofs.Lists.Tests.{T_and, and_both, or_cases, or_left, or
 use Rattle.definition.proofs.Format.Links.{LinkFacts, parent_is}
 use Rattle.definition.proofs.Format.Passes.{chain_on}
 use Rattle.shapes.specs.States.{entry_of, kind_table, state_at, rule_at}
-use Rattle.row_fits_lem.specs.Pass.{row_in, columns_ok, plain_ok, function_ok, state_after, ends_in, ends_ok}
+use Rattle.row_fits.specs.Pass.{row_in, columns_ok, plain_ok, function_ok, state_after, ends_in, ends_ok}
 use Rattle.first_four.proofs.StateLaws.{kind_is_lem, after_is, ends_is}
 use Rattle.first_four.proofs.Filling.{left_fits}
 

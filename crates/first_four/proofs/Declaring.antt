@@ -12,7 +12,7 @@ use Rattle.definition.specs.Sheet.{Sheet, word, kind, a, is}
 use Rattle.definition.proofs.Lists.Tests.{or_cases, or_left, or_right, decide, eqb_of, bit_not, ℕ-trichotomy}
 use Rattle.definition.proofs.Lists.Members.{count_append}
 use Rattle.definition.proofs.Format.Passes.{from_suc}
-use Rattle.row_fits_lem.specs.Pass.{row_in, new_ok, note_row}
+use Rattle.row_fits.specs.Pass.{row_in, new_ok, note_row}
 use Rattle.first_four.proofs.Noting.{seven_stays, seven_noted}
 
 -- no row below r declares class c, or one does, and its number stands in word 7

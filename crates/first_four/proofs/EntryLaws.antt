@@ -6,8 +6,8 @@ use native.Mathlib.Omega.{arith}
 use lib.ListN.{length, set, length-set}
 use lib.Seq.{get_or-set_same, get_or-set_other}
 use Rattle.definition.specs.Sheet.{word}
-use Rattle.row_fits_lem.specs.declared.row.Entry.{Entry}
-use Rattle.row_fits_lem.specs.Pass.{put_entry}
+use Rattle.row_fits.specs.declared.row.Entry.{Entry}
+use Rattle.row_fits.specs.Pass.{put_entry}
 
 pub word_same : (t : List ℕ) (r c v : ℕ) → 8 * r + c < length t → word (set t (8 * r + c) v) r c ≡ v
 word_same t r c v h = get_or-set_same t (8 * r + c) v 0 h

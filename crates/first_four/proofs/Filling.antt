@@ -19,7 +19,7 @@ use Rattle.definition.proofs.Format.Links.{class_step, child_held, next_held}
 use Rattle.definition.proofs.Format.Tables.{table_at}
 use Rattle.definition.proofs.Format.Passes.{chain_on}
 use Rattle.shapes.specs.States.{entry_of, kind_table, state_at}
-use Rattle.row_fits_lem.specs.Pass.{state_after, note_row, unit_here, class_here, entry_in}
+use Rattle.row_fits.specs.Pass.{state_after, note_row, unit_here, class_here, entry_in}
 use Rattle.first_four.proofs.StateLaws.{kind_is_lem, after_is}
 use Rattle.first_four.proofs.Noting.{NotLinked, length_noted, stays_row, stays_column, own_unit, own_class}
 use Rattle.first_four.proofs.Noting.{child_parent, child_depth, child_unit, child_fun, child_class, child_state}

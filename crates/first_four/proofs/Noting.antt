@@ -10,8 +10,8 @@ use lib.ListN.{length, set, length-set}
 use borrow.Author.Tests.{eq-eqb, ne_eqb}
 use Rattle.definition.specs.Basics.{if◌then◌else◌}
 use Rattle.definition.specs.Sheet.{Sheet, word, kind, next, child, a}
-use Rattle.row_fits_lem.specs.declared.row.Entry.{Entry}
-use Rattle.row_fits_lem.specs.Pass.{row_in, entry_in, put_entry, note_next, note_child, note_own, note_declared, note_all, note_row, next_entry, child_entry, unit_here, class_here}
+use Rattle.row_fits.specs.declared.row.Entry.{Entry}
+use Rattle.row_fits.specs.Pass.{row_in, entry_in, put_entry, note_next, note_child, note_own, note_declared, note_all, note_row, next_entry, child_entry, unit_here, class_here}
 use Rattle.first_four.proofs.EntryLaws.{word_same, word_row, word_column, put_length, put_row, put_seven, put_parent, put_depth, put_unit, put_fun, put_class, put_state}
 
 -- a choice by a test whose value is known

@@ -22,7 +22,7 @@ use Rattle.definition.proofs.Format.Facts.{SheetFacts, RowFacts, sheet_facts, li
 use Rattle.definition.proofs.Format.Passes.{all_of, sheet_fits_lem}
 use Rattle.definition.proofs.Format.Tables.{table_length}
 use Rattle.definition.proofs.Format.Tree.{class_declared, declared_once_lem}
-use Rattle.row_fits_lem.specs.Pass.{row_in, columns_ok, plain_ok, function_ok, ends_ok, new_ok, row_asked, row_ok, note_row, rows_ok, rows_noted, literal_ok, declaration_ok, class_ok, method_ok, cross_ok, depth_ok}
+use Rattle.row_fits.specs.Pass.{row_in, columns_ok, plain_ok, function_ok, ends_ok, new_ok, row_asked, row_ok, note_row, rows_ok, rows_noted, literal_ok, declaration_ok, class_ok, method_ok, cross_ok, depth_ok}
 use Rattle.distinct.specs.Apart.{all_unmarked}
 use Rattle.first_four.specs.Whole.{links_ok, rows_all}
 use Rattle.first_four.proofs.Filling.{Entered, Listed, Reached, Below, Filled, filled_none, filled_more, linked_below, function_top, class_top}

@@ -13,7 +13,7 @@ use Rattle.definition.proofs.Lists.Counts.{all_below, in_cases}
 use Rattle.definition.proofs.Format.Shapes.{part_kinds}
 use Rattle.definition.proofs.Format.Passes.{shape_beyond}
 use Rattle.shapes.specs.States.{entry_of, kind_table, state_table, state_at, rule_at}
-use Rattle.row_fits_lem.specs.Pass.{state_after, ends_in}
+use Rattle.row_fits.specs.Pass.{state_after, ends_in}
 use Rattle.shapes.proofs.TableLaws.{no_row}
 
 -- are two lists the same?

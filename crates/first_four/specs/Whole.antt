@@ -3,7 +3,7 @@ use Rattle.std.specs.Prelude.{List, Bool, ◌&&◌, ℕ}
 use Rattle.definition.specs.Basics.{all, from}
 use Rattle.definition.specs.Sheet.{Sheet, rows}
 use Rattle.definition.specs.Format.{header_first, main_marked, links_rise, linked_once, links}
-use Rattle.row_fits_lem.specs.Pass.{rows_ok, rows_noted, cross_ok}
+use Rattle.row_fits.specs.Pass.{rows_ok, rows_noted, cross_ok}
 use Rattle.distinct.specs.Apart.{all_unmarked}
 
 -- header and links

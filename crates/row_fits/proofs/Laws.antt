@@ -10,7 +10,7 @@ use Rattle.definition.proofs.Format.Passes.{all_fails, all_of}
 use Rattle.definition.specs.Sheet.{Sheet}
 use Rattle.definition.specs.Shape.{nought}
 use Rattle.shapes.specs.States.{rule_at}
-use Rattle.row_fits_lem.specs.Pass.{row_ok, note_row, rows_ok, rows_noted}
+use Rattle.row_fits.specs.Pass.{row_ok, note_row, rows_ok, rows_noted}
 
 -- a number that is none of the rules 1 to 12
 pub rule_rest : (n : ℕ) → (n ≡ 1 → ⊥) → (n ≡ 2 → ⊥) → (n ≡ 3 → ⊥) → (n ≡ 4 → ⊥) → (n ≡ 5 → ⊥) → (n ≡ 6 → ⊥)

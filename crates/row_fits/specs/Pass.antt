@@ -4,8 +4,8 @@ use Rattle.std.specs.Prelude.{List, Bool, true, not, ◌&&◌, ◌||◌, ℕ, ze
 use Rattle.definition.specs.Basics.{if◌then◌else◌}
 use Rattle.definition.specs.Sheet.{Sheet, word, kind, next, child, file, a, b}
 use Rattle.definition.specs.Shape.{holds}
-use Rattle.row_fits_lem.specs.declared.row.Row.{Row}
-use Rattle.row_fits_lem.specs.declared.row.Entry.{Entry}
+use Rattle.row_fits.specs.declared.row.Row.{Row}
+use Rattle.row_fits.specs.declared.row.Entry.{Entry}
 use Rattle.shapes.specs.States.{entry_of, kind_table, state_table, rule_at}
 
 -- the words of row r that are asked about

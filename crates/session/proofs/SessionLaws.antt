@@ -32,6 +32,7 @@ module _ {A : Type 0} where
   all_each p f (x ∷ xs) h = and_both (p (f x)) (all p (map f xs)) (h x (here refl)) (all_each p f xs (λ y q. h y (there q)))
 
   pub all_mem : (p : A → Bool) (xs : List A) (x : A) → T (all p xs) → Mem x xs → T (p x)
+  all_mem p [] x h x4 = elim x4 [ ]
   all_mem p (y ∷ ys) x h (here q) = subst (λ (z : A). T (p z)) (sym q) (and_left (p y) (all p ys) h)
   all_mem p (y ∷ ys) x h (there q) = all_mem p ys x (and_right (p y) (all p ys) h) q
 

@@ -129,7 +129,7 @@ sheet1 =
     30 ∷ 0 ∷ 0 ∷ 0 ∷ 1 ∷ 21 ∷ 2 ∷ 0 ∷ []
 
 abbrev pub names1 : List ℕ
-names1 = bytes "f\n_a\nb\nm\n_b\n"
+names1 = bytes "f\nA\nb\nm\nB\n"
 
 -- B inherits from class 258 of entry 0; f is function 18 until its let
 pub second_told : told words1 bytes1 sheet1 names1

@@ -1,5 +1,5 @@
-use Rattle.row_fits_lem.proofs.Laws.{row_fails, rows_pass}
-use Rattle.row_fits_lem.specs.Pass.{depth_ok}
+use Rattle.row_fits.proofs.Laws.{row_fails, rows_pass}
+use Rattle.row_fits.specs.Pass.{depth_ok}
 use borrow.Author.Tests.{not-true, not-false}
 use borrow.Author.Count.{below_more}
 use borrow.Author.Rules.{rules}

@@ -1,4 +1,4 @@
-use Rattle.row_fits_lem.specs.Pass.{cross_ok}
+use Rattle.row_fits.specs.Pass.{cross_ok}
 use borrow.Author.Tests.{not-true, not-false}
 use borrow.Author.Rules.{rules}
 use Rattle.passes.proofs.cross_fits.Statement.{statement}

@@ -1,4 +1,4 @@
-use Rattle.row_fits_lem.specs.Pass.{depth_ok}
+use Rattle.row_fits.specs.Pass.{depth_ok}
 use borrow.Author.Rules.{rules}
 use Rattle.passes.proofs.depth_fits.Statement.{statement}
 use Rattle.passes.proofs.depth_fits.Tie as tie

@@ -1,8 +1,8 @@
-use Rattle.row_fits_lem.proofs.Laws.{rows_start, noted_start}
+use Rattle.row_fits.proofs.Laws.{rows_start, noted_start}
 use lib.Dec.{T}
 use mathlib.Core.Path.{subst}
-use Rattle.row_fits_lem.proofs.Laws.{rows_refused, rows_next, noted_next, rows_done, noted_done}
-use Rattle.row_fits_lem.specs.Pass.{rows_ok, rows_noted}
+use Rattle.row_fits.proofs.Laws.{rows_refused, rows_next, noted_next, rows_done, noted_done}
+use Rattle.row_fits.specs.Pass.{rows_ok, rows_noted}
 use lib.ListN.{length}
 use borrow.Author.Tests.{not-true, not-false}
 use borrow.Author.Rules.{rules}

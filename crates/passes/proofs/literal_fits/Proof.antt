@@ -1,4 +1,4 @@
-use Rattle.row_fits_lem.specs.Pass.{literal_ok}
+use Rattle.row_fits.specs.Pass.{literal_ok}
 use borrow.Author.Tests.{eq-eqb, ne_eqb}
 use borrow.Author.Rules.{rules}
 use Rattle.passes.proofs.literal_fits.Statement.{statement}

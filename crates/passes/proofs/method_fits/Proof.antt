@@ -1,4 +1,4 @@
-use Rattle.row_fits_lem.specs.Pass.{method_ok}
+use Rattle.row_fits.specs.Pass.{method_ok}
 use borrow.Author.Tests.{eq-eqb, ne_eqb}
 use borrow.Author.Rules.{rules}
 use Rattle.passes.proofs.method_fits.Statement.{statement}

@@ -1,0 +1,12 @@
+use Rattle.links.proofs.LinkLaws.{once_linked}
+use mathlib.Core.Path.{◌∙◌}
+use Rattle.links.proofs.linked_once.Reads as reads
+use Rattle.links.proofs.linked_once.Lts as lts
+use Rattle.links.proofs.all_once.Reads as all_once_reads
+use Rattle.links.proofs.count_links.Reads as count_links_reads
+use Rattle.links.proofs.linked_once.Goals as goal
+
+pub returns : goal.returns
+returns c =
+    c.all_once.ensures
+    ∙ once_linked c.args.sheet.now c.args.n _ c.requires.0 c.count_links.ensures

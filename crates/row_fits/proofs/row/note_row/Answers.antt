@@ -1,0 +1,14 @@
+use Rattle.row_fits.specs.Pass.{note_all}
+use Rattle.row_fits.proofs.row.note_row.Goals as goal
+
+pub returns : goal.returns
+unfolding note_all
+returns c =
+    rw (
+      c.note_declared.ensures,
+      c.note_own.ensures,
+      c.note_child.ensures,
+      c.note_next.ensures,
+      c.entry_at-e.ensures,
+      c.row_at-w.ensures,
+    )
