@@ -14,7 +14,7 @@ mkdir -p "$out"
 out=$(cd "$out" && pwd)
 bench="$out/repository/crates/session_bench"
 rm -rf "$out/repository/crates"
-mkdir -p "$bench/src" "$bench/proofs/bench_outside"
+mkdir -p "$bench/src"
 
 # the libraries, and one more that exports what is timed
 cp -R "$top"/crates/* "$out/repository/crates/"
@@ -55,6 +55,7 @@ pub extern "C" fn bench_check(words: &[u32], bytes: &[u8]) -> usize {
     check_session(words, bytes, &mut starts, &mut index)
 }
 
+#[tactic(auto, using(session_names::proofs::NameLaws::listing_some, session_outside::proofs::ReadableLaws::readable))]
 #[unsafe(no_mangle)]
 pub extern "C" fn bench_outside(words: &[u32], bytes: &[u8], out: &mut [u32]) -> usize {
     let mut starts = [0u32; 1025];
@@ -71,63 +72,6 @@ pub extern "C" fn bench_outside(words: &[u32], bytes: &[u8], out: &mut [u32]) ->
     size
 }
 END_OF_CRATE
-cat > "$bench/proofs/bench_outside/Proof.antt" <<'END_OF_PROOF'
-use native.Mathlib.Omega.{arith}
-use Rattle·session_names.proofs.NameLaws.{listing-some}
-use Rattle·session_outside.proofs.ReadableLaws.{readable}
-use borrow.Author.Needs.{needs}
-use Rattle·session_bench·proofs.proofs.bench_outside.Statement.{statement}
-use Rattle·session_bench·proofs.proofs.bench_outside.Tie as tie
-
-slice-aggregate-check-session : tie.Need-slice-aggregate-check-session
-slice-aggregate-check-session c = search needs
-
-slice-aggregate-check-session-2 : tie.Need-slice-aggregate-check-session-2
-slice-aggregate-check-session-2 c = search needs
-
-check-session-requires : tie.Need-check-session-requires
-check-session-requires c κs = search needs
-
-returns : tie.Need-returns
-returns c = search needs
-
-outside-size-requires : tie.Need-outside-size-requires
-outside-size-requires c κs = search needs
-
-returns-2 : tie.Need-returns-2
-returns-2 c = search needs
-
-outside-words-requires : tie.Need-outside-words-requires
-outside-words-requires c κs =
-    let at-if2 = c .before in
-    let at-size = at-if2 .before in
-    let at-if1 = at-size .before in
-    let at-check-session = at-if1 .before .before .before in
-    let check-session = at-check-session .check-session in
-    let start = at-check-session .before .before .before .before .before .before in
-    (readable (start .args .words .now) (start .args .bytes .now) (listing-some (check-session .ensures) (at-if1 .if1 .left)),
-    omega (arith, at-if2 .if2 .left, at-size .outside-size .ensures))
-
-same-length : tie.Need-same-length
-same-length c = search needs
-
-returns-3 : tie.Need-returns-3
-returns-3 c = search needs
-
-pub bench-outside-spec : {M : Type 1} → statement M
-bench-outside-spec =
-    tie.close
-    (tie.spec
-    slice-aggregate-check-session
-    slice-aggregate-check-session-2
-    check-session-requires
-    returns
-    outside-size-requires
-    returns-2
-    outside-words-requires
-    same-length
-    returns-3)
-END_OF_PROOF
 (cd "$out/repository/crates/session_bench" && rt lib > "$out/session_staticlib.log" 2>&1) || { tail -20 "$out/session_staticlib.log"; exit 1; }
 "$here/../oracle/build.sh" "$plush" "$out/oracle" > /dev/null
 rustc --edition 2021 -O -L "$out/repository/crates/session_bench/out" -l static=session_bench "$here/session_driver.rs" -o "$out/session_driver"
