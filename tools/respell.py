@@ -63,6 +63,10 @@ def imported(text, pattern):
             (own if is_own(m.group(1)) else kit).add(n[0])
             if len(n) > 1:
                 own.add(n[1])
+        if m.group(2) is None and not is_own(m.group(1)):
+            kit.add(m.group(1).split(".")[-1])
+            if pattern is IMPORT and m.group(3):
+                kit.add(m.group(3))
     return kit, own
 
 
@@ -86,7 +90,13 @@ def write(path, text, old):
 
 
 def in_code(line, turn):
-    return TOKEN.sub(turn, line)
+    """Turns the tokens of a line, but for strings and the path of an import."""
+    head, tail = "", line
+    m = re.match(r"[ ]*(?:pub |ghost )?use [^{]*", line)
+    if m:
+        head, tail = line[:m.end()], line[m.end():]
+    parts = re.split(r'("(?:[^"\\]|\\.)*")', tail)
+    return head + "".join(q if i % 2 else TOKEN.sub(turn, q) for i, q in enumerate(parts))
 
 
 def in_words(text, known):
@@ -158,6 +168,9 @@ def main():
             def turn(m):
                 n = m.group(0)
                 before = m.string[m.start() - 1] if m.start() else ""
+                of = re.search(r"([\w'ᴰ]+)\.$", m.string[:m.start()])
+                if of and of.group(1) in kit and of.group(1)[0].isupper():
+                    return n
                 if before == ".":
                     if proof and (n not in fields or m.string[:m.start()].endswith("tie.") or n in goals[p] or "-" in n):
                         return n

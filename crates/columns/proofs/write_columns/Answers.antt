@@ -10,11 +10,6 @@ use Rattle.columns.proofs.TableLaws.{place_below}
 use Rattle.columns.proofs.WriteLaws.{none_written, row_begun, place_written, row_written_lem, table_written}
 use Rattle.columns.proofs.write_columns.Goals as goal
 
--- the place written lies before the end of what is written
-below : (c : tie.In-loop2 invariant-loop2 decreases-loop2 invariant-loop decreases-loop)
-    → (let n : ℕ = rows_of c.before.before.before.before.before.before.args.source.now in c.before.before.before.loop.c * n + c.before.loop2.r < 8 * n)
-below c = place_below 8 _ _ _ c.before.before.loop-test.true c.loop2-test.true
-
 pub loop-c-init : goal.loop-c-init
 unfolding to_columns
 loop-c-init c =
@@ -51,16 +46,16 @@ pub overflow_cast-target : goal.overflow_cast-target
 overflow_cast-target c = omega arith
 
 pub overflow_mul-target : goal.overflow_mul-target
-overflow_mul-target c = omega (arith, below c)
+overflow_mul-target c = omega (arith, place_below 8 _ _ _ c.loop-c-test.true c.loop-r-test.true)
 
 pub overflow_add-target : goal.overflow_add-target
-overflow_add-target c = omega (arith, below c)
+overflow_add-target c = omega (arith, place_below 8 _ _ _ c.loop-c-test.true c.loop-r-test.true)
 
 pub offset_bounds-target-c : goal.offset_bounds-target-c
-offset_bounds-target-c c = omega (arith, below c)
+offset_bounds-target-c c = omega (arith, place_below 8 _ _ _ c.loop-c-test.true c.loop-r-test.true)
 
 pub bounds-target-c : goal.bounds-target-c
-bounds-target-c c = omega (arith, below c)
+bounds-target-c c = omega (arith, place_below 8 _ _ _ c.loop-c-test.true c.loop-r-test.true)
 
 pub overflow_add-r-in-loop-r : goal.overflow_add-r-in-loop-r
 overflow_add-r-in-loop-r c = omega arith

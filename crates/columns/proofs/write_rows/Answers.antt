@@ -10,11 +10,6 @@ use Rattle.columns.proofs.TableLaws.{place_below}
 use Rattle.columns.proofs.WriteLaws.{row_begun, place_written, row_written_lem, table_written}
 use Rattle.columns.proofs.write_rows.Goals as goal
 
--- the place read lies before the source's end
-below : (c : tie.In-loop2 invariant-loop2 decreases-loop2 invariant-loop decreases-loop)
-    → (let n : ℕ = rows_of c.before.before.before.before.before.before.args.source.now in c.before.loop2.c * n + c.before.before.before.loop.r < 8 * n)
-below c = place_below 8 _ _ _ c.loop2-test.true c.before.before.loop-test.true
-
 pub loop-r-init : goal.loop-r-init
 loop-r-init c = (omega arith, refl, refl)
 
@@ -32,16 +27,16 @@ pub overflow_cast-c : goal.overflow_cast-c
 overflow_cast-c c = omega arith
 
 pub overflow_mul-c : goal.overflow_mul-c
-overflow_mul-c c = omega (arith, below c)
+overflow_mul-c c = omega (arith, place_below 8 _ _ _ c.loop-c-test.true c.loop-r-test.true)
 
 pub overflow_add-c : goal.overflow_add-c
-overflow_add-c c = omega (arith, below c)
+overflow_add-c c = omega (arith, place_below 8 _ _ _ c.loop-c-test.true c.loop-r-test.true)
 
 pub offset_bounds-source-c : goal.offset_bounds-source-c
-offset_bounds-source-c c = omega (arith, below c)
+offset_bounds-source-c c = omega (arith, place_below 8 _ _ _ c.loop-c-test.true c.loop-r-test.true)
 
 pub bounds-source-c : goal.bounds-source-c
-bounds-source-c c = omega (arith, below c)
+bounds-source-c c = omega (arith, place_below 8 _ _ _ c.loop-c-test.true c.loop-r-test.true)
 
 pub overflow_mul-target : goal.overflow_mul-target
 overflow_mul-target c = omega arith

@@ -51,6 +51,5 @@ returns c =
 
 pub returns-then-whose-eq-OF_SESSION : goal.returns-then-whose-eq-OF_SESSION
 returns-then-whose-eq-OF_SESSION c =
-    let IsPlace-in = c.IsPlace-in in
     placed_session c.args.words.now c.args.bytes.now c.args.names.now (not (eqb c.args.whose 0)) c.args.number c.name_text-length.ensures c.if-length-eq0.false
-    (whose_session c.args.whose c.args.number c.if-whose-eq-OF_SESSION.true) IsPlace-in.ensures
+    (whose_session c.args.whose c.args.number c.if-whose-eq-OF_SESSION.true) c.place_in.ensures

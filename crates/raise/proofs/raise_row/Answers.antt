@@ -26,4 +26,4 @@ returns-else-this-lt6 c =
 
 pub overflow_add-row : goal.overflow_add-row
 overflow_add-row c =
-    omega (arith, owner_below c.args.base c.args.row.now c.requires.2 c.if-this-lt4.false c.in-4.if-this-lt6-own.true)
+    omega (arith, owner_below c.args.base c.args.row.now c.requires.2 (omega arith) (omega arith))

@@ -89,5 +89,5 @@ loop-r-preserved c =
       omega arith,
       g.1 ∙ v.1,
       row_written_lem r t _ h g.0 c.args.words.now v.2 (c.write_line.ensures ∙ ap line_of (row_number c.args.words.now r)),
-      rest_kept r t c.write_line.new.1.0 h g.0 _ v.3,
+      rest_kept r t c.write_line.new.line h g.0 _ v.3,
     )

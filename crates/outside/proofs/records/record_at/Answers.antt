@@ -1,0 +1,14 @@
+use Rattle.outside.proofs.records.record_at.Reads as reads
+use Rattle.outside.proofs.records.record_at.Lts as lts
+use Rattle.words.proofs.word.Reads as word_reads
+use Rattle.outside.proofs.records.record_at.Goals as goal
+
+pub returns : goal.returns
+returns c =
+    rw (
+      c.word.ensures,
+      c.word-2.ensures,
+      c.word-3.ensures,
+      c.word-4.ensures,
+      c.word-5.ensures,
+    )

@@ -1,0 +1,37 @@
+-- `write_fitted` meets its contract. The loop's invariant: the words passed are written. Assumes nothing.
+use mathlib.Core.Path.{refl}
+use Prim.Native.Nat.{◌-◌}
+use native.Mathlib.Omega.{arith}
+use lib.ListN.{length-set}
+use Rattle.report.proofs.FitLaws.{fit_more, fit_all}
+use Rattle.report.proofs.write_fitted.Goals as goal
+
+pub loop-i-init : goal.loop-i-init
+loop-i-init c = (omega arith, refl, refl)
+
+pub offset_bounds-lent-i : goal.offset_bounds-lent-i
+offset_bounds-lent-i c = omega arith
+
+pub bounds-lent-i : goal.bounds-lent-i
+bounds-lent-i c = omega arith
+
+pub overflow_add-i : goal.overflow_add-i
+overflow_add-i c = omega arith
+
+pub loop-i-smaller : goal.loop-i-smaller
+loop-i-smaller c = omega arith
+
+pub loop-i-preserved : goal.loop-i-preserved
+loop-i-preserved c = (
+  omega arith,
+  simp length-set c.loop-i.invariant.1,
+  fit_more c.args.words.now c.args.lent.now c.loop-i.lent c.loop-i.i c.word_at.result c.loop-i.invariant.2 c.word_at.ensures
+      (omega arith),
+)
+
+pub shape_of-lent : goal.shape_of-lent
+shape_of-lent c = c.loop-i.invariant.1
+
+pub returns : goal.returns
+returns c =
+    fit_all c.args.words.now c.args.lent.now c.loop-i.lent c.loop-i.i c.loop-i.invariant.2 (omega arith)

@@ -1,0 +1,13 @@
+use Rattle.machine.specs.Machine.{find_name, function_marks}
+use lib.ListN.{length}
+use Prim.Native.Nat.{◌+◌, ◌-◌, ◌≤◌}
+use mathlib.Core.Path.{◌≡◌}
+use Rattle.symbols.proofs.env.find_name.Given as goal
+
+-- the entries from i on do not declare the name, and k functions' marks are among them
+abbrev pub invariant-loop-i : goal.invariant-loop-i
+invariant-loop-i l =
+    (find_name l.entries l.m l.i ≡ find_name l.entries l.m l.n) × (l.marks + length (function_marks l.sheet l.entries l.i) ≡ length (function_marks l.sheet l.entries l.n)) × (l.marks + l.i ≤ l.n)
+
+abbrev pub decreases-loop-i : goal.decreases-loop-i
+decreases-loop-i l = l.i

@@ -1,0 +1,21 @@
+use Rattle.walk.proofs.DeclareLaws.{let_stored}
+use Rattle.store.proofs.CodeLaws.{told_four}
+use Rattle.store.specs.Stored.{store_of}
+use Rattle.symbols.specs.OpenScopes.{scopes_of}
+use Rattle.machine.proofs.ByKind.{store_other}
+use borrow.Author.Tests.{ne_eqb}
+use mathlib.Core.Path.{sym, ◌∙◌}
+use Rattle.walk.proofs.declare.store_let.Goals as goal
+
+pub returns-then-word-ne-LET : goal.returns-then-word-ne-LET
+returns-then-word-ne-LET c =
+    λ O o v q e. sym (store_other O c.args.sheet.now (scopes_of c.args.env v)
+    (store_of o c.args.results.now q) c.args.row
+    (rw (← c.word.ensures) (ne_eqb _ 29 c.if-word-ne-LET.true)))
+
+pub returns : goal.returns
+returns c =
+    λ O o v q e. let_stored O c.args.sheet.now c.args.row (scopes_of c.args.env v)
+    (store_of o c.args.results.now q) c.args.d _ _ _ (sym c.word.ensures ∙ c.if-word-ne-LET.false) e
+    (c.count_local.ensures o q) (told_four c.code_of.result ∙ c.code_of.ensures)
+    (c.write_decl.ensures o q)
