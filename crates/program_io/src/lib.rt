@@ -1,6 +1,8 @@
 // What the programs ask of the system, whatever the reader and the handle are.
 #![tactic(auto)]
 
+ghost use Rattle.std.specs.Prelude.{take};
+ghost use Rattle.std.specs.Io.KnownBytes.{Consumes};
 ghost use Rattle.program_io.specs.Counts.{IsPrefixLen};
 
 use std::io::{Error, Read, Write};
@@ -8,7 +10,8 @@ use std::str::from_utf8;
 
 // One read: how many bytes it put at the start of the lent ones, 0 at the end and where it fails.
 fn read_some<R: Read>(input: &mut R, bytes: &mut [u8]) -> usize
-    ensures { IsPrefixLen result bytes.new }
+    ensures count { IsPrefixLen result bytes.new }
+    ensures bytes { Consumes (R.remaining input.old) (R.remaining input.new) (take result bytes.new) }
 {
     match input.read(bytes) {
         Ok(n) => n,
@@ -18,7 +21,8 @@ fn read_some<R: Read>(input: &mut R, bytes: &mut [u8]) -> usize
 
 // Reads until the bytes are full, the input ends or a read fails. Returns how many bytes there are at the start then.
 pub fn read_full<R: Read>(input: &mut R, bytes: &mut [u8]) -> usize
-    ensures { IsPrefixLen result bytes.new }
+    ensures count { IsPrefixLen result bytes.new }
+    ensures bytes { Consumes (R.remaining input.old) (R.remaining input.new) (take result bytes.new) }
 {
     let mut done = 0;
     while done < bytes.len() {
