@@ -34,7 +34,7 @@ fn place_after(sheet: &[u32], k: u32, i: usize) -> usize
 }
 
 // A unit: its imports and classes in a scope of their own, and its function.
-#[cycle(resolve_any_resolve_expr_resolve_fun_resolve_part_resolve_parts_resolve_stmt_resolve_unit)]
+#[cycle(resolvers)]
 fn resolve_unit(
     sheet: &[u32],
     outside: &[u32],
@@ -70,7 +70,7 @@ fn resolve_unit(
 }
 
 // A function: its parameters and its body.
-#[cycle(resolve_any_resolve_expr_resolve_fun_resolve_part_resolve_parts_resolve_stmt_resolve_unit)]
+#[cycle(resolvers)]
 fn resolve_fun(
     sheet: &[u32],
     outside: &[u32],
@@ -106,7 +106,7 @@ fn resolve_fun(
 }
 
 // A statement: its parts left to right, then the check on it.
-#[cycle(resolve_any_resolve_expr_resolve_fun_resolve_part_resolve_parts_resolve_stmt_resolve_unit)]
+#[cycle(resolvers)]
 fn resolve_stmt(
     sheet: &[u32],
     outside: &[u32],
@@ -142,7 +142,7 @@ fn resolve_stmt(
 }
 
 // An expression: its parts left to right, then what it means.
-#[cycle(resolve_any_resolve_expr_resolve_fun_resolve_part_resolve_parts_resolve_stmt_resolve_unit)]
+#[cycle(resolvers)]
 fn resolve_expr(
     sheet: &[u32],
     outside: &[u32],
@@ -177,7 +177,7 @@ fn resolve_expr(
 }
 
 // A row that is walked as a part, by its kind.
-#[cycle(resolve_any_resolve_expr_resolve_fun_resolve_part_resolve_parts_resolve_stmt_resolve_unit)]
+#[cycle(resolvers)]
 fn resolve_any(
     sheet: &[u32],
     outside: &[u32],
@@ -216,7 +216,7 @@ fn resolve_any(
 }
 
 // A row of a part list, resolved if it is a part.
-#[cycle(resolve_any_resolve_expr_resolve_fun_resolve_part_resolve_parts_resolve_stmt_resolve_unit)]
+#[cycle(resolvers)]
 fn resolve_part(
     sheet: &[u32],
     outside: &[u32],
@@ -245,7 +245,7 @@ fn resolve_part(
 }
 
 // The parts of row `row`, left to right. A refused walk returns at once.
-#[cycle(resolve_any_resolve_expr_resolve_fun_resolve_part_resolve_parts_resolve_stmt_resolve_unit)]
+#[cycle(resolvers)]
 pub fn resolve_parts(
     sheet: &[u32],
     outside: &[u32],

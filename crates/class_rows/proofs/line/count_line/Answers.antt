@@ -1,0 +1,15 @@
+use native.Mathlib.Omega.{arith}
+use Rattle.store.specs.Stored.{store_of}
+use Rattle.name_rows.specs.Put.{name_row}
+use Rattle.class_rows.proofs.LineLaws.{line_counted}
+use Rattle.outside.specs.Words.{over}
+use Rattle.class_rows.proofs.line.count_line.Goals as goal
+
+pub returns : goal.returns
+returns c =
+    λ o. line_counted _ (name_row (over c.args.outside.now) c.args.sheet.now
+    (store_of o c.args.results.now c.args.nodes.now) c.args.wanted)
+    c.args.sheet.now (store_of o c.args.results.now c.args.nodes.now)
+    c.args.wanted.kind c.args.wanted.class.0 _ c.requires.0
+    (c.parent_of.ensures o c.args.nodes.now) (c.requires.1 c.if-a-eq0.false o).0
+    (omega arith) (c.requires.1 c.if-a-eq0.false o).1 (c.put_own.ensures o)

@@ -1,0 +1,28 @@
+use mathlib.Core.Path.{refl, ◌∙◌}
+use Rattle.store.specs.Stored.{store_of}
+use Rattle.name_rows.specs.Put.{filled, name_row}
+use Rattle.class_rows.proofs.LineLaws.{copied_all, line_after}
+use Rattle.outside.specs.Words.{over}
+use Rattle.class_rows.proofs.line.put_line.Goals as goal
+
+pub put_copied-done-requires : goal.put_copied-done-requires
+put_copied-done-requires c = (
+  (c.requires.1 c.if-a-eq0.false (record { used = 0; calls = 0 })).below,
+  (c.requires.1 c.if-a-eq0.false (record { used = 0; calls = 0 })).within,
+)
+
+pub returns : goal.returns
+returns c =
+    λ o.
+    let h = c.requires.1 c.if-a-eq0.false o in
+    line_after _ (name_row (over c.args.outside.now) c.args.sheet.now
+    (store_of o c.args.results.now c.args.nodes.now) c.args.wanted)
+    c.args.sheet.now (store_of o c.args.results.now c.args.nodes.now)
+    c.args.wanted.kind c.args.wanted.class.0 (filled c.args.k c.args.out.now)
+    c.requires.0 (c.parent_of.ensures o c.args.nodes.now) h.parent refl
+    (c.put_copied-done.ensures
+    ∙ copied_all (over c.args.outside.now) c.args.sheet.now
+    (store_of o c.args.results.now c.args.nodes.now) c.args.wanted c.requires.0 h.parent
+    c.args.out.now _ c.args.a.row c.args.a.count
+    (filled c.args.k c.args.out.now) h.names h.functions)
+    (c.put_own.ensures o)

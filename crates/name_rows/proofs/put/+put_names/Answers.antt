@@ -1,0 +1,45 @@
+use Rattle.name_rows.proofs.PutLaws.{names_zero, names_first, names_after}
+use Rattle.name_rows.specs.Put.{filled, name_row}
+use Rattle.store.specs.Stored.{store_of}
+use native.Mathlib.Omega.{arith}
+use Rattle.outside.specs.Words.{over}
+use Rattle.name_rows.proofs.put.+put_names.Goals as goal
+
+pub returns-then-n-eq0 : goal.returns-then-n-eq0
+returns-then-n-eq0 t c =
+    λ o. names_zero _ (name_row (over c.args.outside.now) c.args.sheet.now
+    (store_of o c.args.results.now c.args.nodes.now) c.args.wanted)
+    c.args.sheet.now (store_of o c.args.results.now c.args.nodes.now)
+    c.args.wanted.kind c.args.n c.args.c.0 (filled c.args.k c.args.out.now)
+    c.if-n-eq0.true
+
+pub overflow_sub-p : goal.overflow_sub-p
+overflow_sub-p t c = omega (arith, c.if-n-eq0.false)
+
+pub returns-then-up-eq0 : goal.returns-then-up-eq0
+returns-then-up-eq0 t c =
+    λ o. names_first _ (name_row (over c.args.outside.now) c.args.sheet.now
+    (store_of o c.args.results.now c.args.nodes.now) c.args.wanted)
+    c.args.sheet.now (store_of o c.args.results.now c.args.nodes.now)
+    c.args.wanted.kind c.args.n c.args.c.0 (filled c.args.k c.args.out.now)
+    c.if-n-eq0.false (c.parent_of-up.ensures o c.args.nodes.now) c.if-up-eq0.true (c.put_own.ensures o)
+
+pub overflow_sub-n : goal.overflow_sub-n
+overflow_sub-n t c = omega (arith, c.if-n-eq0.false)
+
+pub put_names-done-requires : goal.put_names-done-requires
+put_names-done-requires t c =
+    (omega (arith, c.decreases, c.if-n-eq0.false), tt)
+
+pub shape_of-out : goal.shape_of-out
+shape_of-out t c =
+    omega (arith, c.put_own-2.auto, c.put_names-done.auto)
+
+pub returns : goal.returns
+returns t c =
+    λ o. names_after _ (name_row (over c.args.outside.now) c.args.sheet.now
+    (store_of o c.args.results.now c.args.nodes.now) c.args.wanted)
+    c.args.sheet.now (store_of o c.args.results.now c.args.nodes.now)
+    c.args.wanted.kind c.args.n c.args.c.0 (filled c.args.k c.args.out.now)
+    c.if-n-eq0.false (c.parent_of-up.ensures o c.args.nodes.now) c.if-up-eq0.false (c.put_names-done.ensures o)
+    (c.put_own-2.ensures o)

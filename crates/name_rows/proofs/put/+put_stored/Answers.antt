@@ -1,0 +1,37 @@
+use Rattle.name_rows.proofs.PutLaws.{stored_none, stored_last}
+use Rattle.name_rows.specs.Put.{filled, name_row}
+use Rattle.class_names.specs.Names.{inherited}
+use Rattle.store.specs.Stored.{store_of}
+use native.Mathlib.Omega.{arith}
+use Rattle.outside.specs.Words.{over}
+use Rattle.name_rows.proofs.put.+put_stored.Goals as goal
+
+pub returns-then-last-eq0 : goal.returns-then-last-eq0
+returns-then-last-eq0 t c =
+    λ o. stored_none (name_row (over c.args.outside.now) c.args.sheet.now
+    (store_of o c.args.results.now c.args.nodes.now) c.args.wanted)
+    (inherited (over c.args.outside.now) c.args.sheet.now
+    (store_of o c.args.results.now c.args.nodes.now) c.args.wanted.kind c.args.p.left
+    c.args.p.class.0)
+    c.args.nodes.now c.args.last (filled c.args.k c.args.out.now) c.if-last-eq0.true
+
+pub overflow_sub-i : goal.overflow_sub-i
+overflow_sub-i t c = omega (arith, c.if-last-eq0.false)
+
+pub put_stored-done-requires : goal.put_stored-done-requires
+put_stored-done-requires t c =
+    (omega (arith, c.decreases, c.if-last-eq0.false, c.node_before-before.ensures), tt)
+
+pub shape_of-out : goal.shape_of-out
+shape_of-out t c =
+    omega (arith, c.put_new.auto, c.put_stored-done.auto)
+
+pub returns : goal.returns
+returns t c =
+    λ o. stored_last (name_row (over c.args.outside.now) c.args.sheet.now
+    (store_of o c.args.results.now c.args.nodes.now) c.args.wanted)
+    (inherited (over c.args.outside.now) c.args.sheet.now
+    (store_of o c.args.results.now c.args.nodes.now) c.args.wanted.kind c.args.p.left
+    c.args.p.class.0)
+    c.args.nodes.now c.args.last (filled c.args.k c.args.out.now) c.if-last-eq0.false
+    c.node_before-before.ensures c.node_word.ensures (c.put_stored-done.ensures o) (c.put_new.ensures o)

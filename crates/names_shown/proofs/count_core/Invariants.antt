@@ -1,0 +1,15 @@
+-- `count_core` meets its contract. Invariant: what is counted and the core names that are left are what all give. Assumes nothing.
+use mathlib.Core.Path.{◌≡◌}
+use Prim.Native.Nat.{◌+◌, ◌-◌, ◌≤◌}
+use lib.ListN.{length, drop}
+use Rattle.definition.specs.Outside.{core}
+use Rattle.session_outside.specs.Written.{firsts}
+use Rattle.names_shown.proofs.count_core.Given as goal
+
+abbrev pub invariant-loop-name : goal.invariant-loop-name
+invariant-loop-name l =
+    (l.name ≤ 9) × (l.count ≤ l.name) × (length l.marks ≡ length l.initial.marks)
+    × (l.count + length (firsts l.marks (drop l.name core.names)) ≡ length (firsts l.initial.marks core.names))
+
+abbrev pub decreases-loop-name : goal.decreases-loop-name
+decreases-loop-name l = 9 - l.name

@@ -1,0 +1,14 @@
+-- `count_declared` meets its contract. Invariant: what is counted, the declarations that are left and the core names are what all give. Assumes nothing.
+use mathlib.Core.Path.{◌≡◌}
+use Prim.Native.Nat.{◌+◌, ◌-◌, ◌≤◌}
+use lib.ListN.{length, get_or}
+use Rattle.session_outside.specs.Written.{firsts, names_below}
+use Rattle.names_shown.proofs.count_declared.Given as goal
+
+abbrev pub invariant-loop-left : goal.invariant-loop-left
+invariant-loop-left l =
+    (l.left ≤ get_or l.session 5 0) × (l.count + l.left ≤ get_or l.session 5 0) × (length l.marks ≡ length l.initial.marks)
+    × (l.count + length (firsts l.marks (names_below l.session l.left)) ≡ length (firsts l.initial.marks (names_below l.session (get_or l.session 5 0))))
+
+abbrev pub decreases-loop-left : goal.decreases-loop-left
+decreases-loop-left l = l.left

@@ -1,0 +1,60 @@
+use mathlib.Core.Path.{refl, ◌∙◌}
+use Prim.Native.Nat.{◌-◌}
+use native.Mathlib.Omega.{arith}
+use Rattle.session_check.proofs.MarkLaws.{left_start, left_refused, left_next, left_done, under_le, set_under, fresh_below, marked_if, unmarked_if}
+use Rattle.session_check.proofs.names_apart.Goals as goal
+
+pub loop-j-init : goal.loop-j-init
+loop-j-init c = (
+  c.requires.0,
+  refl,
+  under_le c.requires.3 (omega arith),
+  left_start c.args.words.now _ _ c.args.marks.now _ _ c.requires.2 c.requires.3,
+)
+
+pub overflow_mul-j : goal.overflow_mul-j
+overflow_mul-j c = omega arith
+
+pub overflow_add-j : goal.overflow_add-j
+overflow_add-j c = omega arith
+
+pub mark_name-requires : goal.mark_name-requires
+mark_name-requires c = omega (arith, c.loop-j.invariant.1)
+
+pub shape_of-marks-then-not-mark_name : goal.shape_of-marks-then-not-mark_name
+shape_of-marks-then-not-mark_name c =
+    c.mark_name.auto.marks ∙ c.loop-j.invariant.1
+
+pub returns-then-not-mark_name : goal.returns-then-not-mark_name
+returns-then-not-mark_name c =
+    let m = c.loop-j.marks in
+    let no = c.if-not-mark_name.true in (
+      left_refused c.args.words.now _ _ m _ _ c.loop-j-test.true c.number_at-name.ensures.0 c.mark_name.ensures.0 no c.loop-j.invariant.3,
+      rw (unmarked_if m _ _ _ c.mark_name.ensures.1 no) c.loop-j.invariant.2,
+    )
+
+pub overflow_add-j-in-loop-j : goal.overflow_add-j-in-loop-j
+overflow_add-j-in-loop-j c = omega arith
+
+pub loop-j-smaller : goal.loop-j-smaller
+loop-j-smaller c = omega arith
+
+pub loop-j-preserved : goal.loop-j-preserved
+loop-j-preserved c =
+    let m = c.loop-j.marks in
+    let yes = c.if-not-mark_name.false in (
+      omega arith,
+      c.mark_name.auto.marks ∙ c.loop-j.invariant.1,
+      rw (marked_if m _ _ _ c.mark_name.ensures.1 yes)
+          (set_under c.number_at-name.result
+          (fresh_below c.args.last c.args.mark m c.number_at-name.result (omega (arith, c.loop-j.invariant.1, c.requires.2)) c.mark_name.ensures.0 yes) c.loop-j.invariant.2),
+      left_next c.args.words.now _ _ m _ _ _ c.loop-j-test.true c.number_at-name.ensures.0 c.mark_name.ensures.0 yes
+          (marked_if m _ _ _ c.mark_name.ensures.1 yes) c.loop-j.invariant.3,
+    )
+
+pub shape_of-marks : goal.shape_of-marks
+shape_of-marks c = c.loop-j.invariant.1
+
+pub returns : goal.returns
+returns c =
+    (left_done c.args.words.now _ _ _ _ _ c.loop-j-test.false c.loop-j.invariant.3, c.loop-j.invariant.2)
