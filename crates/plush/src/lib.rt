@@ -25,7 +25,6 @@ use withdrawal::withdraw;
 
 // Resolves a sheet with its names into the lent answer words, and writes the report's first line into the lent report words, as
 // far as they go. Returns the number of the question that got a no, or 0.
-#[tactic(auto, using(crate::proofs::Laws::resolved))]
 #[unsafe(no_mangle)]
 pub extern "C" fn plush_resolve(
     sheet: &[u32],
@@ -44,7 +43,6 @@ pub extern "C" fn plush_resolve(
 
 // Writes the order in which a sheet's units start into the lent list, a word for each unit: its row; and the report's first line into the lent report
 // words, as far as they go. Returns the number of the question that got a no, 1 to 4, 29 or 22, or 0.
-#[tactic(auto, using(crate::proofs::Laws::units_ordered))]
 #[unsafe(no_mangle)]
 pub extern "C" fn plush_order_units(
     sheet: &[u32],
@@ -79,7 +77,6 @@ pub extern "C" fn plush_from_columns(source: &[u32], target: &mut [u32]) -> u32
 
 // Finds bytes among the fixed names and those of a list. Returns the number, 0 where they are absent or the list is refused by question 2; and
 // writes it, and how many places of the index were read, into the lent words as far as they go.
-#[tactic(auto, using(crate::proofs::Laws::found_told))]
 #[unsafe(no_mangle)]
 pub extern "C" fn plush_find_name(names: &[u8], name: &[u8], found: &mut [u32]) -> u32
     ensures { NameFound names.now name.now (length found.old) result found.new }
@@ -100,7 +97,6 @@ pub extern "C" fn plush_session_fresh(words: &mut [u32], bytes: &mut [u8])
 
 // Enters a sheet with its names into the session of the lent words and bytes, its answer rows into the lent answer words, and writes the report's first line
 // into the lent report words, as far as they go. Returns the number of the question that got a no, or 0.
-#[tactic(auto, using(crate::proofs::Laws::session_entered))]
 #[unsafe(no_mangle)]
 pub extern "C" fn plush_enter(
     words: &mut [u32],
@@ -120,7 +116,6 @@ pub extern "C" fn plush_enter(
 }
 
 // What `plush_enter` would return and write into the lent answer and report words. The session is only read.
-#[tactic(auto, using(crate::proofs::Laws::session_previewed))]
 #[unsafe(no_mangle)]
 pub extern "C" fn plush_preview(
     words: &[u32],
@@ -141,7 +136,6 @@ pub extern "C" fn plush_preview(
 
 // Withdraws the latest accepted entry of the session of the lent words and bytes, and writes the report's first line into the lent report words, as far as
 // they go. Returns the number of the question that got a no, or 0.
-#[tactic(auto, using(crate::proofs::Laws::session_withdrawn))]
 #[unsafe(no_mangle)]
 pub extern "C" fn plush_withdraw(words: &mut [u32], bytes: &[u8], report: &mut [u32]) -> u32
     ensures { SessionWithdrawn words.old bytes.now (length report.old) result report.new words.new }
@@ -154,7 +148,6 @@ pub extern "C" fn plush_withdraw(words: &mut [u32], bytes: &[u8], report: &mut [
 
 // Tells where the text of a name stands: in the session's bytes or in an entry's names, from which byte on, and in how many; as far as the lent words
 // go. Returns how many bytes it has, 0 where the number names nothing, or the list in which it would stand is refused.
-#[tactic(auto, using(crate::proofs::Laws::name_told))]
 #[unsafe(no_mangle)]
 pub extern "C" fn plush_name_text<'a>(
     words: &[u32],
