@@ -2,7 +2,7 @@
 use mathlib.Core.Path.{◌≡◌, refl, ap, ◌∙◌}
 use mathlib.Core.List.{List, [], ◌∷◌, ◌++◌, map, append-nil}
 use mathlib.Core.Bool.{Bool, true, false, not, ◌&&◌}
-use Prim.Native.Nat.{ℕ, ◌+◌, ◌-◌}
+use Prim.Native.Nat.{ℕ}
 use lib.Dec.{eqb, T}
 use Rattle.definition.specs.Basics.{if◌then◌else◌, filter, any, distinct, ◌∈?◌}
 use Rattle.definition.specs.Sheet.{Sheet, is, a}

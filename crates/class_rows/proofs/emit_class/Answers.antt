@@ -46,17 +46,29 @@ pub returns-then-not-line_ends : goal.returns-then-not-line_ends
 returns-then-not-line_ends c =
     (c.write_class-count.ensures, placed_kept c.requires.1 _ (c.write_class-count.ensures (record { used = 0; calls = 0 })))
 
+pub overflow_add-starts : goal.overflow_add-starts
+overflow_add-starts c =
+    omega (arith, c.if-room-k.false, c.well_formed.1.1.1.1.1.1.1.1.0)
+
+pub offset_bounds-starts-row : goal.offset_bounds-starts-row
+offset_bounds-starts-row c =
+    omega (arith, c.requires.0.row, c.requires.0.short)
+
+pub bounds-starts-row : goal.bounds-starts-row
+bounds-starts-row c =
+    omega (arith, c.requires.0.row, c.requires.1.room)
+
 pub returns : goal.returns
 returns c =
     let steady =
-    line_steady start.pre.1 start.pre.0.row (λ o. c.parent_of-parent.ensures o c.args.nodes.now)
+    line_steady c.requires.1 c.requires.0.row (λ o. c.parent_of-parent.ensures o c.args.nodes.now)
     c.place_of-at.ensures
     (sym c.if-not-line_ends.false ∙ c.line_ends.ensures) in (
       c.write_class-count.ensures,
-      placed_more start.pre.1 _ (c.write_class-count.ensures (record { used = 0; calls = 0 }))
+      placed_more c.requires.1 _ (c.write_class-count.ensures (record { used = 0; calls = 0 }))
           (λ o. stands_now (over c.args.outside.now) c.args.sheet.now
           (store_of o c.args.results.now c.args.nodes.now) c.args.out.now c.args.k
           c.args.row c.write_class-count.result (c.write_class-count.ensures o)
           (omega (arith, c.if-room-count.false)) (omega (arith, c.write_class-count.auto)) (steady o).0 (steady o).1)
-          (omega (arith, start.pre.0.row, start.pre.1.room)),
+          (omega (arith, c.requires.0.row, c.requires.1.room)),
     )

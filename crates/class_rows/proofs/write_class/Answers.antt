@@ -21,6 +21,22 @@ put_line-done-requires c = (
       (shown_kept _ (emit_one _ (sink c.args.k c.args.out.now) c.emit.ensures) c.requires.1),
 )
 
+pub wanted-requires-2 : goal.wanted-requires-2
+wanted-requires-2 c =
+    omega (arith, c.requires.0.row, c.requires.0.short)
+
+pub put_line-requires : goal.put_line-requires
+put_line-requires c =
+    let o : Store = record { used = 0; calls = 0 } in (
+      omega (arith, c.requires.0.row),
+      shown_wanted (over c.args.outside.now) c.args.sheet.now c.args.results.now
+          c.args.nodes.now c.wanted-2.ensures
+          (shown_kept _ (fields_told (over c.args.outside.now) c.args.sheet.now
+          (store_of o c.args.results.now c.args.nodes.now) c.args.row c.wanted.result _
+          c.wanted.ensures (c.requires.0.fields o) refl (c.put_line-done.ensures o))
+          (shown_kept _ (emit_one _ (sink c.args.k c.args.out.now) c.emit.ensures) c.requires.2)),
+    )
+
 pub returns : goal.returns
 returns c =
     λ o. class_rows_lem (over c.args.outside.now) c.args.sheet.now
@@ -32,15 +48,3 @@ returns c =
     (methods_told (over c.args.outside.now) c.args.sheet.now
     (store_of o c.args.results.now c.args.nodes.now) c.args.row c.wanted-2.result _
     c.wanted-2.ensures (c.put_line.ensures o))
-
-pub put_line-requires : goal.put_line-requires
-put_line-requires c =
-    let o : Store = record { used = 0; calls = 0 } in (
-      omega (arith, start.pre.0.row),
-      shown_wanted (over c.args.outside.now) c.args.sheet.now c.args.results.now
-          c.args.nodes.now c.wanted-2.ensures
-          (shown_kept _ (fields_told (over c.args.outside.now) c.args.sheet.now
-          (store_of o c.args.results.now c.args.nodes.now) c.args.row c.wanted.result _
-          c.wanted.ensures (start.pre.0.fields o) refl (c.put_line-done.ensures o))
-          (shown_kept _ (emit_one _ (sink c.args.k c.args.out.now) c.emit.ensures) start.pre.2)),
-    )

@@ -13,7 +13,6 @@ use Rattle.definition.specs.Meaning.{Meaning, nothing, variable, row_of, owner_o
 use Rattle.definition.specs.Walk.{Event, enter, leave, loop, declare, bring, visit, imports, seen, literal_let, before, after, parts, each, trace, walk}
 use Rattle.definition.specs.Scope.{Stack, Moment, Entry, scope, looping, bound, closed, step, moments, history, start, inside, within, declared, new_global, declares, declarings, declaration}
 use Rattle.definition.specs.Slots.{is_local, open_locals, local_count}
-use Rattle.definition.specs.Bounds.{own}
 use Rattle.definition.proofs.Lists.Tests.{and_both, and_left, and_right, eqb_of}
 use Rattle.definition.proofs.Lists.Members.{mem_filter}
 use Rattle.definition.proofs.Closure.Open.{OpenAt}

@@ -14,7 +14,6 @@ use Rattle.definition.specs.Meaning.{Meaning, variable, row_of, owner_of, is_var
 use Rattle.definition.specs.Walk.{Event, declare}
 use Rattle.definition.specs.Scope.{Stack, Moment, Entry, scope, looping, bound, find, top, around, history, declares, declared, within}
 use Rattle.definition.specs.Slots.{open_locals, top_slot}
-use Rattle.definition.specs.Bounds.{own}
 use Rattle.definition.proofs.Closure.Open.{OpenAt}
 use Rattle.definition.proofs.Lists.Tests.{and_both, eqb_of}
 use Rattle.definition.proofs.Closure.Declared.{Declares, earlier, declared_variable}

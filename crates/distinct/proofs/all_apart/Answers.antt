@@ -1,6 +1,5 @@
 use Rattle.distinct.proofs.ApartLaws.{all_refused, all_next, all_done, all_start}
 use native.Mathlib.Omega.{arith}
-use Prim.Native.Nat.{◌-◌}
 use mathlib.Core.Path.{refl, sym, ◌∙◌}
 use Rattle.distinct.proofs.all_apart.Goals as goal
 

@@ -1,9 +1,5 @@
 use Rattle.links.proofs.LinkLaws.{once_linked}
 use mathlib.Core.Path.{◌∙◌}
-use Rattle.links.proofs.linked_once.Reads as reads
-use Rattle.links.proofs.linked_once.Lts as lts
-use Rattle.links.proofs.all_once.Reads as all_once_reads
-use Rattle.links.proofs.count_links.Reads as count_links_reads
 use Rattle.links.proofs.linked_once.Goals as goal
 
 pub returns : goal.returns

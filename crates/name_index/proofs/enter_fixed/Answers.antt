@@ -1,6 +1,6 @@
 -- `name_index::enter_fixed` meets its contract. Invariant: the index is that of the first `k` fixed names. Assumes nothing.
 use mathlib.Core.Path.{sym, ap, ◌∙◌}
-use Prim.Native.Nat.{ℕ, ◌-◌}
+use Prim.Native.Nat.{ℕ}
 use native.Mathlib.Omega.{arith}
 use lib.Seq.{take_all}
 use lib.ListN.{length, length-replicate}

@@ -1,9 +1,8 @@
 -- `name_index::enter_listed` meets its contract. Invariant: the index is that of the fixed and the first `k` listed names, and no
 -- two of them are the same. Assumes nothing.
-use mathlib.Core.Bool.{false, true}
+use mathlib.Core.Bool.{false}
 use mathlib.Core.List.{List, ◌++◌}
 use mathlib.Core.Path.{refl, sym, ap, ◌∙◌}
-use Prim.Native.Nat.{◌+◌, ◌-◌}
 use native.Mathlib.Omega.{arith}
 use lib.Seq.{take_all}
 use lib.ListN.{length}

@@ -1,8 +1,6 @@
 -- `name_index::find_name` meets its contract. Assumes nothing.
-use mathlib.Core.Path.{sym}
 use native.Mathlib.Omega.{arith}
-use lib.Seq.{length-take-le}
-use Rattle.name_index.proofs.QuestionLaws.{some_fit, find_none, find_some}
+use Rattle.name_index.proofs.QuestionLaws.{find_none, find_some}
 use Rattle.name_index.proofs.find_name.Goals as goal
 
 pub returns-then-starts-eq0 : goal.returns-then-starts-eq0

@@ -1,7 +1,7 @@
 -- `name_index::fnv_value` meets its contract. Invariant: the value so far, carried on over the bytes from `i` on, is the value of all.
 -- Assumes nothing.
 use mathlib.Core.Path.{refl, sym, ap, ◌∙◌}
-use Prim.Native.Nat.{ℕ, ◌+◌, ◌-◌}
+use Prim.Native.Nat.{ℕ, ◌+◌}
 use native.Mathlib.Omega.{arith}
 use lib.ListN.{drop}
 use Rattle.name_index.specs.Index.{fnv_from}

@@ -1,6 +1,6 @@
 -- `name_index::free_place` meets its contract. Invariant: the places read are full. Assumes nothing.
 use mathlib.Core.Path.{ap}
-use Prim.Native.Nat.{ℕ, ◌+◌, ◌-◌, ◌%◌}
+use Prim.Native.Nat.{ℕ, ◌+◌, ◌%◌}
 use native.Mathlib.Omega.{arith}
 use Rattle.name_index.proofs.StepLaws.{full_all, full_end, full_on}
 use Rattle.name_index.proofs.free_place.Goals as goal

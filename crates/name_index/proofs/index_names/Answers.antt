@@ -1,10 +1,9 @@
 -- `name_index::index_names` meets its contract: each refusal is one of the parts of question 2, and entering the names decides
 -- the rest. Assumes nothing.
 use mathlib.Core.Path.{sym, ◌∙◌}
-use Prim.Native.Nat.{◌+◌, ◌<◌}
+use Prim.Native.Nat.{◌<◌}
 use native.Mathlib.Omega.{arith}
 use borrow.Author.Tests.{not-true, not-false}
-use lib.Seq.{length-take-le}
 use Rattle.names.proofs.Question.{few_of, unfit_long, unfit_open, unfit_sizes, fit_rest}
 use Rattle.name_index.proofs.QuestionLaws.{refused, accepted}
 use Rattle.name_index.proofs.index_names.Goals as goal

@@ -1,5 +1,4 @@
 -- `name_index::search` meets its contract. Invariant: the walk has passed the places read. Assumes nothing.
-use Prim.Native.Nat.{◌-◌}
 use native.Mathlib.Omega.{arith}
 use Rattle.name_index.proofs.StepLaws.{walked_all, walked_free, walked_here, walked_on}
 use Rattle.name_index.proofs.WalkLaws.{passed_none}

@@ -1,6 +1,5 @@
 -- `names::count_names` meets its contract. Invariant: the names passed and those from `at` on are all names. Assumes nothing.
 use mathlib.Core.Path.{ap}
-use Prim.Native.Nat.{◌-◌}
 use native.Mathlib.Omega.{arith}
 use lib.ListN.{length}
 use Rattle.names.proofs.Laws.{past_end, next_count}

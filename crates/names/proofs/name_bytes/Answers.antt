@@ -1,7 +1,6 @@
 -- `names::name_bytes` meets its contract. Invariant: the name sought is the one `left` places on from `at`. Assumes nothing.
 use mathlib.Core.Path.{refl, sym, ap, ◌∙◌}
 use mathlib.Core.List.{List, []}
-use Prim.Native.Nat.{◌-◌}
 use native.Mathlib.Omega.{arith}
 use borrow.Author.Tests.{lt-leb}
 use lib.ListN.{get_or}

@@ -1,7 +1,6 @@
 -- `names::name_end` meets its contract. Invariant: what is passed and what is still before the end add up to the name's
 -- size. Assumes nothing.
 use mathlib.Core.Path.{refl}
-use Prim.Native.Nat.{◌-◌}
 use native.Mathlib.Omega.{arith}
 use Rattle.names.proofs.Laws.{size_end, size_more, size_out}
 use Rattle.names.proofs.name_end.Goals as goal

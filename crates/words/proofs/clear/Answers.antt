@@ -1,7 +1,7 @@
 -- `clear` meets its contract. The loop's invariant: the words passed are zero. Assumes nothing.
 use mathlib.Core.List.{List}
 use mathlib.Core.Path.{refl, ap, ◌∙◌}
-use Prim.Native.Nat.{◌<◌, ℕ, ◌≤◌, ◌-◌}
+use Prim.Native.Nat.{◌<◌, ℕ, ◌≤◌}
 use native.Mathlib.Omega.{arith}
 use borrow.Author.Fill.{fill_none, fill_more}
 use lib.ListN.{length-set, set, length}

@@ -1,5 +1,4 @@
 -- `put_words` meets its contract. Invariant: so many words are put. The measure is how many are left. Assumes nothing.
-use Prim.Native.Nat.{◌-◌}
 use native.Mathlib.Omega.{arith}
 use Rattle.words.proofs.PutLaws.{putting_start, putting_more, putting_end}
 use Rattle.words.proofs.put_words.Goals as goal

@@ -1,7 +1,5 @@
 use lib.ListN.{get_or-eq_default}
 use mathlib.Core.Path.{sym}
-use Rattle.words.proofs.word_at.Reads as reads
-use Rattle.words.proofs.word_at.Lts as lts
 use Rattle.words.proofs.word_at.Goals as goal
 
 pub returns-else-place-words : goal.returns-else-place-words

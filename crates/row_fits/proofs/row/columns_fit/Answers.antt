@@ -1,4 +1,3 @@
-use Rattle.definition.specs.Shape.{holds}
 use Rattle.row_fits.specs.Pass.{columns_ok}
 use Rattle.row_fits.proofs.row.columns_fit.Goals as goal
 

@@ -1,0 +1,22 @@
+use Rattle.class_rows.specs.Places.{Placed}
+use Rattle.after.specs.Rows.{rows_in}
+use Rattle.store.specs.Stored.{store_of}
+use Rattle.store.specs.declared.nodes.Store.{Store}
+use Rattle.sink.specs.Sink.{sink, emit_all}
+use Rattle.definition.specs.Basics.{concat_map, from}
+use Rattle.outside.specs.Words.{over}
+use lib.ListN.{length}
+use mathlib.Core.Path.{◌≡◌}
+use Prim.Native.Nat.{◌-◌, ◌/◌, ◌≤◌}
+use Rattle.answer_rows.proofs.emit_each.Given as goal
+
+abbrev pub invariant-loop-row : goal.invariant-loop-row
+invariant-loop-row l =
+    ((o : Store)
+    → emit_all (concat_map (rows_in (over l.outside) l.sheet (store_of o l.results l.nodes)) (from l.row (length l.sheet / 8 - l.row))) (sink l.k l.out)
+    ≡ emit_all (concat_map (rows_in (over l.outside) l.sheet (store_of o l.results l.nodes)) (from 0 (length l.sheet / 8))) (sink 0 l.initial.out))
+    × (l.row ≤ length l.sheet / 8) × (length l.out ≡ length l.initial.out) × (length l.starts ≡ length l.initial.starts)
+    × (Placed (over l.outside) l.sheet l.results l.nodes l.starts l.out l.row l.k)
+
+abbrev pub decreases-loop-row : goal.decreases-loop-row
+decreases-loop-row l = length l.sheet / 8 - l.row

@@ -1,0 +1,12 @@
+use Rattle.answer_rows.proofs.ScratchLaws.{scratch_zeros, rows_most}
+use Rattle.answer_rows.proofs.ReadyLaws.{few_fields}
+use mathlib.Core.Path.{refl}
+use Rattle.answer_rows.proofs.emit_rows.Goals as goal
+
+pub emit_linked-requires : goal.emit_linked-requires
+emit_linked-requires c =
+    (c.requires.0, few_fields c.requires.0 c.requires.1, scratch_zeros _ 2048 (rows_most _ c.requires.0), refl)
+
+pub returns : goal.returns
+returns c =
+    c.emit_linked.ensures c.args.store

@@ -1,0 +1,25 @@
+use mathlib.Core.Path.{sym, ap, ◌∙◌}
+use mathlib.Core.Bool.{Bool}
+use mathlib.Core.List.{List}
+use Prim.Native.Nat.{ℕ, ◌*◌}
+use lib.Seq.{sets}
+use borrow.Author.Tests.{eq-eqb, ne_eqb}
+use Rattle.definition.specs.Basics.{bit}
+use Rattle.store.specs.Stored.{store_of}
+use Rattle.entry_classes.proofs.RowLaws.{class_in_lem, class_none}
+use Rattle.entry_classes.proofs.append_class.Goals as goal
+
+pub returns-then-row-ne-CLASS_COUNTS : goal.returns-then-row-ne-CLASS_COUNTS
+returns-then-row-ne-CLASS_COUNTS c = (
+  ap (λ (t : Bool). 5 * bit t) (sym (ne_eqb _ 22 c.if-row-ne-CLASS_COUNTS.true)),
+  λ o q. class_none c.args.sheet.now (store_of o c.args.results.now q) c.args.base c.args.row.now
+      c.args.words.now c.args.place c.if-row-ne-CLASS_COUNTS.true,
+)
+
+pub returns : goal.returns
+returns c = (
+  ap (λ (t : Bool). 5 * bit t) (sym (eq-eqb _ 22 c.if-row-ne-CLASS_COUNTS.false)),
+  λ o q. c.put_class.ensures
+      ∙ ap (λ (ws : List ℕ). sets c.args.words.now c.args.place ws) (c.class_of.ensures o q
+      ∙ class_in_lem c.args.sheet.now (store_of o c.args.results.now q) c.args.base c.args.row.now c.if-row-ne-CLASS_COUNTS.false),
+)

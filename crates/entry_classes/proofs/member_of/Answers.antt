@@ -1,0 +1,18 @@
+use mathlib.Core.Path.{◌∙◌}
+use Rattle.store.specs.Stored.{store_of}
+use Rattle.outside.specs.Words.{over}
+use Rattle.entry_classes.proofs.RowLaws.{row_below, field_told, method_told_lem}
+use Rattle.entry_classes.proofs.member_of.Goals as goal
+
+pub returns-then-row-eq-FIELD : goal.returns-then-row-eq-FIELD
+returns-then-row-eq-FIELD c =
+    λ o q. field_told c.args.sheet.now (store_of o c.args.results.now q) c.args.base c.args.row.now (over c.args.outside.now) c.if-row-eq-FIELD.true
+
+pub method_of-requires : goal.method_of-requires
+method_of-requires c =
+    (c.requires.0, row_below c.args.row.now c.requires.2, c.requires.3)
+
+pub returns : goal.returns
+returns c =
+    λ o q. c.method_of.ensures o q
+    ∙ method_told_lem c.args.sheet.now (store_of o c.args.results.now q) c.args.base c.args.row.now (over c.args.outside.now) c.if-row-eq-FIELD.false
