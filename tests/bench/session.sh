@@ -14,7 +14,7 @@ mkdir -p "$out"
 out=$(cd "$out" && pwd)
 bench="$out/repository/crates/session_bench"
 rm -rf "$out/repository/crates"
-mkdir -p "$bench/src"
+mkdir -p "$bench/src" "$bench/proofs/bench_outside"
 
 # the libraries, and one more that exports what is timed
 cp -R "$top"/crates/* "$out/repository/crates/"
@@ -55,7 +55,6 @@ pub extern "C" fn bench_check(words: &[u32], bytes: &[u8]) -> usize {
     check_session(words, bytes, &mut starts, &mut index)
 }
 
-#[tactic(auto, using(session_names::proofs::NameLaws::listing_some, session_outside::proofs::ReadableLaws::readable))]
 #[unsafe(no_mangle)]
 pub extern "C" fn bench_outside(words: &[u32], bytes: &[u8], out: &mut [u32]) -> usize {
     let mut starts = [0u32; 1025];
@@ -72,6 +71,17 @@ pub extern "C" fn bench_outside(words: &[u32], bytes: &[u8], out: &mut [u32]) ->
     size
 }
 END_OF_CRATE
+cat > "$bench/proofs/bench_outside/Answers.antt" <<'END_OF_PROOF'
+use Rattle.std.proofs.Common.{arith}
+use Rattle.session_names.proofs.NameLaws.{listing_some}
+use Rattle.session_outside.proofs.ReadableLaws.{readable}
+use Rattle.session_bench.proofs.bench_outside.Goals as goal
+
+pub outside_words-requires : goal.outside_words-requires
+outside_words-requires c =
+    (readable c.args.words.now c.args.bytes.now (listing_some c.check_session-count.ensures c.if-count-eq0.false),
+    omega (arith, c.if-out-size.false, c.outside_size-size.ensures))
+END_OF_PROOF
 (cd "$out/repository/crates/session_bench" && rt lib > "$out/session_staticlib.log" 2>&1) || { tail -20 "$out/session_staticlib.log"; exit 1; }
 "$here/../oracle/build.sh" "$plush" "$out/oracle" > /dev/null
 rustc --edition 2021 -O -L "$out/repository/crates/session_bench/out" -l static=session_bench "$here/session_driver.rs" -o "$out/session_driver"
