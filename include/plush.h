@@ -1,6 +1,6 @@
 /* plush.h: the symbol resolver of Plush, as a library to link (libplush.a).
  *
- * Build it in the repository's top folder with `rt staticlib plush`; it is then target/staticlib/libplush.a, for x86-64 Linux.
+ * Build it in the folder crates/plush with `rt lib`; it is then crates/plush/out/libplush.a, for x86-64 Linux.
  * docs/FORMAT.md says what sheets, names and answer rows are; the names of the constants below stand for its numbers.
  *
  * What every routine here does:

@@ -1,7 +1,7 @@
 /* resolve SHEET NAMES: resolves a sheet, given as text, and prints in words what each of its names means.
  *
- *     rt staticlib plush
- *     gcc -std=c11 -O2 -Iinclude examples/c/resolve.c target/staticlib/libplush.a -o resolve
+ *     (cd crates/plush && rt lib)
+ *     gcc -std=c11 -O2 -Iinclude examples/c/resolve.c crates/plush/out/libplush.a -o resolve
  *     ./resolve crates/plush_resolve/data/sheet.txt crates/plush_resolve/data/names.txt
  *
  * An editor that has its sheet in memory needs no more than `show` and what it calls.

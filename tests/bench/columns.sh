@@ -15,19 +15,21 @@ for crate in definition ast machine words columns; do
     cp -R "$top/crates/$crate" "$out/repository/crates/"
 done
 grep -E '^(definition|ast|machine|words|columns):' "$top/crates.txt" > "$out/repository/crates.txt"
-echo 'bench_columns: columns' >> "$out/repository/crates.txt"
+echo 'bench_columns staticlib: columns' >> "$out/repository/crates.txt"
 mkdir -p "$out/repository/crates/bench_columns/src"
 cat > "$out/repository/crates/bench_columns/src/lib.rt" <<'END_OF_CRATE'
-#[no_mangle]
+#![tactic(auto)]
+
+#[unsafe(no_mangle)]
 pub extern "C" fn bench_to_columns(source: &[u32], target: &mut [u32]) -> u32 {
     columns::to_columns(source, target)
 }
 
-#[no_mangle]
+#[unsafe(no_mangle)]
 pub extern "C" fn bench_from_columns(source: &[u32], target: &mut [u32]) -> u32 {
     columns::from_columns(source, target)
 }
 END_OF_CRATE
-(cd "$out/repository" && rt staticlib bench_columns > "$out/staticlib.log" 2>&1) || { tail -20 "$out/staticlib.log"; exit 1; }
-rustc --edition 2021 -O -L "$out/repository/target/staticlib" -l static=bench_columns "$here/columns.rs" -o "$out/columns"
+(cd "$out/repository/crates/bench_columns" && rt lib > "$out/staticlib.log" 2>&1) || { tail -20 "$out/staticlib.log"; exit 1; }
+rustc --edition 2021 -O -L "$out/repository/crates/bench_columns/out" -l static=bench_columns "$here/columns.rs" -o "$out/columns"
 "$out/columns" "$count"

@@ -18,27 +18,29 @@ for crate in $crates; do
     cp -R "$top/crates/$crate" "$out/repository/crates/"
     grep "^$crate:" "$top/crates.txt" >> "$out/repository/crates.txt"
 done
-echo 'bench_order: lexer answer first_four order_units' >> "$out/repository/crates.txt"
+echo 'bench_order staticlib: lexer answer first_four order_units' >> "$out/repository/crates.txt"
 mkdir -p "$out/repository/crates/bench_order/src"
 cat > "$out/repository/crates/bench_order/src/lib.rt" <<'END_OF_CRATE'
-#[no_mangle]
+#![tactic(auto)]
+
+#[unsafe(no_mangle)]
 pub extern "C" fn bench_order(sheet: &[u32], names: &[u8], list: &mut [u32]) -> u32 {
     let answer = order_units::order_units(sheet, names, list);
     answer.number
 }
 
-#[no_mangle]
+#[unsafe(no_mangle)]
 pub extern "C" fn bench_position(sheet: &[u32], names: &[u8], list: &mut [u32]) -> u64 {
     let answer = order_units::order_units(sheet, names, list);
     let pos = answer.pos;
     pos.0
 }
 
-#[no_mangle]
+#[unsafe(no_mangle)]
 pub extern "C" fn bench_first_four(sheet: &[u32], names: &[u8]) -> u32 {
     first_four::first_four(sheet, names)
 }
 END_OF_CRATE
-(cd "$out/repository" && rt staticlib bench_order > "$out/staticlib.log" 2>&1) || { tail -20 "$out/staticlib.log"; exit 1; }
-rustc --edition 2021 -O -L "$out/repository/target/staticlib" -l static=bench_order "$here/order.rs" -o "$out/order"
+(cd "$out/repository/crates/bench_order" && rt lib > "$out/staticlib.log" 2>&1) || { tail -20 "$out/staticlib.log"; exit 1; }
+rustc --edition 2021 -O -L "$out/repository/crates/bench_order/out" -l static=bench_order "$here/order.rs" -o "$out/order"
 "$out/order" "$count"

@@ -18,33 +18,35 @@ mkdir -p "$out/repository/crates/bench/src"
 # the libraries, and one more that exports what is timed
 cp -R "$top"/crates/* "$out/repository/crates/"
 grep -v -E '^(question_tests|columns_tests|plush_resolve|plush_serve):' "$top/crates.txt" > "$out/repository/crates.txt"
-echo 'bench: first_four answer resolver resolve_text text' >> "$out/repository/crates.txt"
+echo 'bench staticlib: first_four answer resolver resolve_text text' >> "$out/repository/crates.txt"
 (cd "$out/repository/crates" && rm -rf question_tests columns_tests plush_resolve plush_serve)
 cat > "$out/repository/crates/bench/src/lib.rt" <<'END_OF_CRATE'
-#[no_mangle]
+#![tactic(auto)]
+
+#[unsafe(no_mangle)]
 pub extern "C" fn bench_first_four(words: &[u32], names: &[u8]) -> u32 {
     first_four::first_four(words, names)
 }
 
-#[no_mangle]
+#[unsafe(no_mangle)]
 pub extern "C" fn bench_resolve(words: &[u32], names: &[u8], out: &mut [u32]) -> u32 {
     let answer = resolver::resolve(words, names, out);
     answer.number
 }
 
-#[no_mangle]
+#[unsafe(no_mangle)]
 pub extern "C" fn bench_read_sheet(sheet: &[u8], words: &mut [u32]) -> usize {
     text::read_sheet(sheet, words)
 }
 
-#[no_mangle]
+#[unsafe(no_mangle)]
 pub extern "C" fn bench_resolve_text(sheet: &[u8], names: &[u8], text: &mut [u8]) -> usize {
     resolve_text::resolve_text(sheet, names, text)
 }
 END_OF_CRATE
-(cd "$out/repository" && rt staticlib bench > "$out/staticlib.log" 2>&1) || { tail -20 "$out/staticlib.log"; exit 1; }
+(cd "$out/repository/crates/bench" && rt lib > "$out/staticlib.log" 2>&1) || { tail -20 "$out/staticlib.log"; exit 1; }
 "$here/../oracle/build.sh" "$plush" "$out/oracle" > /dev/null
-rustc --edition 2021 -O -L "$out/repository/target/staticlib" -l static=bench "$here/driver.rs" -o "$out/driver"
+rustc --edition 2021 -O -L "$out/repository/crates/bench/out" -l static=bench "$here/driver.rs" -o "$out/driver"
 python3 "$here/make_cases.py" "$out/oracle/oracle" "$out/cases"
 
 : > "$out/times"

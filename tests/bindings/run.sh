@@ -2,7 +2,7 @@
 # run.sh OUT [--clone] [--count N] [--oracle PLUSH]
 # Tests of include/plush.h and bindings/rust, built in OUT. Needs rt, gcc, g++, cargo and Python 3, and no network.
 # --clone: builds the library from a clone of the repository, in which nothing is proved yet, and so measures the time from a clone to
-# a linked C program. Else crates that were proved before in target/ are not proved again.
+# a linked C program. Else what the crates' folders out/ keep is not proved again.
 # --count N: random sheets to compare (10,000). --oracle PLUSH: compares also with the Rust, whose src/symbols.rs is in PLUSH; the
 # distances of identifiers, which the Rust does not say, with tests/oracle/distance.py.
 set -e
@@ -32,8 +32,8 @@ else
     build=$top
 fi
 start=$(date +%s)
-(cd "$build" && rt staticlib plush > "$out/staticlib.log" 2>&1) || { tail -20 "$out/staticlib.log"; exit 1; }
-library=$build/target/staticlib
+(cd "$build/crates/plush" && rt lib > "$out/staticlib.log" 2>&1) || { tail -20 "$out/staticlib.log"; exit 1; }
+library=$build/crates/plush/out
 gcc $flags "$top/examples/c/resolve.c" "$library/libplush.a" -o "$out/resolve_c"
 echo "${clone:+from a clone: }library and C example linked in $(($(date +%s) - start)) s"
 
@@ -90,10 +90,10 @@ cargo build --offline --quiet --release --manifest-path "$top/bindings/rust/Carg
 rustc --edition 2021 -O "$here/batch.rs" --extern plush="$out/cargo/release/libplush.rlib" -L native="$library" -o "$out/batch_rust"
 rustc --edition 2021 -O "$here/session.rs" --extern plush="$out/cargo/release/libplush.rlib" -L native="$library" -o "$out/session_rust"
 "$out/session_rust"
-(cd "$build" && rt check plush_serve > "$out/serve.log" 2>&1) || { tail -20 "$out/serve.log"; exit 1; }
+(cd "$build/crates/plush_serve" && rt run < /dev/null > "$out/serve.log" 2>&1) || { tail -20 "$out/serve.log"; exit 1; }
 oracle=
 if [ -n "$plush" ]; then
     "$here/../oracle/build.sh" "$plush" "$out/oracle" > /dev/null
     oracle=$out/oracle/oracle
 fi
-python3 "$here/compare.py" "$build/target/bin/plush_serve" "$out/batch_c" "$out/batch_rust" "$count" $oracle
+python3 "$here/compare.py" "$build/crates/plush_serve/out/plush_serve" "$out/batch_c" "$out/batch_rust" "$count" $oracle

@@ -40,11 +40,8 @@ PER_MODULE = 40
 MOST_ROWS = 110
 MOST_TEXT_ROWS = 25
 MOST_ANSWER_ROWS = 500
-HEAD = """use mathlib.Core.Path.{_≡_, refl}
-use mathlib.Core.List.{List, [], _∷_, _++_}
-use Prim.Native.Nat.{ℕ}
-use lib.ListN.{getD, replicate}
-use Rattle·definition.specs.Outcome.{outcome, report, buffer, printed}
+HEAD = """use Rattle.std.specs.Prelude.{◌≡◌, refl, ℕ, List, [], ◌∷◌, ◌++◌, get_or, replicate}
+use Rattle.definition.specs.Outcome.{outcome, report, buffer, printed}
 """
 
 
@@ -226,7 +223,7 @@ def claims(i, case):
         return case_text + claim(f"c{i}", f"printed s{i} n{i}", numbers(text_of(case.expected).encode()))
     outcome = f"(outcome s{i} n{i} {case.lent})"
     if len(case.expected) > MOST_ANSWER_ROWS:
-        return inputs(i, case) + claim(f"c{i}", f"getD (report {outcome}) 0 []", plain(case.expected[0]))
+        return inputs(i, case) + claim(f"c{i}", f"get_or (report {outcome}) 0 []", plain(case.expected[0]))
     rows = " ∷ ".join([f"({plain(row)})" for row in case.expected] + ["[]"])
     text = inputs(i, case) + claim(f"c{i}", f"report {outcome}", rows)
     if case.lent < 600 and i % 3 == 0:
@@ -237,11 +234,11 @@ def claims(i, case):
 def part_claims(case):
     """Of a case that differs: every number and answer row by itself, and which question is answered."""
     report = f"(report (outcome s0 n0 {case.lent}))"
-    parts = {f"number {i} of line 0": (f"getD (getD {report} 0 []) {i} 0", x) for i, x in enumerate(case.expected[0])}
+    parts = {f"number {i} of line 0": (f"get_or (get_or {report} 0 []) {i} 0", x) for i, x in enumerate(case.expected[0])}
     for i, row in enumerate(case.expected[1:], 1):
-        parts[f"line {i}"] = (f"getD {report} {i} []", plain(row))
+        parts[f"line {i}"] = (f"get_or {report} {i} []", plain(row))
     for question in range(23):
-        parts[f"question is {question}"] = (f"getD (getD {report} 0 []) 0 0", question)
+        parts[f"question is {question}"] = (f"get_or (get_or {report} 0 []) 0 0", question)
     text = HEAD + inputs(0, case)
     for i, (left, right) in enumerate(parts.values()):
         text += claim(f"c{i}", left, right)
@@ -253,7 +250,7 @@ def make_repository(folder, *crates):
     names, lines = [crate.resolve().name for crate in crates] + ["samples"], []
     for i, name in enumerate(names):
         (folder / f"crates/{name}/src").mkdir(parents=True)
-        (folder / f"crates/{name}/src/lib.rt").write_text("// Definitions and theorems alone: no routine.\n")
+        (folder / f"crates/{name}/src/lib.rt").write_text("// Definitions and theorems alone: no routine.\n#![tactic(auto)]\n")
         lines.append(f"{name}: {' '.join(names[:i])}".rstrip() + "\n")
     for crate in crates:
         shutil.copytree(crate / "specs", folder / f"crates/{crate.resolve().name}/specs")
@@ -265,7 +262,7 @@ def make_repository(folder, *crates):
 def failed_claims(folder, text):
     """The names of the claims that do not hold. A check that stops at a limit of the prover is an error."""
     (folder / "crates/samples/specs/Cases.antt").write_text(text)
-    done = subprocess.run(["rt", "dev", "samples"], cwd=folder, stdout=subprocess.PIPE, stderr=subprocess.STDOUT, text=True)
+    done = subprocess.run(["rt", "check"], cwd=folder / "crates/samples", stdout=subprocess.PIPE, stderr=subprocess.STDOUT, text=True)
     found = re.findall(r"^\S*Cases\.antt:\S+ error: `([abc]\d+)`", done.stdout, flags=re.M)
     if (done.returncode == 0) != (not found) or "stopped at the step limit" in done.stdout:
         raise RuntimeError(done.stdout[-3000:])

@@ -27,17 +27,14 @@ SHARE = 0.35
 # what a request does, as `kinds` of RunSamples tells it
 ACCEPTED, WITHDREW, REFUSED = 1, 2, 3
 
-HEAD = """use mathlib.Core.Path.{_≡_, refl}
-use mathlib.Core.List.{List, [], _∷_, _++_}
-use Prim.Native.Nat.{ℕ}
-use lib.ListN.{replicate, take}
-use Rattle·definition.specs.Meaning.{named, function, class, global}
-use Rattle·definition.specs.Outcome.{report}
-use Rattle·session.specs.Session.{Session, Accepted, fresh}
-use Rattle·session.specs.Enter.{entered, afterEntry}
-use Rattle·session.specs.Words.{Room, sessionIn}
-use Rattle·session.specs.Runs.{Memory, Request, entry, withdrawal, afterRun, effects, freshMemory}
-use Rattle·session.specs.RunSamples.{kinds}
+HEAD = """use Rattle.std.specs.Prelude.{◌≡◌, refl, ℕ, List, [], ◌∷◌, ◌++◌, replicate, take}
+use Rattle.definition.specs.Meaning.{named, function, class, global}
+use Rattle.definition.specs.Outcome.{report}
+use Rattle.session.specs.Session.{Session, Accepted, fresh}
+use Rattle.session.specs.Enter.{entered, after_entry}
+use Rattle.session.specs.Words.{Room, session_in}
+use Rattle.session.specs.Runs.{Memory, Request, entry, withdrawal, after_run, effects, fresh_memory}
+use Rattle.session.specs.RunSamples.{kinds}
 
 abbrev room : Room
 room = record { bytes = 300; entries = 8; laid = 50; classes = 20; members = 60 }
@@ -83,7 +80,7 @@ n{i} = {numbers(request.names)}
 abbrev S{i} : Session
 S{i} = {session_text(session)}
 """ + claim(f"c{i}", f"report (entered S{i} s{i} n{i} {8 * request.x})", joined(f"({plain(row)})" for row in out)) + \
-        claim(f"a{i}", f"afterEntry S{i} s{i} n{i} {8 * request.x}", session_text(after))
+        claim(f"a{i}", f"after_entry S{i} s{i} n{i} {8 * request.x}", session_text(after))
 
 
 def cases_of(count, seed):
@@ -136,10 +133,10 @@ abbrev q{i} : List Request
 q{i} = {joined(request_text(request) for request, _, _ in run)}
 
 abbrev M{i} : Memory
-M{i} = afterRun room (freshMemory room) q{i}
-""" + claim(f"k{i}", f"kinds (effects room (freshMemory room) q{i})", effects) + \
-        claim(f"r{i}", f"take 8 (M{i} .words)", plain(session_row(after))) + \
-        claim(f"h{i}", f"sessionIn room (M{i} .words) (M{i} .bytes)", session_text(after))
+M{i} = after_run room (fresh_memory room) q{i}
+""" + claim(f"k{i}", f"kinds (effects room (fresh_memory room) q{i})", effects) + \
+        claim(f"r{i}", f"take 8 M{i}.words", plain(session_row(after))) + \
+        claim(f"h{i}", f"session_in room M{i}.words M{i}.bytes", session_text(after))
 
 
 def main():

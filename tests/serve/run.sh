@@ -8,7 +8,7 @@ here=$(cd "$(dirname "$0")" && pwd)
 top=$(cd "$here/../.." && pwd)
 program=$1
 if [ -z "$program" ]; then
-    (cd "$top" && rt check plush_serve > /dev/null) || { echo "plush_serve is not proved"; exit 1; }
-    program=$top/target/bin/plush_serve
+    (cd "$top/crates/plush_serve" && rt run < /dev/null > /dev/null 2>&1) || { echo "plush_serve is not proved"; exit 1; }
+    program=$top/crates/plush_serve/out/plush_serve
 fi
 exec python3 "$here/broken.py" "$program"

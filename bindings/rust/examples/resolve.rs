@@ -1,8 +1,8 @@
 //! resolve SHEET NAMES: resolves a sheet, given as text, and prints in words what each of its names means.
 //!
-//!     rt staticlib plush
+//!     (cd crates/plush && rt lib)
 //!     cd bindings/rust
-//!     export PLUSH_LIB_DIR=$PWD/../../target/staticlib
+//!     export PLUSH_LIB_DIR=$PWD/../../crates/plush/out
 //!     cargo run --offline --example resolve ../../crates/plush_resolve/data/sheet.txt ../../crates/plush_resolve/data/names.txt
 use plush::{columns, Answer, AnswerRow, Kind, ANSWER_WORDS, ROW_WORDS};
 use std::process::ExitCode;

@@ -10,7 +10,7 @@
 #![tactic(auto)]
 
 use columns::{from_columns, to_columns};
-use libc::{STDIN_FILENO, STDOUT_FILENO};
+use program_io::read_full;
 use words::{put_entry, word};
 
 // Rows of 81 bytes in the buffer of the input.
@@ -52,29 +52,28 @@ fn mixed(checksum: u32, word: u32) -> u32 {
     ((checksum as u64 * 31 + word as u64) % 4294967291) as u32
 }
 
-fn print_number(n: u32) {
-    io::write_all(STDOUT_FILENO, b" ");
-    io::print_decimal(STDOUT_FILENO, n as u64);
+fn print_number(rt: &impl Print, n: u32) {
+    let _ = print!(rt; " {n}");
 }
 
-fn print_word(place: usize, word: u32) {
+fn print_word(rt: &impl Print, place: usize, word: u32) {
     if place < 40 {
-        print_number(word);
+        print_number(rt, word);
     }
 }
 
-fn print_case(answer: u32, target: &[u32]) {
-    io::print_decimal(STDOUT_FILENO, answer as u64);
+fn print_case(rt: &impl Print, answer: u32, target: &[u32]) {
+    let _ = print!(rt; "{answer}");
     let mut checksum: u32 = 0;
     let mut i: usize = 0;
     while i < target.len() {
-        print_word(i, target[i]);
+        print_word(rt, i, target[i]);
         checksum = mixed(checksum, target[i]);
         i += 1;
     }
-    io::write_all(STDOUT_FILENO, b" sum");
-    print_number(checksum);
-    io::write_all(STDOUT_FILENO, b"\n");
+    let _ = print!(rt; " sum");
+    print_number(rt, checksum);
+    let _ = println!(rt; "");
 }
 
 fn first_words(words: &[u32], count: usize) -> &[u32] {
@@ -85,22 +84,22 @@ fn first_words(words: &[u32], count: usize) -> &[u32] {
 }
 
 // The way back from what is stored, at the source's length, into the source's own words.
-fn try_back(stored: &[u32], source: &mut [u32], stale: u32) {
+fn try_back(rt: &impl Print, stored: &[u32], source: &mut [u32], stale: u32) {
     fill(source, stale, 0);
     let answer = from_columns(first_words(stored, source.len()), source);
-    print_case(answer, source);
+    print_case(rt, answer, source);
 }
 
-fn try_way(way: u32, source: &mut [u32], target: &mut [u32], stale: u32) {
+fn try_way(rt: &impl Print, way: u32, source: &mut [u32], target: &mut [u32], stale: u32) {
     if way == 2 {
         let answer = from_columns(source, target);
-        return print_case(answer, target);
+        return print_case(rt, answer, target);
     }
     let answer = to_columns(source, target);
     if way == 3 {
-        return try_back(target, source, stale);
+        return try_back(rt, target, source, stale);
     }
-    print_case(answer, target);
+    print_case(rt, answer, target);
 }
 
 fn fill_source(cases: &[u32], i: u32, source: &mut [u32]) {
@@ -109,7 +108,7 @@ fn fill_source(cases: &[u32], i: u32, source: &mut [u32]) {
 }
 
 // Case i, in the first words of `a` and `b`. A row that says no way is no case, and one that has no room there is left out.
-fn try_case(cases: &[u32], i: u32, a: &mut [u32], b: &mut [u32]) {
+fn try_case(rt: &impl Print, cases: &[u32], i: u32, a: &mut [u32], b: &mut [u32]) {
     let way = word(cases, i, WAY);
     if way == 0 {
         return;
@@ -125,25 +124,25 @@ fn try_case(cases: &[u32], i: u32, a: &mut [u32], b: &mut [u32]) {
     }
     fill_source(cases, i, &mut a[0..n]);
     fill(&mut b[0..m], stale, 0);
-    try_way(way, &mut a[0..n], &mut b[0..m], stale);
+    try_way(rt, way, &mut a[0..n], &mut b[0..m], stale);
 }
 
-fn try_cases(cases: &[u32], a: &mut [u32], b: &mut [u32]) {
+fn try_cases(rt: &impl Print, cases: &[u32], a: &mut [u32], b: &mut [u32]) {
     let mut i: u32 = 0;
     while i < MOST_CASES {
-        try_case(cases, i, a, b);
+        try_case(rt, cases, i, a, b);
         i += 1;
     }
 }
 
-fn main() {
-    let mut input = io::large_buffer();
-    let n = io::read_full(STDIN_FILENO, &mut input);
+fn main(rt: HostRuntime) {
+    let mut input = [0u8; 65536];
+    let n = read_full(&mut rt.stdin(), &mut input);
     // as many rows as the buffer holds
     let mut cases = [0u32; 6472];
     text::read_sheet(&input[..n], &mut cases);
     // 2,049 rows, and a target that is longer still
     let mut a = [0u32; 17000];
     let mut b = [0u32; 17000];
-    try_cases(&cases, &mut a, &mut b);
+    try_cases(&rt, &cases, &mut a, &mut b);
 }

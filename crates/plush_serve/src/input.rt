@@ -1,43 +1,36 @@
 // The bytes of a request.
 ghost use Rattle.std.specs.Prelude.{◌≤◌, length};
-ghost use Rattle.io.specs.Counts.{IsPrefixLen};
+ghost use Rattle.program_io.specs.Counts.{IsPrefixLen};
 
-use libc::STDIN_FILENO;
+use program_io::read_full;
+use std::io::Read;
 
 // Reads from `start` on until the bytes are full or the input ends, each time as many as there are: a pipe hands over few at once. Returns
 // how many bytes there are then.
-pub fn fill(bytes: &mut [u8], start: usize) -> usize
+pub fn fill<R: Read>(input: &mut R, bytes: &mut [u8], start: usize) -> usize
     requires { start ≤ length bytes.old }
     ensures { IsPrefixLen result bytes.new }
 {
-    let mut done = start;
-    while done < bytes.len() {
-        let got = libc::read(STDIN_FILENO, &mut bytes[done..]);
-        let more = io::count(got, &bytes[done..]);
-        if more == 0 {
-            return done;
-        }
-        done += more;
-    }
-    done
+    let more = read_full(input, &mut bytes[start..]);
+    start + more
 }
 
 // Reads n bytes, or as many of them as the lent ones hold. Returns how many; fewer where the input ends.
-pub fn read_part(n: usize, bytes: &mut [u8]) -> usize
+pub fn read_part<R: Read>(input: &mut R, n: usize, bytes: &mut [u8]) -> usize
     ensures { (IsPrefixLen result bytes.new) × (result ≤ n) }
 {
     if n < bytes.len() {
-        return fill(&mut bytes[..n], 0);
+        return fill(input, &mut bytes[..n], 0);
     }
-    fill(bytes, 0)
+    fill(input, bytes, 0)
 }
 
 // Reads n bytes part by part and keeps none. Returns false where the input ends before.
-pub fn skip(n: usize) -> bool {
+pub fn skip<R: Read>(input: &mut R, n: usize) -> bool {
     let mut part = [0u8; 4096];
     let mut left = n;
     while left > 0 {
-        let got = read_part(left, &mut part);
+        let got = read_part(input, left, &mut part);
         if got == 0 {
             return false;
         }
@@ -47,17 +40,17 @@ pub fn skip(n: usize) -> bool {
 }
 
 // A body of a request: how many of its bytes are kept, and whether all of it was there.
-#[derive(Drop)]
+#[derive(Clone, Copy)]
 pub struct Body {
     pub kept: usize,
     pub whole: bool,
 }
 
 // Reads a body of n bytes. What the lent bytes do not hold is read past.
-pub fn read_body(n: usize, bytes: &mut [u8]) -> Body
+pub fn read_body<R: Read>(input: &mut R, n: usize, bytes: &mut [u8]) -> Body
     ensures { IsPrefixLen result.kept bytes.new }
 {
-    let kept = read_part(n, bytes);
-    let whole = skip(n - kept);
+    let kept = read_part(input, n, bytes);
+    let whole = skip(input, n - kept);
     Body { kept, whole }
 }

@@ -18,21 +18,26 @@ ghost use Rattle.std.specs.Prelude.{◌≤◌, length};
 mod edit;
 
 use crate::edit::{Used, change, copy_words, edited, first_bytes, first_words, numbers, text_of};
-use libc::{STDIN_FILENO, STDOUT_FILENO};
+use program_io::read_full;
 
-fn ask(case: &[u8], words: &[u32], names: &[u8], used: Used) {
+fn ask(rt: &impl Print, case: &[u8], words: &[u32], names: &[u8], used: Used) {
     let no = first_four::first_four(
         first_words(words, used.words),
         first_bytes(names, used.names),
     );
-    io::write_all(STDOUT_FILENO, case);
-    io::write_all(STDOUT_FILENO, b": ");
-    io::print_decimal(STDOUT_FILENO, no as u64);
-    io::write_all(STDOUT_FILENO, b"\n");
+    let _ = rt.write_all(case);
+    let _ = println!(rt; ": {no}");
 }
 
 // One line of the script. The questions are asked of `work`, which is the sheet with the changes since the last case.
-fn step(line: &[u8], sheet: &mut [u32], work: &mut [u32], names: &mut [u8], used: Used) -> Used {
+fn step(
+    rt: &impl Print,
+    line: &[u8],
+    sheet: &mut [u32],
+    work: &mut [u32],
+    names: &mut [u8],
+    used: Used,
+) -> Used {
     if line.len() == 0 {
         return used;
     }
@@ -42,7 +47,7 @@ fn step(line: &[u8], sheet: &mut [u32], work: &mut [u32], names: &mut [u8], used
         return used;
     }
     if line[0] == b'?' {
-        ask(text_of(line), work, names, used);
+        ask(rt, text_of(line), work, names, used);
     }
     let next = edited(line[0], text_of(line), &args, sheet, names, used);
     copy_words(sheet, work, next.words);
@@ -64,22 +69,22 @@ fn line_end(script: &[u8], at: usize) -> usize
     i
 }
 
-fn run(script: &[u8], sheet: &mut [u32], work: &mut [u32], names: &mut [u8]) {
+fn run(rt: &impl Print, script: &[u8], sheet: &mut [u32], work: &mut [u32], names: &mut [u8]) {
     let mut used = Used { words: 0, names: 0 };
     let mut at = 0;
     while at < script.len() {
         let end = line_end(script, at);
-        used = step(&script[at..end], sheet, work, names, used);
+        used = step(rt, &script[at..end], sheet, work, names, used);
         at = end + 1;
     }
 }
 
-fn main() {
-    let mut script = io::large_buffer();
-    let n = io::read_full(STDIN_FILENO, &mut script);
+fn main(rt: HostRuntime) {
+    let mut script = [0u8; 65536];
+    let n = read_full(&mut rt.stdin(), &mut script);
     // 2,049 rows, and 32,769 bytes of names
     let mut sheet = [0u32; 16392];
     let mut work = [0u32; 16392];
     let mut names = [0u8; 32769];
-    run(&script[..n], &mut sheet, &mut work, &mut names);
+    run(&rt, &script[..n], &mut sheet, &mut work, &mut names);
 }

@@ -1,2 +1,0 @@
--- A step of the proofs.
-mod Laws
