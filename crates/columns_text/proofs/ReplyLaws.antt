@@ -10,7 +10,6 @@ use lib.Seq.{take_at, drop_at, length-take-le}
 use borrow.Author.Tests.{eq-eqb, ne_eqb}
 use borrow.Rule.Slice.PartMut.{put_mid}
 use Rattle.definition.specs.Basics.{if◌then◌else◌, concat_map}
-use Rattle.definition.specs.Sheet.{rows}
 use Rattle.definition.specs.Text.{sheet_of, text_of}
 use Rattle.definition.specs.Outcome.{Outcome, rows_fit, refused, report}
 use Rattle.definition.proofs.Format.Accepted.{Eights}

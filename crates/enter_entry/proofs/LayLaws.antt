@@ -18,7 +18,6 @@ use Rattle.definition.specs.Walk.{Event, enter, leave, loop, declare, bring, vis
 use Rattle.definition.specs.Scope.{Moment, history}
 use Rattle.definition.specs.Slots.{final_globals}
 use Rattle.definition.specs.Question.{Open, Refusal, open_on, ask_event, until_no}
-use Rattle.definition.specs.Outcome.{asked}
 use Rattle.machine.specs.Machine.{State}
 use Rattle.machine.specs.Reads.{walk_refusal}
 use Rattle.machine.proofs.Words.{sets_out}

@@ -10,7 +10,7 @@ use borrow.Author.Tests.{ltb-true, ltb-false}
 use Rattle.definition.specs.Sheet.{Sheet, rows}
 use Rattle.definition.specs.Scope.{history}
 use Rattle.definition.specs.Slots.{final_globals}
-use Rattle.definition.specs.Question.{Refusal, refusal, first_no}
+use Rattle.definition.specs.Question.{Refusal, first_no}
 use Rattle.definition.specs.Answer.{answers}
 use Rattle.definition.specs.Outcome.{refused_at}
 use Rattle.definition.proofs.Format.Accepted.{Eights, eights_answers}

@@ -1,5 +1,5 @@
 -- Places, computed.
-use Rattle.std.specs.Prelude.{◌≡◌, refl, true, false, [], ◌∷◌, ◌++◌, map, length}
+use Rattle.std.specs.Prelude.{◌≡◌, refl, true, false, [], ◌∷◌, ◌++◌, map}
 use Rattle.definition.specs.Bytes.{bytes}
 use Rattle.session.specs.Words.{fixed_bytes}
 use Rattle.name_place.specs.Place.{bytes_before, nowhere, place_of}

@@ -11,7 +11,7 @@ use lib.Dec.{eqb, leb, ltb}
 use borrow.Author.Tests.{eq-eqb, eqb-true, le-leb, ltb-true, ltb-false}
 use Rattle.definition.specs.Basics.{if◌then◌else◌, any, filter, unlike, place, from, concat_map}
 use Rattle.definition.specs.Names.{Name, fixed, listed, same_name, name_count, names_fit}
-use Rattle.definition.specs.Sheet.{Sheet, word, kind, a, b, rows}
+use Rattle.definition.specs.Sheet.{Sheet, word, kind, rows}
 use Rattle.definition.specs.Shape.{shape_of}
 use Rattle.definition.specs.Outcome.{rows_fit}
 use Rattle.session.specs.Session.{Session, all_names}

@@ -15,7 +15,7 @@ use Rattle.definition.specs.Outside.{core}
 use Rattle.definition.specs.Sheet.{Sheet}
 use Rattle.definition.specs.Outcome.{Outcome}
 use Rattle.definition.proofs.Lists.Tests.{T_true, true_of}
-use Rattle.session.specs.Session.{Accepted, Session, all_classes, backward, visible, names_shown}
+use Rattle.session.specs.Session.{Accepted, Session, all_classes, backward, visible}
 use Rattle.session.specs.Enter.{new_entry, entered}
 use Rattle.session.specs.Words.{whole, name_bytes, session_in, session_names_fit, runs_fit, session_fits, showing, name_text}
 use Rattle.session.specs.Withdraw.{withdrawn, words_without}

@@ -1,15 +1,15 @@
 -- Single points of sessions, computed: what question 23 refuses, the limits of 24, what entries leave and see.
-use Rattle.std.specs.Prelude.{◌≡◌, refl, Bool, true, false, List, [], ◌∷◌, ◌++◌, map, ℕ, ◌+◌, length, get_or, set, take, replicate}
+use Rattle.std.specs.Prelude.{◌≡◌, refl, Bool, true, false, List, [], ◌∷◌, ◌++◌, map, ℕ, ◌+◌, length, set, take, replicate}
 use Rattle.definition.specs.Bytes.{bytes}
 use Rattle.definition.specs.Basics.{from, concat_map}
 use Rattle.definition.specs.Names.{Name}
 use Rattle.definition.specs.Sheet.{Sheet}
 use Rattle.definition.specs.Meaning.{named, function, global}
 use Rattle.definition.specs.Answer.{eight}
-use Rattle.session.specs.Session.{Class, Accepted, Session, names_shown, within}
+use Rattle.session.specs.Session.{Class, Accepted, names_shown, within}
 use Rattle.session.specs.Enter.{new_entry, entered}
-use Rattle.session.specs.Words.{Room, fixed_bytes, fresh_words, fresh_bytes, session_in, session_fits, enter_words, name_text}
-use Rattle.session.specs.Samples.{little, told, words1, bytes1, words2, bytes2, sheet1, names1, sheet3}
+use Rattle.session.specs.Words.{fixed_bytes, fresh_words, fresh_bytes, session_in, session_fits, enter_words, name_text}
+use Rattle.session.specs.Samples.{little, told, words2, bytes2, sheet3}
 
 -- Question 23 of the session after the second sample, with words changed.
 abbrev holds : List (List ℕ) → List Bool

@@ -2,7 +2,7 @@
 use Rattle.std.specs.Prelude.{◌≡◌, refl, true, false, List, [], ◌∷◌, ◌++◌, map, ℕ, set, drop}
 use Rattle.definition.specs.Bytes.{bytes}
 use Rattle.definition.specs.Answer.{eight}
-use Rattle.definition.specs.Meaning.{named, function, class, global}
+use Rattle.definition.specs.Meaning.{named, class, global}
 use Rattle.definition.specs.Outside.{core}
 use Rattle.definition.specs.Outcome.{report}
 use Rattle.session.specs.Session.{visible}

@@ -13,7 +13,7 @@ use lib.Dec.{eqb, leb, T}
 use lib.Seq.{sets}
 use borrow.Author.Tests.{leb-true}
 use Rattle.definition.specs.Basics.{if◌then◌else◌, all, distinct, concat_map, from}
-use Rattle.definition.specs.Meaning.{Named, named, function, class, global}
+use Rattle.definition.specs.Meaning.{Named, function, class, global}
 use Rattle.definition.specs.Outside.{is_outward, core}
 use Rattle.definition.proofs.Lists.Tests.{and_both, and_left, and_right, true_of, T_true}
 use Rattle.definition.proofs.Lists.Members.{nodup_one, all_pass, map_mem, from_mem, distinct_mem, distinct_nodup, pigeonhole}

@@ -1,12 +1,10 @@
 -- The nodes of a row by its kind, and of rows one after another.
-use mathlib.Core.Path.{◌≡◌, refl, sym, ap, ◌∙◌}
-use mathlib.Core.Bool.{Bool, true, false, ◌||◌}
-use mathlib.Core.List.{List, [], ◌∷◌, ◌++◌}
-use Prim.Native.Nat.{ℕ, zero, suc, ◌+◌, ◌≤◌}
+use mathlib.Core.Path.{◌≡◌, sym, ap, ◌∙◌}
+use mathlib.Core.List.{[], ◌∷◌}
+use Prim.Native.Nat.{ℕ, suc, ◌+◌}
 use native.Mathlib.Omega.{arith}
-use lib.Dec.{eqb}
 use borrow.Author.Tests.{eq-eqb, ne_eqb}
-use Rattle.definition.specs.Basics.{if◌then◌else◌, total, from}
+use Rattle.definition.specs.Basics.{total, from}
 use Rattle.definition.specs.Sheet.{Sheet, kind, rows}
 use Rattle.definition.proofs.Lists.Members.{total_append}
 use Rattle.definition.proofs.Format.Passes.{from_suc}

@@ -6,7 +6,7 @@ use Prim.Native.Nat.{ℕ, ◌-◌, ◌<◌, ◌≤◌}
 use native.Mathlib.Omega.{arith}
 use lib.ListN.{length, get_or, set}
 use lib.Seq.{sets}
-use lib.Dec.{eqb, leb, T, leb→le}
+use lib.Dec.{eqb, T, leb→le}
 use borrow.Author.Tests.{ne_eqb, eqb-false}
 use Rattle.definition.specs.Basics.{if◌then◌else◌}
 use Rattle.definition.specs.Outcome.{refused}

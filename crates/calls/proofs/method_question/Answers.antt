@@ -1,8 +1,4 @@
 use borrow.Author.Tests.{ne_eqb, eq-eqb}
-use Rattle.calls.proofs.method_question.Reads as reads
-use Rattle.calls.proofs.method_question.Lts as lts
-use Rattle.outside.proofs.records.has_record.Reads as has_record_reads
-use Rattle.sheet.proofs.arguments.Reads as arguments_reads
 use Rattle.calls.proofs.method_question.Goals as goal
 
 pub returns-then-not-has_record : goal.returns-then-not-has_record

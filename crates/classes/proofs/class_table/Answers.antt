@@ -2,7 +2,6 @@
 use Rattle.classes.proofs.Filling.{filled_none, next_turn, filled_all}
 use Rattle.machine.proofs.Theorems.{rows_few}
 use native.Mathlib.Omega.{arith}
-use Prim.Native.Nat.{◌-◌}
 use mathlib.Core.Path.{refl}
 use Rattle.classes.proofs.class_table.Goals as goal
 

@@ -1,6 +1,5 @@
 -- `entry_sheet` meets its contract. Invariant: the words before place i are written. Assumes nothing.
 use mathlib.Core.Path.{refl, ◌∙◌}
-use Prim.Native.Nat.{◌-◌}
 use native.Mathlib.Omega.{arith}
 use lib.ListN.{length-set}
 use Rattle.entry_names.proofs.SheetLaws.{sheet_told, word_written}

@@ -1,6 +1,6 @@
 -- `number_names` meets its contract. Invariant: the names before `at` are numbered and counted. Assumes nothing.
 use mathlib.Core.Path.{ap, ◌∙◌}
-use Prim.Native.Nat.{◌+◌, ◌-◌}
+use Prim.Native.Nat.{◌+◌}
 use native.Mathlib.Omega.{arith}
 use lib.ListN.{length-set}
 use Rattle.names.proofs.Laws.{table_size}

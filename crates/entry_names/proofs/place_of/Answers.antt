@@ -1,6 +1,5 @@
 -- `place_of` meets its contract. Invariant: the number is not among the first k. Assumes nothing.
 use mathlib.Core.Path.{ap}
-use Prim.Native.Nat.{◌-◌}
 use native.Mathlib.Omega.{arith}
 use lib.Dec.{eqb}
 use lib.ListN.{drop_of_length-le}

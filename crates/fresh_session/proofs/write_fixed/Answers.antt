@@ -1,4 +1,3 @@
-use Prim.Native.Nat.{◌-◌}
 use native.Mathlib.Omega.{arith}
 use Rattle.fresh_session.proofs.FreshLaws.{writing_start, writing_more, writing_end}
 use Rattle.fresh_session.proofs.write_fixed.Goals as goal

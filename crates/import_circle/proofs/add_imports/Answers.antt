@@ -1,6 +1,5 @@
 use mathlib.Core.Logic.{⊎_elim}
 use mathlib.Core.Path.{refl, ◌∙◌}
-use Prim.Native.Nat.{◌-◌}
 use native.Mathlib.Omega.{arith}
 use Rattle.start_units.proofs.ReadyLaws.{next_row}
 use Rattle.import_circle.proofs.FoundLaws.{adding_start, adding_wide, adding_more, adding_end}

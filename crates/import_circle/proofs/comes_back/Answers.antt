@@ -1,6 +1,5 @@
 use mathlib.Core.List.{[]}
 use mathlib.Core.Path.{refl, ◌∙◌}
-use Prim.Native.Nat.{◌-◌}
 use native.Mathlib.Omega.{arith}
 use Rattle.unit_order.specs.Order.{imports_of}
 use Rattle.import_circle.proofs.SearchLaws.{searching_start, next_unit, next_found, back_met, back_end}

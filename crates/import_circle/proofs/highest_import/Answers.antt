@@ -1,5 +1,4 @@
 use mathlib.Core.Logic.{⊎_elim}
-use Prim.Native.Nat.{◌-◌}
 use native.Mathlib.Omega.{arith}
 use Rattle.start_units.proofs.ReadyLaws.{next_row}
 use Rattle.import_circle.proofs.RankLaws.{ranked_start, ranked_more, ranked_end}

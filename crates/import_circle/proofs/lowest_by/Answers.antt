@@ -1,4 +1,3 @@
-use Prim.Native.Nat.{◌-◌}
 use native.Mathlib.Omega.{arith}
 use Rattle.import_circle.proofs.RankLaws.{lowest_start, lowest_here, lowest_more, lowest_none}
 use Rattle.import_circle.proofs.lowest_by.Goals as goal

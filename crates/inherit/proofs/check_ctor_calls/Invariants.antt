@@ -1,6 +1,5 @@
 use mathlib.Core.List.{map}
 use mathlib.Core.Path.{◌≡◌}
-use Prim.Native.Nat.{◌-◌}
 use Rattle.definition.specs.Question.{first_no}
 use Rattle.outside.specs.Words.{over}
 use Rattle.machine.specs.Machine.{chain_to}

@@ -4,10 +4,6 @@ use Rattle.outside.proofs.RecordLaws.{tells_as, tells_none}
 use Rattle.outside.specs.Words.{over}
 use native.Mathlib.Omega.{arith}
 use mathlib.Core.Path.{refl, ◌∙◌}
-use Rattle.inherit.proofs.find_method.Reads as reads
-use Rattle.inherit.proofs.find_method.Lts as lts
-use Rattle.inherit.proofs.parent_of.Reads as parent_of_reads
-use Rattle.outside.proofs.records.own_method.Reads as own_method_reads
 use Rattle.inherit.proofs.find_method.Goals as goal
 
 pub loop-left-init : goal.loop-left-init

@@ -6,10 +6,6 @@ use Rattle.definition.specs.Classes.{method_of}
 use Prim.Native.Nat.{ℕ}
 use mathlib.Core.Path.{◌≡◌}
 use mathlib.Core.List.{List}
-use Rattle.inherit.proofs.find_method.Reads as reads
-use Rattle.inherit.proofs.find_method.Lts as lts
-use Rattle.inherit.proofs.parent_of.Reads as parent_of_reads
-use Rattle.outside.proofs.records.own_method.Reads as own_method_reads
 use Rattle.inherit.proofs.find_method.Given as goal
 
 abbrev pub invariant-loop-left : goal.invariant-loop-left

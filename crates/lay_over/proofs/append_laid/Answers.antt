@@ -1,4 +1,3 @@
-use Prim.Native.Nat.{◌-◌}
 use native.Mathlib.Omega.{arith}
 use Rattle.lay_over.proofs.LaidLaws.{laying_start, laying_more, laying_near, laying_end}
 use Rattle.lay_over.proofs.append_laid.Goals as goal

@@ -1,4 +1,3 @@
-use Prim.Native.Nat.{◌-◌}
 use native.Mathlib.Omega.{arith}
 use Rattle.lay_over.proofs.LaidLaws.{counting_start, counting_more, counting_end}
 use Rattle.lay_over.proofs.count_laid.Goals as goal

@@ -1,6 +1,4 @@
 -- `place_in` meets its contract. Assumes nothing.
-use Prim.Native.Nat.{ℕ}
-use mathlib.Core.Path.{ap}
 use native.Mathlib.Omega.{arith}
 use Rattle.name_place.proofs.place_in.Goals as goal
 

@@ -1,5 +1,4 @@
 -- `start_of` meets its contract. Invariant: the bytes passed and those before the names left are all. The measure is how many bytes are left. Assumes nothing.
-use Prim.Native.Nat.{◌-◌}
 use native.Mathlib.Omega.{arith}
 use Rattle.name_place.proofs.PlaceLaws.{seeking_start, seeking_more, seeking_found, seeking_end}
 use Rattle.name_place.proofs.start_of.Goals as goal

@@ -1,5 +1,4 @@
 -- `put_start` meets its contract. Invariant: so many bytes are put. The measure is how many are left. Assumes nothing.
-use Prim.Native.Nat.{◌-◌}
 use native.Mathlib.Omega.{arith}
 use Rattle.name_reply.proofs.ReplyLaws.{putting_start, putting_more, putting_end}
 use Rattle.name_reply.proofs.put_start.Goals as goal

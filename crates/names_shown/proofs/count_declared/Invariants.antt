@@ -1,6 +1,6 @@
 -- `count_declared` meets its contract. Invariant: what is counted, the declarations that are left and the core names are what all give. Assumes nothing.
 use mathlib.Core.Path.{◌≡◌}
-use Prim.Native.Nat.{◌+◌, ◌-◌, ◌≤◌}
+use Prim.Native.Nat.{◌+◌, ◌≤◌}
 use lib.ListN.{length, get_or}
 use Rattle.session_outside.specs.Written.{firsts, names_below}
 use Rattle.names_shown.proofs.count_declared.Given as goal

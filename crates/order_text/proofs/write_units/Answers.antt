@@ -1,6 +1,5 @@
 -- `write_units` meets its contract. The loop's invariant: the words passed are written as rows. Assumes nothing.
 use mathlib.Core.Path.{refl}
-use Prim.Native.Nat.{◌-◌}
 use native.Mathlib.Omega.{arith}
 use lib.ListN.{length, length-set}
 use Rattle.order_text.proofs.ReplyLaws.{units_none, written_more, written_all}

@@ -1,4 +1,3 @@
-use Prim.Native.Nat.{◌-◌}
 use native.Mathlib.Omega.{arith}
 use Rattle.order_units.proofs.AskedLaws.{left_here, left_more, left_none}
 use Rattle.order_units.proofs.some_left.Goals as goal

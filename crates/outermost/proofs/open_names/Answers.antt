@@ -5,11 +5,6 @@ use Rattle.machine.specs.Machine.{no_scopes}
 use native.Mathlib.Omega.{arith}
 use Prim.Native.Nat.{◌-◌}
 use mathlib.Core.Path.{refl, ◌∙◌}
-use Rattle.outermost.proofs.open_names.Reads as reads
-use Rattle.outermost.proofs.open_names.Lts as lts
-use Rattle.outermost.proofs.visible_at.Reads as visible_at_reads
-use Rattle.symbols.proofs.decl.define.Reads as define_reads
-use Rattle.words.proofs.word.Reads as word_reads
 use Rattle.outermost.proofs.open_names.Goals as goal
 
 pub word-globals-requires : goal.word-globals-requires

@@ -2,13 +2,8 @@ use Rattle.outermost.proofs.OpenedLaws.{names_from}
 use Rattle.symbols.specs.OpenScopes.{scopes_of}
 use Rattle.machine.specs.Machine.{no_scopes, open_names}
 use lib.ListN.{length}
-use Prim.Native.Nat.{◌-◌, ◌≤◌, min}
+use Prim.Native.Nat.{◌≤◌, min}
 use mathlib.Core.Path.{◌≡◌}
-use Rattle.outermost.proofs.open_names.Reads as reads
-use Rattle.outermost.proofs.open_names.Lts as lts
-use Rattle.outermost.proofs.visible_at.Reads as visible_at_reads
-use Rattle.symbols.proofs.decl.define.Reads as define_reads
-use Rattle.words.proofs.word.Reads as word_reads
 use Rattle.outermost.proofs.open_names.Given as goal
 
 abbrev pub invariant-loop-i : goal.invariant-loop-i

@@ -1,10 +1,6 @@
-use Rattle.definition.specs.Sheet.{word}
 use Rattle.outside.specs.Words.{name_at}
 use borrow.Author.Tests.{ne_eqb}
 use mathlib.Core.Path.{sym, ◌∙◌}
-use Rattle.outermost.proofs.visible_at.Reads as reads
-use Rattle.outermost.proofs.visible_at.Lts as lts
-use Rattle.words.proofs.word.Reads as word_reads
 use Rattle.outermost.proofs.visible_at.Goals as goal
 
 pub returns-in-1 : goal.returns-in-1

@@ -2,8 +2,6 @@ use Rattle.row_fits.proofs.Laws.{row_fails, rows_pass}
 use Rattle.row_fits.specs.Pass.{depth_ok}
 use borrow.Author.Count.{below_more}
 use native.Mathlib.Omega.{arith}
-use Prim.Native.Nat.{◌-◌}
-use mathlib.Core.Bool.{true}
 use mathlib.Core.Path.{sym, ◌∙◌}
 use Rattle.passes.proofs.all_depths.Goals as goal
 

@@ -3,7 +3,6 @@ use lib.Dec.{T}
 use mathlib.Core.Path.{subst}
 use Rattle.row_fits.proofs.Laws.{rows_refused, rows_next, noted_next, rows_done, noted_done}
 use native.Mathlib.Omega.{arith}
-use Prim.Native.Nat.{◌-◌}
 use mathlib.Core.Path.{refl, sym, ◌∙◌}
 use Rattle.passes.proofs.fill.Goals as goal
 

@@ -1,5 +1,5 @@
 use native.Mathlib.Omega.{arith}
-use Rattle.raise.proofs.RowLaws.{row_function, row_class, row_method, row_owner, row_other, owner_below}
+use Rattle.raise.proofs.RowLaws.{row_function, row_class, row_method, row_other, owner_below}
 use Rattle.raise.proofs.raise_row.Goals as goal
 
 pub returns-in-1 : goal.returns-in-1

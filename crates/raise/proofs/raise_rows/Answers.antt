@@ -1,5 +1,4 @@
 -- `raise_rows` meets its contract. The loop's invariant: the rows passed are raised, those ahead are as they were.
-use Prim.Native.Nat.{◌-◌}
 use native.Mathlib.Omega.{arith}
 use lib.ListN.{length-take, length-drop}
 use Rattle.definition.specs.Answer.{raised_row}

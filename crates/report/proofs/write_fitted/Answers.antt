@@ -1,6 +1,5 @@
 -- `write_fitted` meets its contract. The loop's invariant: the words passed are written. Assumes nothing.
 use mathlib.Core.Path.{refl}
-use Prim.Native.Nat.{◌-◌}
 use native.Mathlib.Omega.{arith}
 use lib.ListN.{length-set}
 use Rattle.report.proofs.FitLaws.{fit_more, fit_all}

@@ -1,11 +1,5 @@
-use Rattle.resolve_syms.proofs.StartLaws.{units_walked, sheet_small, some_rows}
+use Rattle.resolve_syms.proofs.StartLaws.{units_walked, sheet_small}
 use Rattle.outside.specs.Words.{over}
-use native.Mathlib.Omega.{arith}
-use Rattle.resolve_syms.proofs.resolve_units.Reads as reads
-use Rattle.resolve_syms.proofs.resolve_units.Lts as lts
-use Rattle.classes.proofs.class_table.Reads as class_table_reads
-use Rattle.resolve_syms.proofs.cycle.resolve_parts.Reads as resolve_parts_reads
-use Rattle.outermost.proofs.open_names.Reads as open_names_reads
 use Rattle.resolve_syms.proofs.resolve_units.Goals as goal
 
 pub resolve_parts-requires : goal.resolve_parts-requires

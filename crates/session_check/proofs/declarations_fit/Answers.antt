@@ -1,5 +1,4 @@
 use mathlib.Core.List.{[]}
-use Prim.Native.Nat.{◌-◌}
 use native.Mathlib.Omega.{arith}
 use Rattle.session.specs.Words.{whole, laid_fits}
 use Rattle.session_rows.proofs.RunLaws.{all_refused, all_next, all_done}

@@ -1,5 +1,4 @@
 use mathlib.Core.Path.{refl}
-use Prim.Native.Nat.{◌-◌}
 use native.Mathlib.Omega.{arith}
 use Rattle.session_rows.proofs.RunLaws.{all_refused, all_next, all_done}
 use Rattle.session_check.specs.Clauses.{method_right, methods_right}

@@ -1,5 +1,4 @@
 use mathlib.Core.Path.{refl, ◌∙◌}
-use Prim.Native.Nat.{◌-◌}
 use native.Mathlib.Omega.{arith}
 use Rattle.session_check.proofs.MarkLaws.{left_start, left_refused, left_next, left_done, under_le, set_under, fresh_below, marked_if, unmarked_if}
 use Rattle.session_check.proofs.names_apart.Goals as goal

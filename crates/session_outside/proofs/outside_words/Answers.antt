@@ -1,5 +1,5 @@
 use mathlib.Core.Path.{ap}
-use Prim.Native.Nat.{ℕ, ◌+◌, ◌≤◌}
+use Prim.Native.Nat.{ℕ, ◌+◌}
 use native.Mathlib.Omega.{arith}
 use Rattle.session_outside.proofs.WholeLaws.{words_hold}
 use Rattle.session_outside.proofs.VisibleLaws.{names_few_lem}

@@ -1,5 +1,4 @@
 use mathlib.Core.Path.{refl}
-use Prim.Native.Nat.{◌-◌}
 use native.Mathlib.Omega.{arith}
 use Rattle.session_rows.proofs.RunLaws.{all_refused, all_next, all_done}
 use Rattle.session_rows.specs.Rows.{count_rises, counts_rise}

@@ -1,4 +1,3 @@
-use Prim.Native.Nat.{◌-◌}
 use native.Mathlib.Omega.{arith}
 use Rattle.session_rows.proofs.RunLaws.{all_refused, all_next, all_done}
 use Rattle.session_rows.specs.Rows.{number_rises, numbers_rise}

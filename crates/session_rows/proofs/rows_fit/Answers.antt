@@ -1,4 +1,3 @@
-use Prim.Native.Nat.{◌-◌}
 use native.Mathlib.Omega.{arith}
 use Rattle.session_rows.proofs.RunLaws.{all_start, all_refused, all_next, all_done}
 use Rattle.session_rows.specs.Rows.{row_right, rows_right}

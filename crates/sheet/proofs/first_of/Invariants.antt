@@ -1,5 +1,4 @@
 use mathlib.Core.Path.{◌≡◌}
-use Prim.Native.Nat.{◌-◌}
 use Rattle.definition.specs.Basics.{head}
 use Rattle.definition.specs.Sheet.{kids_of}
 use Rattle.sheet.proofs.ListLaws.{chain_of}

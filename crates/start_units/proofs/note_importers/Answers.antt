@@ -1,5 +1,4 @@
 use mathlib.Core.Path.{refl, ◌∙◌}
-use Prim.Native.Nat.{◌-◌}
 use native.Mathlib.Omega.{arith}
 use Rattle.start_units.proofs.NoteLaws.{noting_none, noting_more, noting_all}
 use Rattle.start_units.proofs.note_importers.Goals as goal

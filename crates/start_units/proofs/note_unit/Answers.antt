@@ -1,6 +1,5 @@
 use mathlib.Core.Logic.{⊎_elim}
 use mathlib.Core.Path.{refl, sym, ◌∙◌}
-use Prim.Native.Nat.{◌-◌}
 use native.Mathlib.Omega.{arith}
 use Rattle.start_units.proofs.NoteLaws.{note_more, note_end, note_start, note_none}
 use Rattle.start_units.proofs.ReadyLaws.{next_row}

@@ -1,5 +1,4 @@
 use mathlib.Core.Path.{refl, ◌∙◌}
-use Prim.Native.Nat.{◌-◌}
 use native.Mathlib.Omega.{arith}
 use Rattle.start_units.proofs.StartedLaws.{running_start, running_stop, running_full, running_more}
 use Rattle.start_units.proofs.start_all.Goals as goal

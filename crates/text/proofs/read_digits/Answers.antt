@@ -1,7 +1,6 @@
 -- `read_digits` meets its contract. The loop's invariant: what the digits write is the same from each digit on, with
 -- the number so far. Assumes nothing.
 use mathlib.Core.Path.{sym, refl, ◌∙◌}
-use Prim.Native.Nat.{◌-◌}
 use native.Mathlib.Nat.{one-le-pow}
 use native.Mathlib.Omega.{arith}
 use Rattle.text.proofs.Reading.{digit_low, digit_high, digit_passed, digits_end, ten_power}

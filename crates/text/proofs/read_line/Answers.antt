@@ -1,7 +1,6 @@
 -- `read_line` meets its contract. The loop's invariant: the columns passed are numbers, and the row has them. Assumes nothing.
 use mathlib.Core.Path.{◌∙◌, refl, sym, subst}
-use mathlib.Core.Bool.{true}
-use Prim.Native.Nat.{◌-◌, ◌<◌}
+use Prim.Native.Nat.{◌<◌}
 use native.Mathlib.Omega.{arith}
 use lib.Dec.{T}
 use lib.ListN.{length-set, length-take, length-drop, length}

@@ -1,6 +1,5 @@
 -- `read_sheet` meets its contract. The lines that are whole and good, then zeros. Assumes nothing.
 use mathlib.Core.Path.{ap, ◌∙◌}
-use Prim.Native.Nat.{◌*◌, ◌≤◌}
 use native.Mathlib.Omega.{arith}
 use lib.ListN.{length}
 use Rattle.text.proofs.Reading.{whole_lent, count_lent, words_left}

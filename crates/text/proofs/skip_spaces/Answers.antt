@@ -1,7 +1,6 @@
 -- `skip_spaces` meets its contract. The loop's invariant: what is left after trimming is the same from each space on.
 -- Assumes nothing.
 use mathlib.Core.Path.{refl, ◌∙◌}
-use Prim.Native.Nat.{◌-◌}
 use native.Mathlib.Omega.{arith}
 use Rattle.text.proofs.Reading.{space_passed, spaces_end, spaces_alone}
 use Rattle.text.proofs.skip_spaces.Goals as goal

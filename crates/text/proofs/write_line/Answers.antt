@@ -1,6 +1,6 @@
 -- `write_line` meets its contract. The loop's invariant: the columns passed are those of the row. Assumes nothing.
 use mathlib.Core.Path.{sym, refl, ◌∙◌}
-use Prim.Native.Nat.{◌+◌, ◌<◌, ◌≤◌, ◌-◌, ◌*◌}
+use Prim.Native.Nat.{◌+◌, ◌<◌, ◌≤◌, ◌*◌}
 use native.Mathlib.Omega.{arith}
 use lib.ListN.{length-set, length-take, length-drop, length}
 use Rattle.text.proofs.Writing.{number_written, line_written}

@@ -1,7 +1,7 @@
 -- `write_number` meets its contract. The loop's invariant: from place i on the column is that of the number, whose
 -- digits before it are left. Assumes nothing.
 use mathlib.Core.Path.{sym, subst, ◌∙◌, ◌≡◌}
-use Prim.Native.Nat.{ℕ, ◌-◌}
+use Prim.Native.Nat.{ℕ}
 use native.Mathlib.Omega.{arith}
 use lib.ListN.{length-set, drop}
 use Rattle.definition.specs.Text.{in_ten}

@@ -1,7 +1,7 @@
 -- `write_rows` meets its contract. The loop's invariant: the lines passed are those of the rows, and the rest is as
 -- before. Assumes nothing.
 use mathlib.Core.Path.{refl, ap, ◌∙◌, ◌≡◌}
-use Prim.Native.Nat.{◌+◌, ◌/◌, ◌≤◌, ◌-◌, ◌*◌}
+use Prim.Native.Nat.{◌+◌, ◌/◌, ◌≤◌, ◌*◌}
 use native.Mathlib.Omega.{arith}
 use lib.ListN.{length-take, length-drop, length}
 use Rattle.text.proofs.Writing.{row_number, row_written_lem, rest_kept, no_line, none_fit, text_left}

@@ -1,5 +1,4 @@
 use mathlib.Core.Path.{refl}
-use Prim.Native.Nat.{◌-◌}
 use native.Mathlib.Omega.{arith}
 use Rattle.walk_space.proofs.SpaceLaws.{nodes_more, nodes_all}
 use Rattle.walk_space.proofs.nodes_for.Goals as goal

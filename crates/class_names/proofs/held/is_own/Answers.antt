@@ -3,11 +3,6 @@ use Rattle.class_names.proofs.NameLaws.{own_row, own_record}
 use Rattle.store.specs.Stored.{store_of}
 use Rattle.outside.specs.Words.{over}
 use mathlib.Core.Path.{sym, ◌∙◌}
-use Rattle.class_names.proofs.held.is_own.Reads as reads
-use Rattle.class_names.proofs.held.is_own.Lts as lts
-use Rattle.class_names.proofs.held.is_recorded.Reads as is_recorded_reads
-use Rattle.class_names.proofs.held.is_row_name.Reads as is_row_name_reads
-use Rattle.sheet.proofs.is_class_row.Reads as is_class_row_reads
 use Rattle.class_names.proofs.held.is_own.Goals as goal
 
 pub overflow_sub-c : goal.overflow_sub-c

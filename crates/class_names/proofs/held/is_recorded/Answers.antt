@@ -2,10 +2,6 @@ use Rattle.definition.specs.Basics.{◌∈?◌}
 use Prim.Native.Nat.{ℕ}
 use mathlib.Core.List.{List}
 use mathlib.Core.Path.{ap, ◌∙◌}
-use Rattle.class_names.proofs.held.is_recorded.Reads as reads
-use Rattle.class_names.proofs.held.is_recorded.Lts as lts
-use Rattle.outside.proofs.records.is_listed.Reads as is_listed_reads
-use Rattle.outside.proofs.records.recorded_names.Reads as recorded_names_reads
 use Rattle.class_names.proofs.held.is_recorded.Goals as goal
 
 pub returns : goal.returns

@@ -1,11 +1,6 @@
 use Rattle.class_names.proofs.NameLaws.{row_listed, row_stored, row_none}
 use Rattle.store.specs.Stored.{store_of}
 use mathlib.Core.Path.{sym, ◌∙◌}
-use Rattle.class_names.proofs.held.is_row_name.Reads as reads
-use Rattle.class_names.proofs.held.is_row_name.Lts as lts
-use Rattle.store.proofs.nodes.has_key.Reads as has_key_reads
-use Rattle.sheet.proofs.has_named.Reads as has_named_reads
-use Rattle.words.proofs.word.Reads as word_reads
 use Rattle.class_names.proofs.held.is_row_name.Goals as goal
 
 pub returns-then-has_named : goal.returns-then-has_named

@@ -1,6 +1,5 @@
 use Rattle.class_names.proofs.MarkLaws.{marked_start, marked_next, marked_end}
 use native.Mathlib.Omega.{arith}
-use Prim.Native.Nat.{◌-◌}
 use mathlib.Core.Path.{refl}
 use Rattle.class_names.proofs.marks.mark_parents.Goals as goal
 

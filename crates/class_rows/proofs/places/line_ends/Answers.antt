@@ -1,7 +1,4 @@
 use borrow.Author.Tests.{eq-eqb, ne_eqb}
-use Rattle.class_rows.proofs.places.line_ends.Reads as reads
-use Rattle.class_rows.proofs.places.line_ends.Lts as lts
-use Rattle.sheet.proofs.is_class_row.Reads as is_class_row_reads
 use Rattle.class_rows.proofs.places.line_ends.Goals as goal
 
 pub returns-then-at-ne0 : goal.returns-then-at-ne0

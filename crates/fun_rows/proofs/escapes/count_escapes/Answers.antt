@@ -3,7 +3,6 @@ use Rattle.fun_rows.specs.Literals.{escapes}
 use Rattle.store.specs.Stored.{store_of}
 use native.Mathlib.Omega.{arith}
 use lib.ListN.{length}
-use Prim.Native.Nat.{◌-◌}
 use mathlib.Core.Path.{sym, ap, ◌∙◌}
 use Rattle.fun_rows.proofs.escapes.count_escapes.Goals as goal
 

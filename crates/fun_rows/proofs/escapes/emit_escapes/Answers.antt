@@ -3,7 +3,7 @@ use Rattle.fun_rows.specs.Literals.{escapes}
 use Rattle.store.specs.Stored.{store_of}
 use Rattle.sink.specs.Sink.{sink, emit_all}
 use native.Mathlib.Omega.{arith}
-use Prim.Native.Nat.{ℕ, ◌-◌}
+use Prim.Native.Nat.{ℕ}
 use mathlib.Core.List.{List, map}
 use mathlib.Core.Path.{refl, sym, ap, ◌∙◌}
 use Rattle.fun_rows.proofs.escapes.emit_escapes.Goals as goal

@@ -5,14 +5,6 @@ use Rattle.class_names.specs.Names.{inherited}
 use Rattle.store.specs.Stored.{store_of}
 use Rattle.outside.specs.Words.{over}
 use mathlib.Core.Path.{sym, ◌∙◌}
-use Rattle.name_rows.proofs.put.put_own.Reads as reads
-use Rattle.name_rows.proofs.put.put_own.Lts as lts
-use Rattle.name_rows.proofs.put.put_listed.Reads as put_listed_reads
-use Rattle.name_rows.proofs.put.put_recorded.Reads as put_recorded_reads
-use Rattle.name_rows.proofs.put.put_stored.Reads as put_stored_reads
-use Rattle.outside.proofs.records.recorded_names.Reads as recorded_names_reads
-use Rattle.sheet.proofs.is_class_row.Reads as is_class_row_reads
-use Rattle.words.proofs.word.Reads as word_reads
 use Rattle.name_rows.proofs.put.put_own.Goals as goal
 
 pub overflow_sub-r : goal.overflow_sub-r

@@ -7,11 +7,6 @@ use Rattle.outside.specs.Words.{spaced_at, over}
 use native.Mathlib.Omega.{arith}
 use Prim.Native.Nat.{ℕ}
 use mathlib.Core.Path.{refl, ap, ◌∙◌}
-use Rattle.name_rows.proofs.put.put_recorded.Reads as reads
-use Rattle.name_rows.proofs.put.put_recorded.Lts as lts
-use Rattle.name_rows.proofs.put.put_new.Reads as put_new_reads
-use Rattle.outside.proofs.records.step_of.Reads as step_of_reads
-use Rattle.words.proofs.word_at.Reads as word_at_reads
 use Rattle.name_rows.proofs.put.put_recorded.Goals as goal
 
 pub step_of-step-requires : goal.step_of-step-requires

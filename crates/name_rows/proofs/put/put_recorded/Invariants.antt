@@ -5,11 +5,6 @@ use Rattle.outside.specs.Words.{spaced_at, over}
 use lib.ListN.{length}
 use Prim.Native.Nat.{◌+◌, ◌*◌, ◌≤◌}
 use mathlib.Core.Path.{◌≡◌}
-use Rattle.name_rows.proofs.put.put_recorded.Reads as reads
-use Rattle.name_rows.proofs.put.put_recorded.Lts as lts
-use Rattle.name_rows.proofs.put.put_new.Reads as put_new_reads
-use Rattle.outside.proofs.records.step_of.Reads as step_of_reads
-use Rattle.words.proofs.word_at.Reads as word_at_reads
 use Rattle.name_rows.proofs.put.put_recorded.Given as goal
 
 abbrev pub invariant-loop-left : goal.invariant-loop-left

@@ -1,9 +1,4 @@
 use Rattle.outside.proofs.RecordLaws.{name_own, own_number, name_record}
-use Rattle.outside.proofs.records.class_name.Reads as reads
-use Rattle.outside.proofs.records.class_name.Lts as lts
-use Rattle.outside.proofs.records.find_record.Reads as find_record_reads
-use Rattle.sheet.proofs.is_class_row.Reads as is_class_row_reads
-use Rattle.words.proofs.word.Reads as word_reads
 use Rattle.outside.proofs.records.class_name.Goals as goal
 
 pub overflow_sub-c : goal.overflow_sub-c

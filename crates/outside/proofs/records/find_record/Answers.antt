@@ -2,10 +2,6 @@ use Rattle.outside.proofs.RecordLaws.{sought, told, sought_none, sought_here, so
 use native.Mathlib.Omega.{arith}
 use Prim.Native.Nat.{◌+◌, ◌-◌}
 use mathlib.Core.Path.{◌≡◌, refl, ap, ◌∙◌}
-use Rattle.outside.proofs.records.find_record.Reads as reads
-use Rattle.outside.proofs.records.find_record.Lts as lts
-use Rattle.outside.proofs.records.record_at.Reads as record_at_reads
-use Rattle.words.proofs.word.Reads as word_reads
 use Rattle.outside.proofs.records.find_record.Goals as goal
 
 pub word-end-requires : goal.word-end-requires

@@ -1,10 +1,6 @@
 use Rattle.outside.proofs.RecordLaws.{sought}
 use Prim.Native.Nat.{◌-◌}
 use mathlib.Core.Path.{◌≡◌}
-use Rattle.outside.proofs.records.find_record.Reads as reads
-use Rattle.outside.proofs.records.find_record.Lts as lts
-use Rattle.outside.proofs.records.record_at.Reads as record_at_reads
-use Rattle.words.proofs.word.Reads as word_reads
 use Rattle.outside.proofs.records.find_record.Given as goal
 
 abbrev pub invariant-loop-i : goal.invariant-loop-i

@@ -1,8 +1,4 @@
 use Rattle.outside.proofs.RecordLaws.{has_own, has_record_lem}
-use Rattle.outside.proofs.records.has_record.Reads as reads
-use Rattle.outside.proofs.records.has_record.Lts as lts
-use Rattle.outside.proofs.records.find_record.Reads as find_record_reads
-use Rattle.sheet.proofs.is_class_row.Reads as is_class_row_reads
 use Rattle.outside.proofs.records.has_record.Goals as goal
 
 pub returns-then-is_class_row : goal.returns-then-is_class_row

@@ -5,10 +5,6 @@ use Rattle.definition.specs.Basics.{◌∈?◌}
 use native.Mathlib.Omega.{arith}
 use Prim.Native.Nat.{ℕ}
 use mathlib.Core.Path.{refl, ap, ◌∙◌}
-use Rattle.outside.proofs.records.is_listed.Reads as reads
-use Rattle.outside.proofs.records.is_listed.Lts as lts
-use Rattle.outside.proofs.records.step_of.Reads as step_of_reads
-use Rattle.words.proofs.word_at.Reads as word_at_reads
 use Rattle.outside.proofs.records.is_listed.Goals as goal
 
 pub step_of-step-requires : goal.step_of-step-requires

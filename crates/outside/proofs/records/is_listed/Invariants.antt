@@ -2,10 +2,6 @@ use Rattle.outside.specs.Words.{spaced_at}
 use Rattle.definition.specs.Basics.{◌∈?◌}
 use Prim.Native.Nat.{◌+◌, ◌*◌, ◌≤◌}
 use mathlib.Core.Path.{◌≡◌}
-use Rattle.outside.proofs.records.is_listed.Reads as reads
-use Rattle.outside.proofs.records.is_listed.Lts as lts
-use Rattle.outside.proofs.records.step_of.Reads as step_of_reads
-use Rattle.words.proofs.word_at.Reads as word_at_reads
 use Rattle.outside.proofs.records.is_listed.Given as goal
 
 abbrev pub invariant-loop-left : goal.invariant-loop-left

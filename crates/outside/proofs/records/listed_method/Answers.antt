@@ -1,8 +1,5 @@
 use borrow.Author.Tests.{eq-eqb, ne_eqb}
 use mathlib.Core.Path.{refl, sym}
-use Rattle.outside.proofs.records.listed_method.Reads as reads
-use Rattle.outside.proofs.records.listed_method.Lts as lts
-use Rattle.sheet.proofs.arity.Reads as arity_reads
 use Rattle.outside.proofs.records.listed_method.Goals as goal
 
 pub returns-then-f-eq0 : goal.returns-then-f-eq0

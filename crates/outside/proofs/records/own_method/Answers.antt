@@ -1,11 +1,4 @@
 use Rattle.outside.proofs.RecordLaws.{own_number, own_listed, own_recorded}
-use Rattle.outside.proofs.records.own_method.Reads as reads
-use Rattle.outside.proofs.records.own_method.Lts as lts
-use Rattle.outside.proofs.records.find_record.Reads as find_record_reads
-use Rattle.outside.proofs.records.listed_method.Reads as listed_method_reads
-use Rattle.outside.proofs.records.recorded_method.Reads as recorded_method_reads
-use Rattle.sheet.proofs.first_named.Reads as first_named_reads
-use Rattle.sheet.proofs.is_class_row.Reads as is_class_row_reads
 use Rattle.outside.proofs.records.own_method.Goals as goal
 
 pub overflow_sub-c : goal.overflow_sub-c

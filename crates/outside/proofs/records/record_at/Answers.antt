@@ -1,6 +1,3 @@
-use Rattle.outside.proofs.records.record_at.Reads as reads
-use Rattle.outside.proofs.records.record_at.Lts as lts
-use Rattle.words.proofs.word.Reads as word_reads
 use Rattle.outside.proofs.records.record_at.Goals as goal
 
 pub returns : goal.returns

@@ -2,9 +2,6 @@ use Rattle.outside.proofs.RecordLaws.{methods_none, methods_here, methods_next}
 use Rattle.definition.specs.Outside.{Method}
 use native.Mathlib.Omega.{arith}
 use mathlib.Core.Path.{refl, ap, ◌∙◌}
-use Rattle.outside.proofs.records.recorded_method.Reads as reads
-use Rattle.outside.proofs.records.recorded_method.Lts as lts
-use Rattle.words.proofs.word_at.Reads as word_at_reads
 use Rattle.outside.proofs.records.recorded_method.Goals as goal
 
 pub loop-left-init : goal.loop-left-init

@@ -2,9 +2,6 @@ use Rattle.outside.specs.Words.{methods_at}
 use Rattle.definition.specs.Classes.{method_of}
 use Prim.Native.Nat.{◌+◌, ◌*◌, ◌≤◌}
 use mathlib.Core.Path.{◌≡◌}
-use Rattle.outside.proofs.records.recorded_method.Reads as reads
-use Rattle.outside.proofs.records.recorded_method.Lts as lts
-use Rattle.words.proofs.word_at.Reads as word_at_reads
 use Rattle.outside.proofs.records.recorded_method.Given as goal
 
 abbrev pub invariant-loop-left : goal.invariant-loop-left

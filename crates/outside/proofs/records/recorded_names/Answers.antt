@@ -2,11 +2,8 @@ use Rattle.outside.proofs.RecordLaws.{method_names_lem}
 use Rattle.definition.specs.Outside.{Method}
 use mathlib.Core.Path.{ap}
 use mathlib.Core.List.{map}
-use borrow.Author.Tests.{eq-eqb, ne_eqb}
+use borrow.Author.Tests.{ne_eqb}
 use mathlib.Core.Path.{◌∙◌}
-use Rattle.outside.proofs.records.recorded_names.Reads as reads
-use Rattle.outside.proofs.records.recorded_names.Lts as lts
-use Rattle.outside.proofs.records.find_record.Reads as find_record_reads
 use Rattle.outside.proofs.records.recorded_names.Goals as goal
 
 pub returns : goal.returns

@@ -1,6 +1,4 @@
 use borrow.Author.Tests.{eq-eqb, ne_eqb}
-use Rattle.outside.proofs.records.step_of.Reads as reads
-use Rattle.outside.proofs.records.step_of.Lts as lts
 use Rattle.outside.proofs.records.step_of.Goals as goal
 
 pub returns-then-kind-eq-FIELD : goal.returns-then-kind-eq-FIELD

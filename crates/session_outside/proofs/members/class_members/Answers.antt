@@ -1,7 +1,7 @@
 -- `class_members` meets its contract. Invariant: with the members that are left the words are what they are to be, and `member` members are passed. Assumes nothing.
 use mathlib.Core.List.{List, []}
 use mathlib.Core.Path.{◌≡◌, refl, sym, ap, ◌∙◌}
-use Prim.Native.Nat.{◌+◌, ◌-◌, ◌<◌, ◌≤◌}
+use Prim.Native.Nat.{◌<◌}
 use native.Mathlib.Omega.{arith}
 use lib.Seq.{sets}
 use lib.ListN.{get_or}

@@ -1,4 +1,4 @@
-use Prim.Native.Nat.{◌+◌, ◌*◌, ◌≤◌}
+use Prim.Native.Nat.{◌*◌}
 use native.Mathlib.Omega.{arith}
 use Rattle.session_outside.proofs.RecordLaws.{members_few, row_told, place_told}
 use Rattle.session_outside.proofs.records.class_row.Goals as goal

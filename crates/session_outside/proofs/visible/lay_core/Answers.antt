@@ -1,6 +1,6 @@
 -- `lay_core` meets its contract. Invariant: laying the core names that are left gives what laying all gives. Assumes nothing.
 use mathlib.Core.Path.{refl, sym, ap, ◌∙◌}
-use Prim.Native.Nat.{◌+◌, ◌-◌}
+use Prim.Native.Nat.{◌+◌}
 use native.Mathlib.Omega.{arith}
 use lib.ListN.{drop}
 use Rattle.definition.specs.Outside.{core}

@@ -1,6 +1,6 @@
 -- `lay_declared` meets its contract. Invariant: laying the declarations that are left, and the core names, gives what laying all gives. Assumes nothing.
 use mathlib.Core.Path.{◌≡◌}
-use Prim.Native.Nat.{◌+◌, ◌-◌, ◌≤◌}
+use Prim.Native.Nat.{◌+◌, ◌≤◌}
 use lib.ListN.{length, get_or}
 use Rattle.session_outside.specs.Written.{name_rows, names_below}
 use Rattle.session_outside.proofs.visible.lay_declared.Given as goal

@@ -1,6 +1,6 @@
 use native.Mathlib.Omega.{arith}
 use lib.ListN.{length-set}
-use Rattle.store.proofs.TableLaws.{row_zero, row_past, row_written_lem}
+use Rattle.store.proofs.TableLaws.{row_past, row_written_lem}
 use Rattle.store.specs.Stored.{store_of}
 use Rattle.store.proofs.table.write_row.Goals as goal
 

@@ -1,6 +1,6 @@
 use Rattle.machine.specs.Machine.{find_name, function_marks}
 use lib.ListN.{length}
-use Prim.Native.Nat.{◌+◌, ◌-◌, ◌≤◌}
+use Prim.Native.Nat.{◌+◌, ◌≤◌}
 use mathlib.Core.Path.{◌≡◌}
 use Rattle.symbols.proofs.env.find_name.Given as goal
 
