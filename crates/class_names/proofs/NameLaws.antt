@@ -75,7 +75,8 @@ filter_all [] = refl
 filter_all (x ∷ xs) = ap (λ (l : List ℕ). x ∷ l) (filter_all xs)
 
 -- the inherited names, then the new ones
-pub names_split : (O : Outside) (s : Sheet) (o : Store) (j n c : ℕ) → names_in O s o j (suc n) c ≡ inherited O s o j n (parent_in s o c) ++ new_of (inherited O s o j n (parent_in s o c)) (own_in O s o j c)
+pub names_split : (O : Outside) (s : Sheet) (o : Store) (j n c : ℕ)
+    → names_in O s o j (suc n) c ≡ inherited O s o j n (parent_in s o c) ++ new_of (inherited O s o j n (parent_in s o c)) (own_in O s o j c)
 unfolding names_in inherited
 names_split O s o j n c = go (eqb (parent_in s o c) 0) (names_in O s o j n (parent_in s o c)) (own_in O s o j c)
   where

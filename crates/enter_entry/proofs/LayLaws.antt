@@ -85,7 +85,8 @@ written O t w {v} d z ms {b} {c} {m} {l} {f} {w₁} {w₂} eb ec em el ef h₁ h
     h₂ ∙ ap (λ (x : List ℕ). sets x l (concat_map laid_words (left_from t b v.scopes.env f (v.scopes.count - f)))) h₁
     ∙ ap (λ (k : ℕ). sets heads l (concat_map laid_words (left_from t b v.scopes.env k (v.scopes.count - k)))) ef
     ∙ ap (λ (x : List Named). sets heads l (concat_map laid_words x)) (d.laid z b)
-    ∙ ap (λ (k : ℕ). sets (sets (sets w m (concat_map member_words (classes_by (based O k) t))) c (concat_map class_words (classes_by (based O k) t))) l (concat_map laid_words (laid_by (based O k) t))) eb
+    ∙ ap (λ (k : ℕ). sets (sets (sets w m (concat_map member_words (classes_by (based O k) t))) c (concat_map class_words (classes_by (based O k) t))) l
+    (concat_map laid_words (laid_by (based O k) t))) eb
     ∙ ap (λ (k : ℕ). sets (sets (sets w k (concat_map member_words cs)) c (concat_map class_words cs)) l (concat_map laid_words ls)) em
     ∙ ap (λ (k : ℕ). sets (sets (sets w (26512 + 3 * get_or w 7 0) (concat_map member_words cs)) k (concat_map class_words cs)) l (concat_map laid_words ls)) ec
     ∙ ap (λ (k : ℕ). sets (sets (sets w (26512 + 3 * get_or w 7 0) (concat_map member_words cs)) (21392 + 5 * get_or w 6 0) (concat_map class_words cs)) k (concat_map laid_words ls)) el

@@ -50,7 +50,8 @@ module _ (last : ℕ) (s : Sheet) (t m : List ℕ) (some : 0 < rows s) (few : ro
   yes_3 e w = sym w ∙ ap (λ (x : Bool). x && rows_all s last t m) (sym e) ∙ fits
 
   -- u is the table that the passes leave
-  pub depths_are : (x : Bool) (u : List ℕ) → links_ok s ≡ true → rows_all s last t m ≡ true → u ≡ rows_noted s (rows s) 0 t → x ≡ all (depth_ok u) (from 0 (rows s)) → number true x ≡ format_question last s
+  pub depths_are : (x : Bool) (u : List ℕ) → links_ok s ≡ true → rows_all s last t m ≡ true → u ≡ rows_noted s (rows s) 0 t
+      → x ≡ all (depth_ok u) (from 0 (rows s)) → number true x ≡ format_question last s
   depths_are x u e w v d =
       let y : sheet_fits last s ≡ true = sym (yes_3 e w) in
       let z : all (depth_ok (rows_noted s (rows s) 0 t)) (from 0 (rows s)) ≡ depths_fit s =

@@ -22,7 +22,8 @@ use Rattle.definition.proofs.Format.Facts.{SheetFacts, RowFacts, sheet_facts, li
 use Rattle.definition.proofs.Format.Passes.{all_of, sheet_fits_lem}
 use Rattle.definition.proofs.Format.Tables.{table_length}
 use Rattle.definition.proofs.Format.Tree.{class_declared, declared_once_lem}
-use Rattle.row_fits.specs.Pass.{row_in, columns_ok, plain_ok, function_ok, ends_ok, new_ok, row_asked, row_ok, note_row, rows_ok, rows_noted, literal_ok, declaration_ok, class_ok, method_ok, cross_ok, depth_ok}
+use Rattle.row_fits.specs.Pass.{row_in, columns_ok, plain_ok, function_ok, ends_ok, new_ok, row_asked, row_ok}
+use Rattle.row_fits.specs.Pass.{note_row, rows_ok, rows_noted, literal_ok, declaration_ok, class_ok, method_ok, cross_ok, depth_ok}
 use Rattle.distinct.specs.Apart.{all_unmarked}
 use Rattle.first_four.specs.Whole.{links_ok, rows_all}
 use Rattle.first_four.proofs.Filling.{Entered, Listed, Reached, Below, Filled, filled_none, filled_more, linked_below, function_top, class_top}
@@ -225,7 +226,8 @@ module _ (s : Sheet) (t : List ℕ) (ok : LinkFacts s) (top : kind s 0 ≡ 0) (s
   row_parts : (last r : ℕ) (u : List ℕ) → T (row_ok s last r u) → Parts last r u
   unfolding row_asked
   row_parts last r u h =
-      let q1 = T_and (columns_ok s last (kind s r) (a s r) (b s r)) (plain_ok s (row_in s r) && (function_ok s (row_in s r) (word u r 0) && (ends_ok (row_in s r) r (word u r 5) && new_ok u (row_in s r)))) h in
+      let q1 = T_and (columns_ok s last (kind s r) (a s r) (b s r))
+      (plain_ok s (row_in s r) && (function_ok s (row_in s r) (word u r 0) && (ends_ok (row_in s r) r (word u r 5) && new_ok u (row_in s r)))) h in
       let q2 = T_and (plain_ok s (row_in s r)) (function_ok s (row_in s r) (word u r 0) && (ends_ok (row_in s r) r (word u r 5) && new_ok u (row_in s r))) q1.1 in
       let q3 = T_and (function_ok s (row_in s r) (word u r 0)) (ends_ok (row_in s r) r (word u r 5) && new_ok u (row_in s r)) q2.1 in
       let q4 = T_and (ends_ok (row_in s r) r (word u r 5)) (new_ok u (row_in s r)) q3.1 in
@@ -318,7 +320,8 @@ module _ (s : Sheet) (t : List ℕ) (ok : LinkFacts s) (top : kind s 0 ≡ 0) (s
       go (inl x) =
           or_right (not (is s 30 r)) (eqb (word F (word F r 3) 0) (word F (a s r) 0))
           (eqb_of (word F (word F r 3) 0) (word F (a s r) 0)
-          (of_function r l ∙ eqb→eq _ _ (T-imp (is s 30 r) (eqb (parent (tables s) (function (tables s) r)) (parent (tables s) (a s r))) g x) ∙ sym (of_class_lem (a s r) (class_row_lem last r h x).0)))
+          (of_function r l ∙ eqb→eq _ _ (T-imp (is s 30 r) (eqb (parent (tables s) (function (tables s) r)) (parent (tables s) (a s r))) g x)
+          ∙ sym (of_class_lem (a s r) (class_row_lem last r h x).0)))
 
   -- a class declaration in word 7 is the one of its class
   declared_word : (d : ℕ) → d < rows s → T (is s 30 d) → Declared s (rows s) F (a s d) → word F (a s d) 7 ≡ d

@@ -122,7 +122,8 @@ below_sixty : (k : ℕ) → k < 60 → KindIs k
 unfolding kind_test
 below_sixty k l =
     let h : T (kind_test k) = all_below kind_test 60 kind_all k l in
-    let q3 = T_and (ltb (entry_of kind_table k 1) 26 && same_parts (state_at (entry_of kind_table k 1)) (shape_of k).children && same_kinds (encode (rule_at (entry_of kind_table k 2))) (encode (shape_of k).a))
+    let q3 = T_and (ltb (entry_of kind_table k 1) 26 && same_parts (state_at (entry_of kind_table k 1)) (shape_of k).children && same_kinds
+    (encode (rule_at (entry_of kind_table k 2))) (encode (shape_of k).a))
     (same_kinds (encode (rule_at (entry_of kind_table k 3))) (encode (shape_of k).b)) h in
     let q2 = T_and (ltb (entry_of kind_table k 1) 26 && same_parts (state_at (entry_of kind_table k 1)) (shape_of k).children)
     (same_kinds (encode (rule_at (entry_of kind_table k 2))) (encode (shape_of k).a)) q3.0 in

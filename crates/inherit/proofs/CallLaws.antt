@@ -88,7 +88,8 @@ module _ (q : List ℕ) (f : Node → Refusal) where
         ∙ ap (λ (ys : List Node). first is_no x (map f ys)) (list_more q (i - 1))
         ∙ ap (first is_no x) (map_append f (chain_to q (previous q (i - 1))) (node_at q (i - 1) ∷ []))
         ∙ first_append x (map f (chain_to q (previous q (i - 1)))) (f (node_at q (i - 1)) ∷ [])
-        ∙ sym (ap (λ (n : ℕ). first is_no (if is_no y then y else x) (map f (chain_to q n))) b ∙ ap (λ (z : Refusal). first is_no (if is_no z then z else x) (map f (chain_to q (previous q (i - 1))))) e)
+        ∙ sym (ap (λ (n : ℕ). first is_no (if is_no y then y else x) (map f (chain_to q n))) b
+        ∙ ap (λ (z : Refusal). first is_no (if is_no z then z else x) (map f (chain_to q (previous q (i - 1))))) e)
       where
         below : i ≡ suc (i - 1)
         below = omega arith

@@ -59,7 +59,8 @@ module _ (n : ℕ) where
   abbrev sought : Method → Bool
   sought m = eqb m.name n
 
-  first_replaced : (own ys up : List Method) → first sought no_method (map (replaced own) up ++ ys) ≡ (if any sought up then first sought (first sought no_method up) own else first sought no_method ys)
+  first_replaced : (own ys up : List Method)
+      → first sought no_method (map (replaced own) up ++ ys) ≡ (if any sought up then first sought (first sought no_method up) own else first sought no_method ys)
   first_replaced own ys [] = refl
   first_replaced own ys (m ∷ ms) =
       ap (λ (i : ℕ). if eqb i n then replaced own m else first sought no_method (map (replaced own) ms ++ ys)) (first_name m.name m own refl)

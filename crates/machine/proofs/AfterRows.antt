@@ -148,7 +148,8 @@ module _ (s : Sheet) (r K : ℕ) (hr : is s K r ≡ true) (nz : r ≡ 0 → ⊥)
   rest_false k st n₄ n₅₄ false false ec em = zero_apart r nz
 
   -- a row of one of the four kinds is written by its visit
-  target_visit : eqb 29 K ≡ false → eqb 4 K ≡ false → eqb 54 K ≡ false → ((k : ℕ) → is s K k ≡ true → own_row_kind s k ≡ true) → (e : Event) (st : Stack) → eqb (row_written s e st) r ≡ eqb (visited e) r
+  target_visit : eqb 29 K ≡ false → eqb 4 K ≡ false → eqb 54 K ≡ false → ((k : ℕ) → is s K k ≡ true → own_row_kind s k ≡ true)
+      → (e : Event) (st : Stack) → eqb (row_written s e st) r ≡ eqb (visited e) r
   target_visit n₂₉ n₄ n₅₄ f (enter k) st = refl
   target_visit n₂₉ n₄ n₅₄ f leave st = refl
   target_visit n₂₉ n₄ n₅₄ f loop st = refl
@@ -168,7 +169,8 @@ module _ (s : Sheet) (r K : ℕ) (hr : is s K r ≡ true) (nz : r ≡ 0 → ⊥)
       go false e = sym (when_false (own_row_kind s k) (eqb k r) (λ q. f k (same_row k 0 q)) e)
 
   -- a let is written where it is declared
-  target_let : eqb 29 K ≡ true → eqb 4 K ≡ false → eqb 54 K ≡ false → ((k : ℕ) → is s K k ≡ true → own_row_kind s k ≡ false) → (e : Event) (st : Stack) → eqb (row_written s e st) r ≡ eqb (declares e) r
+  target_let : eqb 29 K ≡ true → eqb 4 K ≡ false → eqb 54 K ≡ false → ((k : ℕ) → is s K k ≡ true → own_row_kind s k ≡ false)
+      → (e : Event) (st : Stack) → eqb (row_written s e st) r ≡ eqb (declares e) r
   target_let is₂₉ n₄ n₅₄ f (enter k) st = refl
   target_let is₂₉ n₄ n₅₄ f leave st = refl
   target_let is₂₉ n₄ n₅₄ f loop st = refl

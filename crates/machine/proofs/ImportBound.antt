@@ -232,7 +232,8 @@ module _ (n : ℕ) {O : Outside} {s : Sheet} (ok : Fits O s) (fa : SheetFacts n 
   imports_below u (i ∷ ks) f = let q = f i (here refl) in below_append (import_below u i q.0 q.1) (imports_below u ks (λ j m. f j (there m)))
 
   -- a unit
-  unit_trace : (d u : ℕ) → T (is s 2 u) → trace (suc d) s u ≡ ((enter u ∷ (concat_map (imports s u) (kids_of s 3 u) ++ map declare (kids_of s 4 u))) ++ each (trace d s) s u 0 (parts s u)) ++ (leave ∷ [])
+  unit_trace : (d u : ℕ) → T (is s 2 u) → trace (suc d) s u
+      ≡ ((enter u ∷ (concat_map (imports s u) (kids_of s 3 u) ++ map declare (kids_of s 4 u))) ++ each (trace d s) s u 0 (parts s u)) ++ (leave ∷ [])
   unit_trace d u h =
       let x : before s u ≡ enter u ∷ (concat_map (imports s u) (kids_of s 3 u) ++ map declare (kids_of s 4 u)) = if_true (is s 2 u) _ _ h in
       let y : after s u ≡ leave ∷ [] = if_true (is s 2 u || is s 6 u || is s 25 u || is s 27 u) _ _ (four_or (is s 2 u) (is s 6 u) (is s 25 u) (is s 27 u) h) in

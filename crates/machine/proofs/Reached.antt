@@ -123,7 +123,8 @@ or_true : (x : Bool) {y : Bool} → y ≡ true → (x || y) ≡ true
 or_true true q = refl
 or_true false q = q
 
-ahead_step : (s : Sheet) (z : Stack) (e : Event) (es : List Event) → Distinct (functions_entered s (e ∷ es)) → Ahead s z (functions_entered s (e ∷ es)) → Ahead s ((step s z e)) (functions_entered s es)
+ahead_step : (s : Sheet) (z : Stack) (e : Event) (es : List Event) → Distinct (functions_entered s (e ∷ es)) → Ahead s z (functions_entered s (e ∷ es))
+    → Ahead s ((step s z e)) (functions_entered s es)
 ahead_step s z (enter k) es p f = go (is s 6 k) p f
   where
     go : (t : Bool) → Distinct (if t then k ∷ functions_entered s es else functions_entered s es) → Ahead s z (if t then k ∷ functions_entered s es else functions_entered s es)

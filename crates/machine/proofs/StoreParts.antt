@@ -374,7 +374,8 @@ module _ (O : Outside) (s : Sheet) (hd : kind s 0 ≡ 0) (h : List Moment) (z : 
   pub field_part : (e : Event) (o : Store) (c : ℕ) → o.used + (if visits_kind s 21 e then 1 else 0) ≤ node_room o.nodes
       → c < length o.table / 8 → (c ≡ 0 → ⊥) → get_or o.table (8 * c + 7) 0 ≤ o.used
       → distinct eqb (listed_fields s c ++ registered s h c) ≡ distinct eqb (listed_fields s c) ++ map (λ y. y.key) (list_at o (8 * c + 7))
-      → distinct eqb (listed_fields s c ++ registered s (h ++ record { event = e; stack = z } ∷ []) c) ≡ distinct eqb (listed_fields s c) ++ map (λ y. y.key) (list_at (store_field s e p o) (8 * c + 7))
+      → distinct eqb (listed_fields s c ++ registered s (h ++ record { event = e; stack = z } ∷ []) c)
+      ≡ distinct eqb (listed_fields s c) ++ map (λ y. y.key) (list_at (store_field s e p o) (8 * c + 7))
   unfolding store_field
   field_part (enter k) o c room l nz low i = rw (fields_same (enter k) refl c) i
   field_part leave o c room l nz low i = rw (fields_same leave refl c) i

@@ -289,7 +289,8 @@ module _ (R : Room) (w n w' n' : List ℕ) (g : ℕ) (e : Accepted) (fit : runs_
 
       same : class_fits R w' n' E (C + j) ≡ every (class_list E N (eqb (C + j) C) (get_or w' (class_place R (C + j - 1)) 0) (is_class_up_to R w' n' E d.parent) d)
       same =
-          ap (λ (c : Class). every (class_list E (count_after R w' n' (suc E) 0) (eqb (C + j) (count_after R w' n' E 3)) (get_or w' (class_place R (C + j - 1)) 0) (is_class_up_to R w' n' E c.parent) c))
+          ap (λ (c : Class). every (class_list E (count_after R w' n' (suc E) 0) (eqb (C + j) (count_after R w' n' E 3))
+          (get_or w' (class_place R (C + j - 1)) 0) (is_class_up_to R w' n' E c.parent) c))
           (class_at R w' n' C (get_or w 7 0) e.classes (stored_new R w n w' n' g e fit x ok.rises ok.endless) j l)
           ∙ ap (λ (k : ℕ). every (class_list E k (eqb (C + j) (count_after R w' n' E 3)) (get_or w' (class_place R (C + j - 1)) 0) (is_class_up_to R w' n' E d.parent) d)) (after 0 (omega arith))
           ∙ ap (λ (k : ℕ). every (class_list E N (eqb (C + j) k) (get_or w' (class_place R (C + j - 1)) 0) (is_class_up_to R w' n' E d.parent) d)) (before 3 (omega arith))

@@ -88,7 +88,8 @@ climbed O s parent n c q e =
     let r = asked (of_sheet s c) (lacks_record O s (parent c)) (ask_climb O s parent (suc n) (c ∷ []) (parent c)) (c - 256) (a s (c - 256)) q e in (
       r.0,
       λ same.
-          met (of_sheet s c) (eqb c c || false) (if lacks_record O s (parent c) then ask 19 (c - 256) (a s (c - 256)) false else ask_climb O s parent n (c ∷ c ∷ []) (parent c)) (c - 256) (a s (c - 256))
+          met (of_sheet s c) (eqb c c || false) (if lacks_record O s (parent c) then ask 19 (c - 256) (a s (c - 256)) false else ask_climb O s parent n
+          (c ∷ c ∷ []) (parent c)) (c - 256) (a s (c - 256))
           q (ap (λ (t : Bool). t || false) (eq-eqb c c refl)) (ap (λ (k : ℕ). (ask_climb O s parent (suc n) (c ∷ []) k).number) (sym same) ∙ r.1),
     )
   where

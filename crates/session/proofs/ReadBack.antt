@@ -15,7 +15,8 @@ use Rattle.definition.specs.Outside.{Method, is_outward}
 use Rattle.definition.proofs.Lists.Tests.{and_left, and_right, T_true}
 use Rattle.definition.proofs.Lists.Members.{map_append, map_same, from_mem}
 use Rattle.session.specs.Session.{Class, Accepted, member_count}
-use Rattle.session.specs.Words.{Room, entry_place, laid_place, class_place, member_place, count_after, part_of, name_bytes, laid_in, fields_in, methods_in, members_before, class_in, entry_in, session_in}
+use Rattle.session.specs.Words.{Room, entry_place, laid_place, class_place, member_place, count_after}
+use Rattle.session.specs.Words.{part_of, name_bytes, laid_in, fields_in, methods_in, members_before, class_in, entry_in, session_in}
 use Rattle.session.specs.Words.{runs_fit, laid_words, class_words, counts_with}
 use Rattle.session.proofs.SessionLaws.{last_are}
 use Rattle.session.proofs.HeldRuns.{from_split, names_listed}

@@ -17,7 +17,8 @@ short_rows : T (all (λ i. leb (length (get_or state_table i [])) 14) (from 0 26
 short_rows = tt
 
 pub no_class_lem : (q k : ℕ) → q < 26 → 13 ≤ k → entry_of state_table q (k + 1) ≡ 0
-no_class_lem q k h l = get_or-eq_default (get_or state_table q []) 0 (omega (arith, leb→le (length (get_or state_table q [])) 14 (all_below (λ i. leb (length (get_or state_table i [])) 14) 26 short_rows q h)))
+no_class_lem q k h l = get_or-eq_default (get_or state_table q []) 0
+    (omega (arith, leb→le (length (get_or state_table q [])) 14 (all_below (λ i. leb (length (get_or state_table i [])) 14) 26 short_rows q h)))
 
 -- a state and a class out of their key
 pub keyed : (q k : ℕ) → k < 13 → entry_of state_table ((16 * q + k) / 16) ((16 * q + k) % 16 + 1) ≡ entry_of state_table q (k + 1)

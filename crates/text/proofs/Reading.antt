@@ -143,7 +143,8 @@ number_good xs h = go (is_number xs) h
 
 number_bad : (xs : List ℕ) → 4294967295 < number_in xs → is_number xs ≡ false
 unfolding number_in
-number_bad xs h = go (is_number xs) (λ w. leb→le (value xs) 4294967295 (and_right (leb 1 (length (trimmed xs)) && all is_digit (trimmed xs) && is_shortest (trimmed xs)) (leb (value xs) 4294967295) w)) h
+number_bad xs h = go (is_number xs) (λ w. leb→le (value xs) 4294967295
+    (and_right (leb 1 (length (trimmed xs)) && all is_digit (trimmed xs) && is_shortest (trimmed xs)) (leb (value xs) 4294967295) w)) h
   where
     go : (t : Bool) → (T t → value xs ≤ 4294967295) → 4294967295 < (if t then value xs else 4294967296) → t ≡ false
     go true f h = absurd (omega (arith, f tt))

@@ -97,7 +97,8 @@ module _ {O : Outside} {s : Sheet} (ok : Fits O s) where
       owner : owner_of d ≡ function_of s (row_of d)
       owner = (declared_once_lem m q i n d st p v).4
 
-      go : T (is s 11 (row_of d)) ⊎ T (not (is s 11 (row_of d))) → declared_as (relative O) s (answers O s (history O s)) (row_of d) ≡ told (eight (row_of d ∷ code s (history O s) d (open_locals s st)))
+      go : T (is s 11 (row_of d)) ⊎ T (not (is s 11 (row_of d)))
+          → declared_as (relative O) s (answers O s (history O s)) (row_of d) ≡ told (eight (row_of d ∷ code s (history O s) d (open_locals s st)))
       go (inl t) =
           if_true (is s 11 (row_of d)) _ (told (first_for (answers O s (history O s)) (row_of d))) t
           ∙ ap (λ (g : ℕ). told (eight (row_of d ∷ 4 ∷ place (eqb (row_of d)) (kids_of s 11 (function_of s (row_of d))) ∷ g ∷ []))) (no_base (function_of s (row_of d)))

@@ -24,7 +24,8 @@ use Rattle.definition.proofs.Closure.Demand.{demand_3, follows_same, own_functio
 
 -- words other than 2 and 3 are kept
 kept_word : (n : ℕ) (x : Row) (j : ℕ) → (j ≡ 2 → ⊥) → (j ≡ 3 → ⊥) → get_or (raised_row n x) j 0 ≡ get_or x j 0
-kept_word n x j f g = go (eqb c 1) (eqb c 2 || eqb c 22) (eqb c 4 || eqb c 5) (eqb c 24) (raised_function n (get_or x 2 0)) (raised_class n (get_or x 2 0)) (get_or x 3 0 + n) (raised_function n (get_or x 3 0))
+kept_word n x j f g = go (eqb c 1) (eqb c 2 || eqb c 22) (eqb c 4 || eqb c 5) (eqb c 24) (raised_function n (get_or x 2 0))
+    (raised_class n (get_or x 2 0)) (get_or x 3 0 + n) (raised_function n (get_or x 3 0))
   where
     c : ℕ
     c = get_or x 1 0
@@ -45,7 +46,8 @@ abbrev raised_values : ℕ → List ℕ → List ℕ
 raised_values n c = drop 1 (raised_row n (0 ∷ c))
 
 raised_cons : (n a : ℕ) (c : List ℕ) → raised_row n (a ∷ c) ≡ a ∷ raised_values n c
-raised_cons n a c = go (eqb k 1) (eqb k 2 || eqb k 22) (eqb k 4 || eqb k 5) (eqb k 24) (raised_function n (get_or c 1 0)) (raised_class n (get_or c 1 0)) (get_or c 2 0 + n) (raised_function n (get_or c 2 0))
+raised_cons n a c = go (eqb k 1) (eqb k 2 || eqb k 22) (eqb k 4 || eqb k 5) (eqb k 24) (raised_function n (get_or c 1 0))
+    (raised_class n (get_or c 1 0)) (get_or c 2 0 + n) (raised_function n (get_or c 2 0))
   where
     k : ℕ
     k = get_or c 0 0

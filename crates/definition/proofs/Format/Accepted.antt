@@ -125,7 +125,8 @@ pub eights_answers : (O : Outside) (s : Sheet) (h : List Moment) → Eights (ans
 eights_answers O s h = eights_rows O s h (from 0 (rows s))
 
 raised_length : (n : ℕ) (x : List ℕ) → length (raised_row n x) ≡ length x
-raised_length n x = go (eqb c 1) (eqb c 2 || eqb c 22) (eqb c 4 || eqb c 5) (eqb c 24) (raised_function n (get_or x 2 0)) (raised_class n (get_or x 2 0)) (get_or x 3 0 + n) (raised_function n (get_or x 3 0))
+raised_length n x = go (eqb c 1) (eqb c 2 || eqb c 22) (eqb c 4 || eqb c 5) (eqb c 24) (raised_function n (get_or x 2 0))
+    (raised_class n (get_or x 2 0)) (get_or x 3 0 + n) (raised_function n (get_or x 3 0))
   where
     c : ℕ
     c = get_or x 1 0

@@ -133,7 +133,8 @@ module _ {O : Outside} {s : Sheet} (ok : Fits O s) where
       omega (
         arith,
         count_trace is_visit (rows s) s 0,
-        total_length (λ x. count is_visit (own s x)) (walked (rows s) s 0) (λ x. visit_own s is_visit (record { enters = λ r. tt; leaves = tt; loops = tt; declares = λ r. tt; brings = λ r n d. tt }) x),
+        total_length (λ x. count is_visit (own s x)) (walked (rows s) s 0)
+            (λ x. visit_own s is_visit (record { enters = λ r. tt; leaves = tt; loops = tt; declares = λ r. tt; brings = λ r n d. tt }) x),
         walked_length ok (rows s),
       )
 

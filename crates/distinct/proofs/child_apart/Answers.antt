@@ -25,4 +25,7 @@ returns-then-entry_at-mark c =
 pub returns : goal.returns
 unfolding child_unmarked child_marked
 returns c =
-    record { value = rw (← c.word.ensures, eq-eqb _ _ c.if-word-kind.false, ← c.word-name.ensures, ← c.entry_at.ensures, ne_eqb _ _ c.if-entry_at-mark.false); marks_after = λ e. rw (← c.word.ensures, eq-eqb _ _ c.if-word-kind.false, ← c.word-name.ensures, c.put_entry.ensures) }
+    record {
+      value = rw (← c.word.ensures, eq-eqb _ _ c.if-word-kind.false, ← c.word-name.ensures, ← c.entry_at.ensures, ne_eqb _ _ c.if-entry_at-mark.false);
+      marks_after = λ e. rw (← c.word.ensures, eq-eqb _ _ c.if-word-kind.false, ← c.word-name.ensures, c.put_entry.ensures);
+    }

@@ -14,7 +14,8 @@ pub returns-then-highest_import-entry_at : goal.returns-then-highest_import-entr
 returns-then-highest_import-entry_at c =
     let e = sym c.word.ensures ∙ c.if-word-ne-UNIT.false in
     let unit = row_unit c.args.sheet.now c.args.u c.requires.1 (eqb_of (kind c.args.sheet.now c.args.u) UNIT e) in
-    row_circles c.args.sheet.now c.args.u e (sym (no_search c.args.sheet.now c.requires.0 c.args.ranks.now (c.requires.2 c.if-fall.true) c.args.u unit c.entry_at.ensures c.highest_import.ensures c.if-highest_import-entry_at.true))
+    row_circles c.args.sheet.now c.args.u e (sym
+    (no_search c.args.sheet.now c.requires.0 c.args.ranks.now (c.requires.2 c.if-fall.true) c.args.u unit c.entry_at.ensures c.highest_import.ensures c.if-highest_import-entry_at.true))
 
 pub is_circling-requires : goal.is_circling-requires
 is_circling-requires c =

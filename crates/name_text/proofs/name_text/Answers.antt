@@ -7,7 +7,8 @@ returns-then-whose-eq-OF_SESSION c =
 
 pub returns-then-number-lt-FIRST_LISTED : goal.returns-then-number-lt-FIRST_LISTED
 returns-then-number-lt-FIRST_LISTED c =
-    of_fixed c.args.words.now c.args.bytes.now c.args.names.now c.args.whose c.args.number c.if-whose-eq-OF_SESSION.false c.if-number-lt-FIRST_LISTED.true c.session_text-then-number-lt-FIRST_LISTED.ensures
+    of_fixed c.args.words.now c.args.bytes.now c.args.names.now c.args.whose c.args.number c.if-whose-eq-OF_SESSION.false
+    c.if-number-lt-FIRST_LISTED.true c.session_text-then-number-lt-FIRST_LISTED.ensures
 
 pub returns : goal.returns
 returns c =

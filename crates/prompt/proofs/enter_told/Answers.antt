@@ -19,8 +19,10 @@ entry_number-requires c =
 
 pub returns-then-answer-ne0 : goal.returns-then-answer-ne0
 returns-then-answer-ne0 c =
-    entered_on c.args.words.now c.args.bytes.now c.args.sheet.now c.args.names.now _ c.requires.0.fits c.requires.0.none (c.enter_sheet-answer.ensures c.args.bytes.now c.args.names.now c.requires.0) refl
-    (c.entry_number.ensures (session_in whole c.args.words.now c.args.bytes.now) c.args.names.now (all_apart c.args.words.now c.args.bytes.now c.requires.0.fits) (names_good c.requires.0) c.requires.0.told
+    entered_on c.args.words.now c.args.bytes.now c.args.sheet.now c.args.names.now _ c.requires.0.fits c.requires.0.none
+    (c.enter_sheet-answer.ensures c.args.bytes.now c.args.names.now c.requires.0) refl
+    (c.entry_number.ensures (session_in whole c.args.words.now c.args.bytes.now) c.args.names.now (all_apart c.args.words.now c.args.bytes.now c.requires.0.fits)
+    (names_good c.requires.0) c.requires.0.told
     (last_is c.requires.0 c.requires.1))
     c.if-answer-ne0.true
 
@@ -30,15 +32,19 @@ append_names-requires c =
 
 pub count_shown-requires : goal.count_shown-requires
 count_shown-requires c =
-    laid_readable c.args.words.now c.args.bytes.now c.args.sheet.now c.args.names.now _ c.requires.0.fits c.requires.0.none (c.enter_sheet-answer.ensures c.args.bytes.now c.args.names.now c.requires.0) refl
-    (c.entry_number.ensures (session_in whole c.args.words.now c.args.bytes.now) c.args.names.now (all_apart c.args.words.now c.args.bytes.now c.requires.0.fits) (names_good c.requires.0) c.requires.0.told
+    laid_readable c.args.words.now c.args.bytes.now c.args.sheet.now c.args.names.now _ c.requires.0.fits c.requires.0.none
+    (c.enter_sheet-answer.ensures c.args.bytes.now c.args.names.now c.requires.0) refl
+    (c.entry_number.ensures (session_in whole c.args.words.now c.args.bytes.now) c.args.names.now (all_apart c.args.words.now c.args.bytes.now c.requires.0.fits)
+    (names_good c.requires.0) c.requires.0.told
     (last_is c.requires.0 c.requires.1))
     c.if-answer-ne0.false
 
 pub returns : goal.returns
 returns c =
-    entered_yes c.args.words.now c.args.bytes.now c.args.sheet.now c.args.names.now _ c.requires.0.fits c.requires.0.none (c.enter_sheet-answer.ensures c.args.bytes.now c.args.names.now c.requires.0) refl
-    (c.entry_number.ensures (session_in whole c.args.words.now c.args.bytes.now) c.args.names.now (all_apart c.args.words.now c.args.bytes.now c.requires.0.fits) (names_good c.requires.0) c.requires.0.told
+    entered_yes c.args.words.now c.args.bytes.now c.args.sheet.now c.args.names.now _ c.requires.0.fits c.requires.0.none
+    (c.enter_sheet-answer.ensures c.args.bytes.now c.args.names.now c.requires.0) refl
+    (c.entry_number.ensures (session_in whole c.args.words.now c.args.bytes.now) c.args.names.now (all_apart c.args.words.now c.args.bytes.now c.requires.0.fits)
+    (names_good c.requires.0) c.requires.0.told
     (last_is c.requires.0 c.requires.1))
     c.if-answer-ne0.false (c.append_names.ensures (session_in whole c.args.words.now c.args.bytes.now) c.requires.0.told c.requires.1 ∙ rw c.word_at.ensures)
     c.count_shown.ensures c.put_at.ensures

@@ -36,11 +36,14 @@ numbers_fit-requires c =
 pub returns-then-not-numbers_fit : goal.returns-then-not-numbers_fit
 returns-then-not-numbers_fit c =
     let fits = listing_some c.read_names-count.ensures c.if-count-eq0.false in
-    listing_no (numbers_decide c.args.words.now c.args.bytes.now (c.counts_fit.ensures c.args.bytes.now refl) (ap not c.if-not-counts_fit.false) fits _ (start_bytes c.args.words.now c.args.bytes.now c.read_names-count.ensures fits)
+    listing_no (numbers_decide c.args.words.now c.args.bytes.now (c.counts_fit.ensures c.args.bytes.now refl)
+    (ap not c.if-not-counts_fit.false) fits _ (start_bytes c.args.words.now c.args.bytes.now c.read_names-count.ensures fits)
     ∙ sym c.numbers_fit.ensures ∙ c.if-not-numbers_fit.true)
 
 pub returns : goal.returns
 returns c =
     let fits = listing_some c.read_names-count.ensures c.if-count-eq0.false in
-    listing_also c.read_names-count.ensures fits (numbers_decide c.args.words.now c.args.bytes.now (c.counts_fit.ensures c.args.bytes.now refl) (ap not c.if-not-counts_fit.false) fits _ (start_bytes c.args.words.now c.args.bytes.now c.read_names-count.ensures fits)
+    listing_also c.read_names-count.ensures fits
+    (numbers_decide c.args.words.now c.args.bytes.now (c.counts_fit.ensures c.args.bytes.now refl) (ap not c.if-not-counts_fit.false) fits _
+    (start_bytes c.args.words.now c.args.bytes.now c.read_names-count.ensures fits)
     ∙ sym c.numbers_fit.ensures ∙ c.if-not-numbers_fit.false)

@@ -45,7 +45,8 @@ pub loop-low-preserved : goal.loop-low-preserved
 loop-low-preserved c = (
   omega arith,
   any_below (λ i. eqb (number_of c.args.words.now i) c.args.number) c.loop-low.low _ c.loop-low.high (omega arith) (omega arith)
-      (λ i l h. upper c.args.words.now c.requires.0 _ c.args.number (omega arith) c.class_number-here.ensures.0 c.if-here-number.false c.if-here-number-2.false i l (omega (arith, c.loop-low.invariant.0))) c.loop-low.invariant.1,
+      (λ i l h. upper c.args.words.now c.requires.0 _ c.args.number (omega arith) c.class_number-here.ensures.0 c.if-here-number.false c.if-here-number-2.false i l
+      (omega (arith, c.loop-low.invariant.0))) c.loop-low.invariant.1,
 )
 
 pub returns : goal.returns

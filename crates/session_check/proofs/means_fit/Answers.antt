@@ -49,9 +49,21 @@ returns-then-code-ne-GLOBAL c =
 pub returns-then-number_at-x : goal.returns-then-number_at-x
 unfolding means_right
 returns-then-number_at-x c =
-    rw (ne_eqb c.args.code 1 c.if-code-eq-FUN.false, ne_eqb c.args.code 2 c.if-code-eq-CLASS.false, eq-eqb c.args.code 3 c.if-code-ne-GLOBAL.false, ← c.number_at.ensures.0, le-ltb _ _ c.if-number_at-x.true)
+    rw (
+      ne_eqb c.args.code 1 c.if-code-eq-FUN.false,
+      ne_eqb c.args.code 2 c.if-code-eq-CLASS.false,
+      eq-eqb c.args.code 3 c.if-code-ne-GLOBAL.false,
+      ← c.number_at.ensures.0,
+      le-ltb _ _ c.if-number_at-x.true,
+    )
 
 pub returns : goal.returns
 unfolding means_right
 returns c =
-    rw (ne_eqb c.args.code 1 c.if-code-eq-FUN.false, ne_eqb c.args.code 2 c.if-code-eq-CLASS.false, eq-eqb c.args.code 3 c.if-code-ne-GLOBAL.false, ← c.number_at.ensures.0, lt-ltb _ _ c.if-number_at-x.false)
+    rw (
+      ne_eqb c.args.code 1 c.if-code-eq-FUN.false,
+      ne_eqb c.args.code 2 c.if-code-eq-CLASS.false,
+      eq-eqb c.args.code 3 c.if-code-ne-GLOBAL.false,
+      ← c.number_at.ensures.0,
+      lt-ltb _ _ c.if-number_at-x.false,
+    )

@@ -27,8 +27,11 @@ pub loop-i-smaller : goal.loop-i-smaller
 loop-i-smaller c = omega arith
 
 pub loop-i-preserved : goal.loop-i-preserved
-loop-i-preserved c =
-    (omega (arith, c.loop-i.invariant.0), all_next (number_rises c.args.words.now c.args.e c.count_before-first.result) _ _ c.loop-i-test.true c.number_fits.ensures c.if-not-number_fits.false-raw c.loop-i.invariant.1)
+loop-i-preserved c = (
+  omega (arith, c.loop-i.invariant.0),
+  all_next
+      (number_rises c.args.words.now c.args.e c.count_before-first.result) _ _ c.loop-i-test.true c.number_fits.ensures c.if-not-number_fits.false-raw c.loop-i.invariant.1,
+)
 
 pub returns : goal.returns
 returns c =

@@ -25,5 +25,6 @@ returns c =
     let unit = eqb_of (kind c.args.sheet.now c.args.u) UNIT (sym c.word.ensures ∙ c.if-word-ne-UNIT.false) in
     let waits = subst (λ (i : ℕ). WaitsAt c.args.sheet.now c.args.marks.now i k) c.waiting_from-from.ensures c.first_waiting-k.ensures in (
       ready_by c.args.sheet.now c.requires.0 c.args.marks.now c.args.waits.now c.args.u c.requires.1 c.requires.2 unit k waits (sym c.entry_at.ensures ∙ c.if-entry_at-ne0.false),
-      subst (Waits c.args.sheet.now c.args.marks.now) (sym c.put_entry.ensures) (waits_kept c.args.sheet.now c.requires.0 c.args.marks.now c.args.waits.now c.args.u c.requires.1 c.requires.2 unit k waits),
+      subst (Waits c.args.sheet.now c.args.marks.now) (sym c.put_entry.ensures)
+          (waits_kept c.args.sheet.now c.requires.0 c.args.marks.now c.args.waits.now c.args.u c.requires.1 c.requires.2 unit k waits),
     )

@@ -63,8 +63,12 @@ pub copy_methods-requires : goal.copy_methods-requires
 copy_methods-requires c =
     let f = c.entry_at-fields.ensures in
     let m = c.entry_at-methods.ensures in
-    let i : c.loop-i.i < get_or c.args.session.now 6 0 = omega (arith, c.entry_at-classes.ensures) in
-    (omega (arith, members_few c.args.session.now c.loop-i.i c.requires.0 (omega arith), f, m), omega (arith, members_few c.args.session.now c.loop-i.i c.requires.0 (omega arith), f, m), λ j a b. c.requires.0.method_low c.loop-i.i j i (omega (arith, f, a)) (omega (arith, f, m, b)))
+    let i : c.loop-i.i < get_or c.args.session.now 6 0 = omega (arith, c.entry_at-classes.ensures) in (
+      omega (arith, members_few c.args.session.now c.loop-i.i c.requires.0 (omega arith), f, m),
+      omega
+          (arith, members_few c.args.session.now c.loop-i.i c.requires.0 (omega arith), f, m),
+      λ j a b. c.requires.0.method_low c.loop-i.i j i (omega (arith, f, a)) (omega (arith, f, m, b)),
+    )
 
 pub overflow_add-member-in-loop-i : goal.overflow_add-member-in-loop-i
 overflow_add-member-in-loop-i c = omega (

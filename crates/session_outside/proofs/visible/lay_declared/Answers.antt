@@ -35,7 +35,8 @@ loop-left-preserved c =
       omega (arith, c.lay_name-row.auto.marks, c.loop-left.invariant.2),
       omega (arith, c.lay_name-row.auto.out, c.loop-left.invariant.3),
       c.lay_name-row.ensures.1 (laid_in whole c.args.session.now [] (c.loop-left.left - 1)) (names_below c.args.session.now (c.loop-left.left - 1)) c.declared_name.ensures
-          ∙ ap (name_rows c.loop-left.row c.loop-left.marks c.loop-left.out) (sym (below_more c.args.session.now (c.loop-left.left - 1)) ∙ ap (names_below c.args.session.now) z) ∙ c.loop-left.invariant.4,
+          ∙ ap (name_rows c.loop-left.row c.loop-left.marks c.loop-left.out)
+          (sym (below_more c.args.session.now (c.loop-left.left - 1)) ∙ ap (names_below c.args.session.now) z) ∙ c.loop-left.invariant.4,
     )
 
 pub shape_of-marks : goal.shape_of-marks
@@ -46,5 +47,8 @@ shape_of-out c = c.loop-left.invariant.3
 
 pub returns : goal.returns
 returns c =
-    let z : c.loop-left.left ≡ 0 = omega arith in
-    (omega (arith, c.requires.few_laid), ap (name_rows c.loop-left.row c.loop-left.marks c.loop-left.out) (sym (ap (names_below c.args.session.now) z ∙ below_none c.args.session.now)) ∙ c.loop-left.invariant.4)
+    let z : c.loop-left.left ≡ 0 = omega arith in (
+      omega (arith, c.requires.few_laid),
+      ap (name_rows c.loop-left.row c.loop-left.marks c.loop-left.out)
+          (sym (ap (names_below c.args.session.now) z ∙ below_none c.args.session.now)) ∙ c.loop-left.invariant.4,
+    )

@@ -93,5 +93,8 @@ loop-i-preserved c =
 
 pub returns : goal.returns
 returns c =
-    let none = find_none c.args.entries.now c.args.m c.loop-i.i c.loop-i-test.false ∙ c.loop-i.invariant.0 in
-    (none, marks_found c.args.sheet.now c.args.entries.now c.args.m c.args.n 0 c.loop-i.marks none (omega (arith, c.loop-i.invariant.1, ap length (marks_none c.args.sheet.now c.args.entries.now c.loop-i.i c.loop-i-test.false))))
+    let none = find_none c.args.entries.now c.args.m c.loop-i.i c.loop-i-test.false ∙ c.loop-i.invariant.0 in (
+      none,
+      marks_found c.args.sheet.now c.args.entries.now c.args.m c.args.n 0 c.loop-i.marks none
+          (omega (arith, c.loop-i.invariant.1, ap length (marks_none c.args.sheet.now c.args.entries.now c.loop-i.i c.loop-i-test.false))),
+    )
