@@ -8,7 +8,7 @@ use Prim.Native.Nat.{ℕ, ◌+◌, ◌<◌}
 use native.Mathlib.Omega.{arith}
 use lib.ListN.{length}
 use lib.Dec.{eqb, T}
-use Rattle.definition.specs.Basics.{if◌then◌else◌, bit, concat_map, from}
+use Rattle.definition.specs.Basics.{when◌then◌else◌, bit, concat_map, from}
 use Rattle.definition.specs.Sheet.{Sheet, kind, rows, is}
 use Rattle.definition.specs.Outside.{Outside, Method}
 use Rattle.definition.specs.Scope.{Moment, history}
@@ -29,8 +29,8 @@ by_kind : (t29 t50 t51 t55 t54 t52 t6 t4 : Bool) (e : List ℕ → List ℕ) (le
     → (T t50 → T t51 → ⊥) → (T t50 → T t55 → ⊥)
     → (T t29 → map e lets ≡ words) → (T t51 → map e hosts ≡ words) → (T t55 → map e insts ≡ words) → (T t50 → map e ids ≡ ids') → (T t54 → map e mems ≡ mems')
     → (T t52 → lits ≡ lits') → (T t6 → funs ≡ funs') → (T t4 → cls ≡ cls')
-    → map e (if t29 then lets else if t50 then ids else if t51 then hosts else if t55 then insts else if t54 then mems else if t52 then lits else if t6 then funs else if t4 then cls else [])
-    ≡ (if t29 || t51 || t55 then words else if t50 then ids' else if t54 then mems' else map e (if t52 then lits' else if t6 then funs' else if t4 then cls' else []))
+    → map e (when t29 then lets else when t50 then ids else when t51 then hosts else when t55 then insts else when t54 then mems else when t52 then lits else when t6 then funs else when t4 then cls else [])
+    ≡ (when t29 || t51 || t55 then words else when t50 then ids' else when t54 then mems' else map e (when t52 then lits' else when t6 then funs' else when t4 then cls' else []))
 by_kind true t50 t51 t55 t54 t52 t6 t4 e l i h n m li f c li' f' c' w i' m' x y p29 p51 p55 p50 p54 p52 p6 p4 = p29 tt
 by_kind false true true t55 t54 t52 t6 t4 e l i h n m li f c li' f' c' w i' m' x y p29 p51 p55 p50 p54 p52 p6 p4 = absurd (x tt tt)
 by_kind false true false true t54 t52 t6 t4 e l i h n m li f c li' f' c' w i' m' x y p29 p51 p55 p50 p54 p52 p6 p4 = absurd (y tt tt)
@@ -80,7 +80,7 @@ module _ {O : Outside} {s : Sheet} (ok : PastFour O s) {o : Store} (k : StoreRea
       by_kind (is s 29 r) (is s 50 r) (is s 51 r) (is s 55 r) (is s 54 r) (is s 52 r) (is s 6 r) (is s 4 r) (λ vs. eight (r ∷ vs))
       (let_row s h r) (identifier_row s h r) (host_row s h r) (instance_row s h r) (member_row O s h r) (literal_rows s h r) (function_rows s h r) (class_rows O s h r)
       (literal_rows_in s o r) (function_rows_in s o r) (class_rows_in O s o r) words
-      (if eqb (cell o.table r 4) 0 then identifier_answer r (row_words o.table r) ∷ [] else []) (if eqb (cell o.table r 0) 0 then [] else words)
+      (when eqb (cell o.table r 4) 0 then identifier_answer r (row_words o.table r) ∷ [] else []) (when eqb (cell o.table r 0) 0 then [] else words)
       (kind_apart (kind s r) 50 51 tt) (kind_apart (kind s r) 50 55 tt)
       (k.lets r l) (k.hosts r l) (k.instances r l) (k.identifiers r l) (k.members r l) (literal_rows_lem r l) (function_rows_lem r l) (class_rows_lem r)
     where

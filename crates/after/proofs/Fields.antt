@@ -5,7 +5,7 @@ use mathlib.Core.Bool.{Bool, true, false, not, ◌&&◌, ◌||◌}
 use Prim.Native.Nat.{ℕ, ◌+◌, ◌-◌, ◌*◌, ◌<◌}
 use native.Mathlib.Omega.{arith}
 use lib.Dec.{eqb, leb, T, T_not, not_T, leb→le}
-use Rattle.definition.specs.Basics.{if◌then◌else◌, filter, any, distinct, unlike, from}
+use Rattle.definition.specs.Basics.{when◌then◌else◌, filter, any, distinct, unlike, from}
 use Rattle.definition.specs.Sheet.{Sheet, a, rows, is, kids_of}
 use Rattle.definition.specs.Outside.{Outside, record_of}
 use Rattle.definition.specs.Scope.{history}
@@ -32,7 +32,7 @@ any_same : (p q : ℕ → Bool) (xs : List ℕ) → ((x : ℕ) → p x ≡ q x) 
 any_same p q [] f = refl
 any_same p q (x ∷ xs) f = ap (λ (t : Bool). t || any p xs) (f x) ∙ ap (λ (t : Bool). q x || t) (any_same p q xs f)
 
-pick_fields : (t : Bool) (x y z : List ℕ) → (T t → x ≡ y) → (if t then x else z) ≡ (if t then y else z)
+pick_fields : (t : Bool) (x y z : List ℕ) → (T t → x ≡ y) → (when t then x else z) ≡ (when t then y else z)
 pick_fields true x y z e = e tt
 pick_fields false x y z e = refl
 

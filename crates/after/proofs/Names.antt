@@ -8,7 +8,7 @@ use mathlib.Core.List.{List, [], ◌∷◌, ◌++◌, map, Memᴰ as Mem}
 use mathlib.Core.Bool.{Bool, true, false, not, ◌||◌}
 use Prim.Native.Nat.{ℕ, zero, suc, ◌-◌}
 use lib.Dec.{eqb, leb, T, T_not, eqb→eq}
-use Rattle.definition.specs.Basics.{if◌then◌else◌, filter, any, first, unlike, ◌∈?◌}
+use Rattle.definition.specs.Basics.{when◌then◌else◌, filter, any, first, unlike, ◌∈?◌}
 use Rattle.definition.specs.Sheet.{Sheet, a, is, kids_of}
 use Rattle.definition.specs.Outside.{Outside, Method, record_of}
 use Rattle.definition.specs.Classes.{of_sheet, own_methods, merge_fields, merge_methods, method_of, method_at}
@@ -31,7 +31,7 @@ replaced_name m [] = refl
 replaced_name m (x ∷ xs) = go (eqb x.name m.name) (λ t. t) (replaced_name m xs)
   where
     go : (t : Bool) → (T t → T (eqb x.name m.name)) → (first (λ o. eqb o.name m.name) m xs).name ≡ m.name
-        → (if t then x else first (λ o. eqb o.name m.name) m xs).name ≡ m.name
+        → (when t then x else first (λ o. eqb o.name m.name) m xs).name ≡ m.name
     go true f e = eqb→eq x.name m.name (f tt)
     go false f e = e
 
@@ -51,12 +51,12 @@ new_names_lem up (x ∷ own) = go (any (λ m. eqb m.name x.name) up) (x.name ∈
     rest = filter (λ o. not (any (λ m. eqb m.name o.name) up)) own
 
     go : (t u : Bool) → t ≡ u → names_of rest ≡ filter (λ n. not (n ∈? names_of up)) (names_of own)
-        → names_of (if not t then x ∷ rest else rest) ≡ (if not u then x.name ∷ filter (λ n. not (n ∈? names_of up)) (names_of own) else filter (λ n. not (n ∈? names_of up)) (names_of own))
-    go t u e i = ap (λ (v : Bool). names_of (if not v then x ∷ rest else rest)) e ∙ by u
+        → names_of (when not t then x ∷ rest else rest) ≡ (when not u then x.name ∷ filter (λ n. not (n ∈? names_of up)) (names_of own) else filter (λ n. not (n ∈? names_of up)) (names_of own))
+    go t u e i = ap (λ (v : Bool). names_of (when not v then x ∷ rest else rest)) e ∙ by u
       where
         by : (v : Bool)
-            → names_of (if not v then x ∷ rest else rest)
-            ≡ (if not v then x.name ∷ filter (λ n. not (n ∈? names_of up)) (names_of own)
+            → names_of (when not v then x ∷ rest else rest)
+            ≡ (when not v then x.name ∷ filter (λ n. not (n ∈? names_of up)) (names_of own)
             else filter (λ n. not (n ∈? names_of up)) (names_of own))
         by true = i
         by false = ap (λ (ns : List ℕ). x.name ∷ ns) i
@@ -109,7 +109,7 @@ method_names_lem O s o (suc n) c = go (eqb (parent_in s o c) 0) (method_names_le
     own = own_methods O s c
 
     go : (t : Bool) → names_of (methods_in O s o n (parent_in s o c)) ≡ method_names_in O s o n (parent_in s o c)
-        → names_of (if t then own else merge_methods (methods_in O s o n (parent_in s o c)) own) ≡ (if t then names_of own else merge_fields (method_names_in O s o n (parent_in s o c)) (names_of own))
+        → names_of (when t then own else merge_methods (methods_in O s o n (parent_in s o c)) own) ≡ (when t then names_of own else merge_fields (method_names_in O s o n (parent_in s o c)) (names_of own))
     go true e = refl
     go false e = merged_names (methods_in O s o n (parent_in s o c)) own ∙ ap (λ (ns : List ℕ). merge_fields ns (names_of own)) e
 
@@ -123,7 +123,7 @@ module _ {O : Outside} {s : Sheet} (ok : PastFour O s) where
           subst Nodup (sym (map_map (λ m. m.name) (method_at s) (kids_of s 6 (c - 256))))
           (unlike_nodup (map (a s) (kids_of s 6 (c - 256))) (class_names ok.names s (past_facts ok) (c - 256) (row_of_kind ok 3 (c - 256) u) u).1)
 
-      go : (t : Bool) → (T t → T (of_sheet s c)) → Nodup (names_of (if t then map (method_at s) (kids_of s 6 (c - 256)) else (record_of O c).methods))
+      go : (t : Bool) → (T t → T (of_sheet s c)) → Nodup (names_of (when t then map (method_at s) (kids_of s 6 (c - 256)) else (record_of O c).methods))
       go true f = listed (f tt)
       go false f = unlike_nodup (names_of (record_of O c).methods) (recorded O (λ x. unlike eqb (names_of x.methods)) tt ok.outside.methods_apart c)
 
@@ -133,7 +133,7 @@ module _ {O : Outside} {s : Sheet} (ok : PastFour O s) where
   names_nodup o (suc n) c = go (eqb (parent_in s o c) 0) (names_nodup o n (parent_in s o c))
     where
       go : (t : Bool) → Nodup (method_names_in O s o n (parent_in s o c))
-          → Nodup (if t then names_of (own_methods O s c)
+          → Nodup (when t then names_of (own_methods O s c)
           else merge_fields (method_names_in O s o n (parent_in s o c)) (names_of (own_methods O s c)))
       go true p = own_nodup c
       go false p = merged_nodup p (own_nodup c)

@@ -5,7 +5,7 @@ use mathlib.Core.Bool.{Bool, true, false}
 use Prim.Native.Nat.{ℕ, ◌+◌, ◌-◌}
 use native.Mathlib.Omega.{arith}
 use lib.Dec.{eqb, leb, T, leb→le}
-use Rattle.definition.specs.Basics.{if◌then◌else◌, filter, final, largest}
+use Rattle.definition.specs.Basics.{when◌then◌else◌, filter, final, largest}
 use Rattle.definition.specs.Sheet.{Sheet, a, b, is}
 use Rattle.definition.specs.Outside.{Outside}
 use Rattle.definition.specs.Meaning.{class_number}
@@ -17,7 +17,7 @@ use Rattle.machine.specs.Reads.{StoreReads, PastFour}
 use Rattle.after.specs.Inherited.{parent_in}
 use Rattle.after.proofs.Ranges.{row_of_kind}
 
-pick_parent : (t : Bool) (x y : ℕ) → (T t → x ≡ y) → (if t then x else 0) ≡ (if t then y else 0)
+pick_parent : (t : Bool) (x y : ℕ) → (T t → x ≡ y) → (when t then x else 0) ≡ (when t then y else 0)
 pick_parent true x y f = f tt
 pick_parent false x y f = refl
 

@@ -6,7 +6,7 @@ use Prim.Native.Nat.{ℕ, zero, suc, ◌+◌, ◌-◌, ◌*◌, ◌≤◌}
 use native.Mathlib.Omega.{arith}
 use lib.ListN.{length, length-append, length-map}
 use lib.Dec.{eqb, leb, leb→le}
-use Rattle.definition.specs.Basics.{if◌then◌else◌, filter, distinct, count, ◌∈?◌}
+use Rattle.definition.specs.Basics.{when◌then◌else◌, filter, distinct, count, ◌∈?◌}
 use Rattle.definition.specs.Sheet.{Sheet, next, child, a, rows, chain, kids, is, kids_of}
 use Rattle.definition.specs.Outside.{Outside, Method, record_of}
 use Rattle.definition.specs.Walk.{Event, enter, leave, loop, declare, bring, visit, walk}
@@ -26,7 +26,7 @@ module _ {A : Type 0} where
   filter_length p [] = omega arith
   filter_length p (x ∷ xs) = go (p x) (filter_length p xs)
     where
-      go : (t : Bool) → length (filter p xs) ≤ length xs → length (if t then x ∷ filter p xs else filter p xs) ≤ suc (length xs)
+      go : (t : Bool) → length (filter p xs) ≤ length xs → length (when t then x ∷ filter p xs else filter p xs) ≤ suc (length xs)
       go true l = omega arith
       go false l = omega arith
 
@@ -55,7 +55,7 @@ visits_length s j hd z (visit r ∷ es) = go (is s (suc j) r) (visits_length s j
     rest : List Moment
     rest = visits s (moments s z es) (suc j)
 
-    go : (t : Bool) → length rest ≤ count is_visit es → length (if t then m ∷ rest else rest) ≤ 1 + count is_visit es
+    go : (t : Bool) → length rest ≤ count is_visit es → length (when t then m ∷ rest else rest) ≤ 1 + count is_visit es
     go true l = omega arith
     go false l = omega arith
 
@@ -83,7 +83,7 @@ module _ {O : Outside} {s : Sheet} (ok : PastFour O s) where
       both : List ℕ
       both = map (a s) (kids_of s 10 (c - 256)) ++ registered s (history O s) (c - 256)
 
-      go : (t : Bool) → length (if t then distinct eqb both else (record_of O c).fields) ≤ 8192
+      go : (t : Bool) → length (when t then distinct eqb both else (record_of O c).fields) ≤ 8192
       go true =
           omega (
             arith,
@@ -107,7 +107,7 @@ module _ {O : Outside} {s : Sheet} (ok : PastFour O s) where
       own : List ℕ
       own = own_fields O s (history O s) c
 
-      go : (t : Bool) → length up ≤ n * 8192 → length (if t then own else merge_fields up own) ≤ suc n * 8192
+      go : (t : Bool) → length up ≤ n * 8192 → length (when t then own else merge_fields up own) ≤ suc n * 8192
       go true l = omega (arith, own_length c)
       go false l = omega (arith, own_length c, length-append up (filter (λ j. not (j ∈? up)) own), filter_length (λ j. not (j ∈? up)) own)
 
@@ -121,7 +121,7 @@ own_methods_length {O} {s} ok c = omega (arith, length-map (own_methods O s c) (
     fs : List ℕ
     fs = kids_of s 6 (c - 256)
 
-    go : (t : Bool) → length (if t then map (method_at s) fs else (record_of O c).methods) ≤ 8192
+    go : (t : Bool) → length (when t then map (method_at s) fs else (record_of O c).methods) ≤ 8192
     go true = omega (arith, rows_few s ok.whole, length-map {B = Method} fs (method_at s), filter_length (is s 6) (kids s (c - 256)), chain_length (rows s) s (child s (c - 256)))
     go false = leb→le (length (record_of O c).methods) 8192 (recorded O (λ x. leb (length x.methods) 8192) tt ok.outside.few_methods c)
 
@@ -136,7 +136,7 @@ methods_length {O} {s} ok o (suc n) c = go (eqb (parent_in s o c) 0) (methods_le
     own : List ℕ
     own = map (λ m. m.name) (own_methods O s c)
 
-    go : (t : Bool) → length up ≤ n * 8192 → length (if t then own else merge_fields up own) ≤ suc n * 8192
+    go : (t : Bool) → length up ≤ n * 8192 → length (when t then own else merge_fields up own) ≤ suc n * 8192
     go true h = omega (arith, own_methods_length ok c)
     go false h = omega (arith, own_methods_length ok c, length-append up (filter (λ j. not (j ∈? up)) own), filter_length (λ j. not (j ∈? up)) own)
 

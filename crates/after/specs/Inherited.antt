@@ -1,6 +1,6 @@
 -- What follows the walk, read off the sheet and off what the walk stored: parents, fields, methods, and the questions 18 to 21.
 use Rattle.std.specs.Prelude.{Bool, List, [], ◌++◌, map, ℕ, suc, ◌+◌, ◌-◌, ◌*◌}
-use Rattle.definition.specs.Basics.{if◌then◌else◌}
+use Rattle.definition.specs.Basics.{when◌then◌else◌}
 use Rattle.definition.specs.Sheet.{Sheet, rows}
 use Rattle.definition.specs.Outside.{Outside, Method, record_of}
 use Rattle.definition.specs.Classes.{of_sheet, own_methods, merge_fields, merge_methods, inheriting, is_parent}
@@ -10,7 +10,7 @@ use Rattle.machine.specs.Reads.{listed_fields}
 
 -- the parent of class c as stored, or 0
 unfoldable pub parent_in : Sheet → Store → ℕ → ℕ
-parent_in s o c = if of_sheet s c then cell o.table (c - 256) 1 else 0
+parent_in s o c = when of_sheet s c then cell o.table (c - 256) 1 else 0
 
 -- the questions 18 and 19 on class c and then on its ancestors; `met` are the classes climbed through, n bounds the climb
 unfoldable pub climb_in : Outside → Sheet → Store → ℕ → List ℕ → ℕ → Refusal
@@ -30,7 +30,7 @@ method_names_in O s o n c = inheriting merge_fields (parent_in s o) (λ d. map (
 
 -- the own fields of class c, by slot: the listed, then the stored; of a class from outside those of its record
 unfoldable pub own_fields_in : Outside → Sheet → Store → ℕ → List ℕ
-own_fields_in O s o c = if of_sheet s c then listed_fields s (c - 256) ++ map (λ y. y.key) (list_at o (8 * (c - 256) + 7)) else (record_of O c).fields
+own_fields_in O s o c = when of_sheet s c then listed_fields s (c - 256) ++ map (λ y. y.key) (list_at o (8 * (c - 256) + 7)) else (record_of O c).fields
 
 -- the fields of class c after inheritance, by slot; n bounds the climb
 unfoldable pub fields_in : Outside → Sheet → Store → ℕ → ℕ → List ℕ

@@ -1,6 +1,6 @@
 -- The answer rows, read off the sheet and off what the walk stored.
 use Rattle.std.specs.Prelude.{◌||◌, List, [], ◌∷◌, ◌++◌, map, ℕ, ◌+◌, ◌*◌, length, eqb}
-use Rattle.definition.specs.Basics.{if◌then◌else◌, bit, concat_map, from}
+use Rattle.definition.specs.Basics.{when◌then◌else◌, bit, concat_map, from}
 use Rattle.definition.specs.Sheet.{Sheet, child, rows, is}
 use Rattle.definition.specs.Outside.{Outside, Method}
 use Rattle.definition.specs.Classes.{method_named}
@@ -38,10 +38,10 @@ class_rows_named O s o r =
 -- the answer rows of sheet row r
 unfoldable pub rows_in : Outside → Sheet → Store → ℕ → List (List ℕ)
 rows_in O s o r =
-    if is s 29 r || is s 51 r || is s 55 r then answer_row r (row_words o.table r) ∷ []
-    else if is s 50 r then (if eqb (cell o.table r 4) 0 then identifier_answer r (row_words o.table r) ∷ [] else [])
-    else if is s 54 r then (if eqb (cell o.table r 0) 0 then [] else answer_row r (row_words o.table r) ∷ [])
-    else map (λ vs. eight (r ∷ vs)) (if is s 52 r then literal_rows_in s o r else if is s 6 r then function_rows_in s o r else if is s 4 r then class_rows_in O s o r else [])
+    when is s 29 r || is s 51 r || is s 55 r then answer_row r (row_words o.table r) ∷ []
+    else when is s 50 r then (when eqb (cell o.table r 4) 0 then identifier_answer r (row_words o.table r) ∷ [] else [])
+    else when is s 54 r then (when eqb (cell o.table r 0) 0 then [] else answer_row r (row_words o.table r) ∷ [])
+    else map (λ vs. eight (r ∷ vs)) (when is s 52 r then literal_rows_in s o r else when is s 6 r then function_rows_in s o r else when is s 4 r then class_rows_in O s o r else [])
 
 -- all answer rows, in rising sheet row
 abbrev pub answers_in : Outside → Sheet → Store → List (List ℕ)

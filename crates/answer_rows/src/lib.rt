@@ -6,7 +6,7 @@ ghost use Rattle.definition.specs.Sheet.{rows};
 ghost use Rattle.after.specs.Rows.{rows_in, answers_in};
 ghost use Rattle.machine.specs.Reads.{PastFour, StoreReads, row_words, answer_row, identifier_answer};
 ghost use Rattle.machine.specs.Machine.{cell};
-ghost use Rattle.definition.specs.Basics.{if◌then◌else◌};
+ghost use Rattle.definition.specs.Basics.{when◌then◌else◌};
 ghost use Rattle.store.specs.Stored.{store_of};
 ghost use Rattle.sink.specs.Sink.{sink, emit as emitted, emit_all};
 ghost use Rattle.class_rows.specs.Places.{Placed};
@@ -59,7 +59,7 @@ fn emit_use(results: &[u32], row: u32, k: usize, out: &mut [u32]) -> usize
 // An identifier has a row unless it is the base of a method called on a class.
 fn emit_shown(results: &[u32], row: u32, k: usize, out: &mut [u32]) -> usize
     ensures { sink result out.new
-        ≡ emit_all (if eqb (cell results.now row 4) 0 then identifier_answer row (row_words results.now row) ∷ [] else [])
+        ≡ emit_all (when eqb (cell results.now row 4) 0 then identifier_answer row (row_words results.now row) ∷ [] else [])
         (sink k out.old) }
 {
     if word(results, row, result::HIDDEN) != 0 {
@@ -71,7 +71,7 @@ fn emit_shown(results: &[u32], row: u32, k: usize, out: &mut [u32]) -> usize
 // A member has a row if it is the callee of such a call.
 fn emit_member(results: &[u32], row: u32, k: usize, out: &mut [u32]) -> usize
     ensures { sink result out.new
-        ≡ emit_all (if eqb (cell results.now row 0) 0 then [] else answer_row row (row_words results.now row) ∷ [])
+        ≡ emit_all (when eqb (cell results.now row 0) 0 then [] else answer_row row (row_words results.now row) ∷ [])
         (sink k out.old) }
 {
     if word(results, row, result::CODE) == code::NOTHING {

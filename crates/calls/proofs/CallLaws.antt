@@ -6,7 +6,7 @@ use Prim.Native.Nat.{ℕ}
 use native.Mathlib.Omega.{arith}
 use lib.Dec.{eqb}
 use borrow.Author.Tests.{ne_eqb, eqb-true, eqb-false}
-use Rattle.definition.specs.Basics.{if◌then◌else◌}
+use Rattle.definition.specs.Basics.{when◌then◌else◌}
 use Rattle.definition.specs.Sheet.{Sheet, kind, is, a, child}
 use Rattle.definition.specs.Outside.{Outside}
 use Rattle.definition.specs.Meaning.{class_number}
@@ -23,7 +23,7 @@ use Rattle.walk.proofs.StepLaws.{idle}
 use Rattle.walk.proofs.VisitLaws.{visited, unvisited, same_row}
 
 -- a choice that is not 0 was made
-chosen : (t : Bool) (n : ℕ) → ((if t then n else 0) ≡ 0 → ⊥) → t ≡ true
+chosen : (t : Bool) (n : ℕ) → ((when t then n else 0) ≡ 0 → ⊥) → t ≡ true
 chosen true n f = refl
 chosen false n f = absurd (f refl)
 
@@ -53,7 +53,7 @@ module _ (s : Sheet) (r : ℕ) (p : Scopes) where
     pub receiver_base : (d : ℕ) → d ≡ child s c → (kind s d ≡ 50 → ⊥) → 0 ≡ receiver_class s r p
     receiver_base d i f = rw (← e, ← i, ne_eqb (kind s d) 50 f) (go (is s 54 c))
       where
-        go : (t : Bool) → 0 ≡ (if t && false then class_number (lookup_meaning p (a s d)) else 0)
+        go : (t : Bool) → 0 ≡ (when t && false then class_number (lookup_meaning p (a s d)) else 0)
         go true = refl
         go false = refl
 
@@ -98,11 +98,11 @@ module _ (O : Outside) (s : Sheet) (r : ℕ) (x : State) (k : kind s r ≡ 59) w
       unnamed = rw member
 
       asked : check_visit O s r x.scopes
-          ≡ (if not (has_record O s c) then ask 17 q m false else if eqb f 0 then ask 13 q m false else ask 14 q m (eqb (arguments s r) p))
+          ≡ (when not (has_record O s c) then ask 17 q m false else when eqb f 0 then ask 13 q m false else ask 14 q m (eqb (arguments s r) p))
       asked = rw (k, unnamed, ← e, ne_eqb c 0 n, ← i, ← j, ← g, ← d)
 
-      by_number : (t u w : Bool) → (if not t then ask 17 q m false else if u then ask 13 q m false else ask 14 q m w)
-          ≡ (let number : ℕ = if not t then 17 else if u then 13 else if w then 0 else 14 in if eqb number 0 then none else record { number = number; at = q; name = m })
+      by_number : (t u w : Bool) → (when not t then ask 17 q m false else when u then ask 13 q m false else ask 14 q m w)
+          ≡ (let number : ℕ = when not t then 17 else when u then 13 else when w then 0 else 14 in when eqb number 0 then none else record { number = number; at = q; name = m })
       by_number true true w = refl
       by_number true false true = refl
       by_number true false false = refl

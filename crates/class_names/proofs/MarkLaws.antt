@@ -8,7 +8,7 @@ use lib.Dec.{eqb, leb}
 use lib.ListN.{length, get_or, set}
 use lib.Seq.{set_out, get_or-set_same, get_or-set_other}
 use borrow.Author.Tests.{eq-eqb, ne_eqb, eqb-true, eqb-false, le-leb, lt-leb, leb-true, leb-false}
-use Rattle.definition.specs.Basics.{if◌then◌else◌, any, from}
+use Rattle.definition.specs.Basics.{when◌then◌else◌, any, from}
 use Rattle.definition.specs.Sheet.{Sheet, kind, rows, is}
 use Rattle.machine.specs.Machine.{cell}
 use Rattle.after.specs.Inherited.{has_children_in}
@@ -68,13 +68,13 @@ mark_one s t marks i j l = by_kind (is s 4 i)
         rw (get_or-set_other marks (cell t i 1 - 256) j 1 0 (λ g. h (omega arith))) (sym (or_false (not (eqb (get_or marks j 0) 0))))
 
     by_number : (u : Bool) → leb 256 (cell t i 1) ≡ u
-        → not (eqb (get_or (if u then set marks (cell t i 1 - 256) 1 else marks) j 0) 0) ≡ (not (eqb (get_or marks j 0) 0) || eqb (cell t i 1) (256 + j))
+        → not (eqb (get_or (when u then set marks (cell t i 1 - 256) 1 else marks) j 0) 0) ≡ (not (eqb (get_or marks j 0) 0) || eqb (cell t i 1) (256 + j))
     by_number true e = by_place (eqb (cell t i 1) (256 + j)) refl (leb-true 256 (cell t i 1) e)
     by_number false e =
         let b : cell t i 1 < 256 = leb-false 256 (cell t i 1) e in
         rw (ne_eqb (cell t i 1) (256 + j) (λ h. omega arith)) (sym (or_false (not (eqb (get_or marks j 0) 0))))
 
-    by_kind : (u : Bool) → not (eqb (get_or (if u && leb 256 (cell t i 1) then set marks (cell t i 1 - 256) 1 else marks) j 0) 0)
+    by_kind : (u : Bool) → not (eqb (get_or (when u && leb 256 (cell t i 1) then set marks (cell t i 1 - 256) 1 else marks) j 0) 0)
         ≡ (not (eqb (get_or marks j 0) 0) || (u && eqb (cell t i 1) (256 + j)))
     by_kind true = by_number (leb 256 (cell t i 1)) refl
     by_kind false = sym (or_false (not (eqb (get_or marks j 0) 0)))

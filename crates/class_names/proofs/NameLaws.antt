@@ -6,7 +6,7 @@ use Prim.Native.Nat.{ℕ, zero, suc, ◌+◌, ◌-◌, ◌*◌, ◌<◌, ◌≤�
 use native.Mathlib.Omega.{arith}
 use lib.Dec.{eqb}
 use borrow.Author.Tests.{eq-eqb, ne_eqb, eqb-true}
-use Rattle.definition.specs.Basics.{if◌then◌else◌, filter, ◌∈?◌}
+use Rattle.definition.specs.Basics.{when◌then◌else◌, filter, ◌∈?◌}
 use Rattle.definition.specs.Sheet.{Sheet, a, kids_of}
 use Rattle.definition.specs.Outside.{Outside, Method, record_of}
 use Rattle.outside.specs.Found.{recorded_names}
@@ -31,9 +31,9 @@ keys_in m [] = refl
 keys_in m (y ∷ ys) = rw (eqb_same m y.key, keys_in m ys)
 
 module _ (s : Sheet) (o : Store) (j r m : ℕ) where
-  row_split : (m ∈? row_names s o j r) ≡ ((m ∈? map (a s) (kids_of s j r)) || (m ∈? (if eqb j 10 then map (λ y. y.key) (list_at o (8 * r + 7)) else [])))
+  row_split : (m ∈? row_names s o j r) ≡ ((m ∈? map (a s) (kids_of s j r)) || (m ∈? (when eqb j 10 then map (λ y. y.key) (list_at o (8 * r + 7)) else [])))
   unfolding row_names
-  row_split = any_append (eqb m) (map (a s) (kids_of s j r)) (if eqb j 10 then map (λ y. y.key) (list_at o (8 * r + 7)) else [])
+  row_split = any_append (eqb m) (map (a s) (kids_of s j r)) (when eqb j 10 then map (λ y. y.key) (list_at o (8 * r + 7)) else [])
 
   pub row_listed : true ≡ (m ∈? map (a s) (kids_of s j r)) → true ≡ (m ∈? row_names s o j r)
   row_listed e = sym (row_split ∙ rw (sym e))
@@ -51,11 +51,11 @@ module _ (s : Sheet) (o : Store) (j r m : ℕ) where
 module _ (O : Outside) (s : Sheet) (o : Store) (j c m : ℕ) {x : Bool} where
   pub own_row : true ≡ of_sheet s c → x ≡ (m ∈? row_names s o j (c - 256)) → x ≡ (m ∈? own_in O s o j c)
   unfolding own_in
-  own_row f h = h ∙ ap (λ (t : Bool). m ∈? (if t then row_names s o j (c - 256) else recorded_names O j c)) f
+  own_row f h = h ∙ ap (λ (t : Bool). m ∈? (when t then row_names s o j (c - 256) else recorded_names O j c)) f
 
   pub own_record : false ≡ of_sheet s c → x ≡ (m ∈? recorded_names O j c) → x ≡ (m ∈? own_in O s o j c)
   unfolding own_in
-  own_record f h = h ∙ ap (λ (t : Bool). m ∈? (if t then row_names s o j (c - 256) else recorded_names O j c)) f
+  own_record f h = h ∙ ap (λ (t : Bool). m ∈? (when t then row_names s o j (c - 256) else recorded_names O j c)) f
 
 -- Names after inheritance.
 
@@ -64,7 +64,7 @@ in_filter p m [] = refl
 in_filter p m (x ∷ xs) = go (eqb m x) refl (p x) refl (in_filter p m xs)
   where
     go : (u : Bool) → eqb m x ≡ u → (t : Bool) → p x ≡ t → (m ∈? filter p xs) ≡ ((m ∈? xs) && p m)
-        → (m ∈? (if t then x ∷ filter p xs else filter p xs)) ≡ ((u || (m ∈? xs)) && p m)
+        → (m ∈? (when t then x ∷ filter p xs else filter p xs)) ≡ ((u || (m ∈? xs)) && p m)
     go true e true h i = rw e (sym (ap p (eqb-true m x e) ∙ h))
     go true e false h i = i ∙ rw (ap p (eqb-true m x e) ∙ h) (and_false (m ∈? xs))
     go false e true h i = rw e i
@@ -80,7 +80,7 @@ pub names_split : (O : Outside) (s : Sheet) (o : Store) (j n c : ℕ)
 unfolding names_in inherited
 names_split O s o j n c = go (eqb (parent_in s o c) 0) (names_in O s o j n (parent_in s o c)) (own_in O s o j c)
   where
-    go : (t : Bool) (up own : List ℕ) → (if t then own else up ++ new_of up own) ≡ (if t then [] else up) ++ new_of (if t then [] else up) own
+    go : (t : Bool) (up own : List ℕ) → (when t then own else up ++ new_of up own) ≡ (when t then [] else up) ++ new_of (when t then [] else up) own
     go true up own = sym (filter_all own)
     go false up own = refl
 
@@ -147,8 +147,8 @@ own_methods_lem : (O : Outside) (s : Sheet) (o : Store) (c : ℕ) → own_in O s
 unfolding own_in row_names
 own_methods_lem O s o c = go (of_sheet s c)
   where
-    go : (t : Bool) → (if t then map (a s) (kids_of s 6 (c - 256)) ++ [] else map (λ m. m.name) (record_of O c).methods)
-        ≡ map (λ (m : Method). m.name) (if t then map (method_at s) (kids_of s 6 (c - 256)) else (record_of O c).methods)
+    go : (t : Bool) → (when t then map (a s) (kids_of s 6 (c - 256)) ++ [] else map (λ m. m.name) (record_of O c).methods)
+        ≡ map (λ (m : Method). m.name) (when t then map (method_at s) (kids_of s 6 (c - 256)) else (record_of O c).methods)
     go true = map_names s (kids_of s 6 (c - 256))
     go false = refl
 

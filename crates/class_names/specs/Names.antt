@@ -1,6 +1,6 @@
 -- The names of the fields or of the methods of a class, its own and after inheritance, told by the kind of their rows: 10 or 6.
 use Rattle.std.specs.Prelude.{◌≡◌, not, ◌&&◌, List, [], ◌∷◌, ◌++◌, map, ℕ, ◌+◌, ◌-◌, ◌*◌, ◌<◌, ◌≤◌, eqb, leb, length, get_or, set}
-use Rattle.definition.specs.Basics.{if◌then◌else◌, filter, bit, ◌∈?◌}
+use Rattle.definition.specs.Basics.{when◌then◌else◌, filter, bit, ◌∈?◌}
 use Rattle.definition.specs.Sheet.{Sheet, a, rows, is, kids_of}
 use Rattle.definition.specs.Classes.{of_sheet, merge_fields, inheriting}
 use Rattle.definition.specs.Outside.{Outside}
@@ -12,11 +12,11 @@ use Rattle.store.specs.declared.nodes.Store.{Store}
 
 -- the own names of the class of row r: those that it lists, and of fields then those that the walk stored
 unfoldable pub row_names : Sheet → Stored → ℕ → ℕ → List ℕ
-row_names s o j r = map (a s) (kids_of s j r) ++ (if eqb j 10 then map (λ y. y.key) (list_at o (8 * r + 7)) else [])
+row_names s o j r = map (a s) (kids_of s j r) ++ (when eqb j 10 then map (λ y. y.key) (list_at o (8 * r + 7)) else [])
 
 -- the own names of class c: of its row, or of its record
 unfoldable pub own_in : Outside → Sheet → Stored → ℕ → ℕ → List ℕ
-own_in O s o j c = if of_sheet s c then row_names s o j (c - 256) else recorded_names O j c
+own_in O s o j c = when of_sheet s c then row_names s o j (c - 256) else recorded_names O j c
 
 -- the names of class c after inheritance; n bounds the climb
 unfoldable pub names_in : Outside → Sheet → Stored → ℕ → ℕ → ℕ → List ℕ
@@ -24,7 +24,7 @@ names_in O s o j n c = inheriting merge_fields (parent_in s o) (own_in O s o j) 
 
 -- the names that a class inherits from its parent p; no class has number 0
 unfoldable pub inherited : Outside → Sheet → Stored → ℕ → ℕ → ℕ → List ℕ
-inherited O s o j n p = if eqb p 0 then [] else names_in O s o j n p
+inherited O s o j n p = when eqb p 0 then [] else names_in O s o j n p
 
 -- the names of a list that are not inherited
 abbrev pub new_of : List ℕ → List ℕ → List ℕ
@@ -32,7 +32,7 @@ new_of up ms = filter (λ m. not (m ∈? up)) ms
 
 -- the marks with that of the parent of row r, if row r is a class whose parent is of the sheet
 unfoldable pub mark_parent : Sheet → List ℕ → ℕ → List ℕ → List ℕ
-mark_parent s t r marks = if is s 4 r && leb 256 (cell t r 1) then set marks (cell t r 1 - 256) 1 else marks
+mark_parent s t r marks = when is s 4 r && leb 256 (cell t r 1) then set marks (cell t r 1 - 256) 1 else marks
 
 -- Of the table t, the marked rows are those of the classes that have children.
 pub record ParentMarks (s t marks : List ℕ) : Type 0 where

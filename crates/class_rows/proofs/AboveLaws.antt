@@ -7,7 +7,7 @@ use native.Mathlib.Omega.{arith}
 use lib.Dec.{T, eqb, leb, ltb}
 use lib.ListN.{length, get_or, get_or-eq_default}
 use borrow.Author.Tests.{eq-eqb, ne_eqb, ltb-true, le-leb, lt-leb, leb-true}
-use Rattle.definition.specs.Basics.{if◌then◌else◌}
+use Rattle.definition.specs.Basics.{when◌then◌else◌}
 use Rattle.definition.specs.Sheet.{rows}
 use Rattle.definition.specs.Outside.{Outside, Method}
 use Rattle.definition.specs.Classes.{of_sheet, method_named}
@@ -59,7 +59,7 @@ module _ {O : Outside} {s t q places w : List ℕ} {r k : ℕ} (h : Placed O s t
   unfolding place_of
   found i z = go (leb 256 p) refl (sym f ∙ z)
     where
-      go : (u : Bool) → leb 256 p ≡ u → (if u then get_or places (p - 256) 0 else 0) ≡ suc i → (256 ≤ p) × (get_or places (p - 256) 0 ≡ suc i)
+      go : (u : Bool) → leb 256 p ≡ u → (when u then get_or places (p - 256) 0 else 0) ≡ suc i → (256 ≤ p) × (get_or places (p - 256) 0 ≡ suc i)
       go true b g = (leb-true 256 p b, g)
       go false b g = absurd (omega arith)
 
@@ -168,7 +168,7 @@ shown_kept {s} {t} {q} {j} {c} {w} {y} {k} {n} {a} rs e h f o =
       functions = λ g. column_kept 3 a.row a.count m (omega arith) (omega arith) ∙ (h f o).functions g;
     }
   where
-    narrow : (t : Bool) → (if t then 3 else 2) < 8
+    narrow : (t : Bool) → (when t then 3 else 2) < 8
     narrow true = omega arith
     narrow false = omega arith
 

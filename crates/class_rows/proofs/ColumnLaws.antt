@@ -8,7 +8,7 @@ use lib.Dec.{ltb}
 use lib.ListN.{length, get_or}
 use lib.Seq.{sets, length-sets}
 use borrow.Author.Tests.{lt-ltb}
-use Rattle.definition.specs.Basics.{if◌then◌else◌}
+use Rattle.definition.specs.Basics.{when◌then◌else◌}
 use Rattle.machine.proofs.Words.{sets_in}
 use Rattle.sink.specs.Sink.{Sink, sink, emit, emit_all}
 use Rattle.name_rows.proofs.KeptLaws.{Kept, all_kept}
@@ -42,7 +42,7 @@ all_fit (r ∷ rs) x l = go (ltb x.count (length x.words / 8)) l
     w : List ℕ
     w = sets x.words (8 * x.count) r
 
-    go : (t : Bool) → (emit_all rs (if t then sink (suc x.count) w else sink (suc (length x.words / 8)) x.words)).count ≤ length x.words / 8
+    go : (t : Bool) → (emit_all rs (when t then sink (suc x.count) w else sink (suc (length x.words / 8)) x.words)).count ≤ length x.words / 8
         → ((emit_all rs (sink (suc x.count) w)).count ≤ length w / 8 → suc x.count + length rs ≤ length w / 8)
         → ((emit_all rs (sink (suc (length x.words / 8)) x.words)).count ≤ length x.words / 8 → suc (length x.words / 8) + length rs ≤ length x.words / 8)
         → x.count + suc (length rs) ≤ length x.words / 8

@@ -7,7 +7,7 @@ use native.Mathlib.Omega.{arith}
 use lib.Dec.{eqb}
 use lib.ListN.{length, get_or, length-append}
 use borrow.Author.Tests.{ne_eqb, eqb-true, eqb-false}
-use Rattle.definition.specs.Basics.{if◌then◌else◌, from}
+use Rattle.definition.specs.Basics.{when◌then◌else◌, from}
 use Rattle.definition.specs.Sheet.{Sheet, rows}
 use Rattle.definition.specs.Outside.{Outside, Method}
 use Rattle.definition.specs.Classes.{own_methods, method_named}
@@ -24,13 +24,13 @@ use Rattle.name_rows.proofs.PutLaws.{names_after, slot_counts}
 -- A copied row is the row that tells the name, if it tells the function that the parent has.
 module _ (O : Outside) (s : Sheet) (o : Stored) (w : Wanted) (l : 0 < rows s) (g : parent_in s o w.class.0 ≡ 0 → ⊥) where
   own_else : (m : ℕ) {f : ℕ} → f ≡ function_in O s o (rows s - 1) (parent_in s o w.class.0) m
-      → (if eqb (method_named m (own_methods O s w.class.0)) 0 then f else method_named m (own_methods O s w.class.0)) ≡ function_in O s o (rows s) w.class.0 m
+      → (when eqb (method_named m (own_methods O s w.class.0)) 0 then f else method_named m (own_methods O s w.class.0)) ≡ function_in O s o (rows s) w.class.0 m
   own_else m {f} e = go (eqb own 0) refl
     where
       own : ℕ
       own = method_named m (own_methods O s w.class.0)
 
-      go : (t : Bool) → eqb own 0 ≡ t → (if t then f else own) ≡ function_in O s o (rows s) w.class.0 m
+      go : (t : Bool) → eqb own 0 ≡ t → (when t then f else own) ≡ function_in O s o (rows s) w.class.0 m
       go true h = e ∙ ap (λ (y : Method). y.fun) (method_up O s o m (rows s) w.class.0 l refl (eqb-true own 0 h) refl g)
       go false h = ap (λ (y : Method). y.fun) (method_here O s o m (rows s) w.class.0 l refl (eqb-false own 0 h))
 
@@ -39,7 +39,7 @@ module _ (O : Outside) (s : Sheet) (o : Stored) (w : Wanted) (l : 0 < rows s) (g
   unfolding copied_row name_row
   copied_row_lem v i m k e f = go (eqb w.kind 10) refl e
     where
-      go : (t : Bool) → eqb w.kind 10 ≡ t → get_or v (8 * i + (if t then 3 else 2)) 0 ≡ m → copied_row O s w v i k ≡ name_row O s o w m k
+      go : (t : Bool) → eqb w.kind 10 ≡ t → get_or v (8 * i + (when t then 3 else 2)) 0 ≡ m → copied_row O s w v i k ≡ name_row O s o w m k
       go true h d = rw (h, d)
       go false h d = rw (h, d, own_else m (f (eqb-false w.kind 10 h)))
 

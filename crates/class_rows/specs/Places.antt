@@ -1,6 +1,6 @@
 -- Where the rows of classes stand in the answer words, so that a class can copy the names that it inherits.
 use Rattle.std.specs.Prelude.{◌≡◌, List, map, ℕ, suc, ◌+◌, ◌-◌, ◌*◌, ◌/◌, ◌<◌, ◌≤◌, eqb, leb, length, get_or}
-use Rattle.definition.specs.Basics.{if◌then◌else◌, from}
+use Rattle.definition.specs.Basics.{when◌then◌else◌, from}
 use Rattle.definition.specs.Sheet.{Sheet, rows}
 use Rattle.definition.specs.Outside.{Outside}
 use Rattle.definition.specs.Classes.{method_named}
@@ -21,7 +21,7 @@ function_in O s o n c m = method_named m (methods_in O s o n c)
 
 -- the column of the names in the rows of kind j: that of a field stands after its slot
 abbrev pub name_column : ℕ → ℕ
-name_column j = if eqb j 10 then 3 else 2
+name_column j = when eqb j 10 then 3 else 2
 
 -- the names of kind j of the class of row r
 abbrev pub names_of : Outside → Sheet → Stored → ℕ → ℕ → List ℕ
@@ -47,13 +47,13 @@ pub record Placed (O : Outside) (s t q places w : List ℕ) (r k : ℕ) : Type 0
 
 -- the entry of class c in the table of places
 unfoldable pub place_of : List ℕ → ℕ → ℕ
-place_of places c = if leb 256 c then get_or places (c - 256) 0 else 0
+place_of places c = when leb 256 c then get_or places (c - 256) 0 else 0
 
 -- the names of kind j of the class that stands from row at - 1 on; none if `at` is 0
 unfoldable pub above_of : List ℕ → ℕ → ℕ → Above
 above_of w at j =
-    if eqb at 0 then record { row = 0; count = 0 }
-    else if eqb j 10 then record { row = at; count = get_or w (8 * (at - 1) + 4) 0 }
+    when eqb at 0 then record { row = 0; count = 0 }
+    else when eqb j 10 then record { row = at; count = get_or w (8 * (at - 1) + 4) 0 }
     else record { row = at + get_or w (8 * (at - 1) + 4) 0; count = get_or w (8 * (at - 1) + 5) 0 }
 
 -- The names of kind j of the parent of class c stand in the words w where `a` tells, below row k; methods with their functions.

@@ -7,7 +7,7 @@ use Prim.Native.Nat.{ℕ, zero, suc, ◌+◌, ◌<◌, ◌≤◌}
 use native.Mathlib.Omega.{arith}
 use lib.ListN.{length, get_or}
 use lib.Dec.{eqb, T}
-use Rattle.definition.specs.Basics.{if◌then◌else◌, first, from, ◌∈?◌}
+use Rattle.definition.specs.Basics.{when◌then◌else◌, first, from, ◌∈?◌}
 use Rattle.definition.specs.Sheet.{Sheet, next, child, a, rows, kids}
 use Rattle.definition.specs.Outside.{Outside}
 use Rattle.definition.specs.Classes.{class_of}
@@ -34,7 +34,7 @@ first_none : (p : ℕ → Bool) (n k m : ℕ) → ((i : ℕ) → i < n → T (p 
 first_none p n k zero f l = refl
 first_none p n k (suc m) f l = pass (p k) (f k (omega arith)) (first_none p n (suc k) m f (omega arith))
   where
-    pass : (b : Bool) {x : ℕ} → (T b → ⊥) → x ≡ 0 → (if b then k else x) ≡ 0
+    pass : (b : Bool) {x : ℕ} → (T b → ⊥) → x ≡ 0 → (when b then k else x) ≡ 0
     pass true h e = absurd (h tt)
     pass false h e = e
 
@@ -58,7 +58,7 @@ module _ (O : Outside) (s : Sheet) (ok : PastFour O s) where
   no_class_lem : (f : ℕ) → ((p : ℕ) → p < rows s → T (f ∈? kids s p) → ⊥) → class_of s f ≡ 0
   no_class_lem f h =
       ap (kids_class s) (first_none (λ p. f ∈? kids s p) (rows s) 0 (rows s) h (omega arith))
-      ∙ ap (λ (k : ℕ). if eqb k 4 then 0 else if eqb k 52 then a s 0 else 0) (header_kind ok.names s fa)
+      ∙ ap (λ (k : ℕ). when eqb k 4 then 0 else when eqb k 52 then a s 0 else 0) (header_kind ok.names s fa)
 
   -- before the pass
   pub filled_none : (t : List ℕ) → Clear t → Filled s 0 t

@@ -9,7 +9,7 @@ use lib.ListN.{length, get_or, set, length-set}
 use lib.Seq.{get_or-set_same, get_or-set_other}
 use lib.Dec.{eqb}
 use borrow.Author.Tests.{eq-eqb, ne_eqb}
-use Rattle.definition.specs.Basics.{if◌then◌else◌}
+use Rattle.definition.specs.Basics.{when◌then◌else◌}
 use Rattle.definition.specs.Sheet.{Sheet, kind, next, child, a}
 use Rattle.definition.proofs.Lists.Tests.{ℕ-trichotomy}
 use Rattle.classes.specs.Table.{kids_class, linked, row_done}
@@ -17,25 +17,25 @@ use Rattle.classes.specs.Table.{kids_class, linked, row_done}
 -- The children of a class, of a literal, of any other row.
 module _ (s : Sheet) (r : ℕ) {k : ℕ} (e : k ≡ kind s r) where
   pub of_class_lem : k ≡ 4 → r ≡ kids_class s r
-  of_class_lem h = sym (ap (λ (t : Bool). if t then r else if eqb (kind s r) 52 then a s r else 0) (eq-eqb (kind s r) 4 (sym e ∙ h)))
+  of_class_lem h = sym (ap (λ (t : Bool). when t then r else when eqb (kind s r) 52 then a s r else 0) (eq-eqb (kind s r) 4 (sym e ∙ h)))
 
-  not_class : (k ≡ 4 → ⊥) → kids_class s r ≡ (if eqb (kind s r) 52 then a s r else 0)
-  not_class h = ap (λ (t : Bool). if t then r else if eqb (kind s r) 52 then a s r else 0) (ne_eqb (kind s r) 4 (λ q. h (e ∙ q)))
+  not_class : (k ≡ 4 → ⊥) → kids_class s r ≡ (when eqb (kind s r) 52 then a s r else 0)
+  not_class h = ap (λ (t : Bool). when t then r else when eqb (kind s r) 52 then a s r else 0) (ne_eqb (kind s r) 4 (λ q. h (e ∙ q)))
 
   pub of_literal : (k ≡ 4 → ⊥) → k ≡ 52 → {x : ℕ} → x ≡ a s r → x ≡ kids_class s r
-  of_literal h g q = q ∙ sym (not_class h ∙ ap (λ (t : Bool). if t then a s r else 0) (eq-eqb (kind s r) 52 (sym e ∙ g)))
+  of_literal h g q = q ∙ sym (not_class h ∙ ap (λ (t : Bool). when t then a s r else 0) (eq-eqb (kind s r) 52 (sym e ∙ g)))
 
   pub of_other : (k ≡ 4 → ⊥) → (k ≡ 52 → ⊥) → 0 ≡ kids_class s r
-  of_other h g = sym (not_class h ∙ ap (λ (t : Bool). if t then a s r else 0) (ne_eqb (kind s r) 52 (λ q. g (e ∙ q))))
+  of_other h g = sym (not_class h ∙ ap (λ (t : Bool). when t then a s r else 0) (ne_eqb (kind s r) 52 (λ q. g (e ∙ q))))
 
 -- A link of 0 writes nothing.
 pub linked_none : (i x : ℕ) (t : List ℕ) → i ≡ 0 → linked i x t ≡ t
 unfolding linked
-linked_none i x t e = ap (λ (b : Bool). if b then t else set t i x) (eq-eqb i 0 e)
+linked_none i x t e = ap (λ (b : Bool). when b then t else set t i x) (eq-eqb i 0 e)
 
 pub linked_some : (i x : ℕ) (t : List ℕ) → (i ≡ 0 → ⊥) → linked i x t ≡ set t i x
 unfolding linked
-linked_some i x t h = ap (λ (b : Bool). if b then t else set t i x) (ne_eqb i 0 h)
+linked_some i x t h = ap (λ (b : Bool). when b then t else set t i x) (ne_eqb i 0 h)
 
 pub zero_or_not : (i : ℕ) → (i ≡ 0) ⊎ (0 < i)
 zero_or_not i = go (ℕ-trichotomy i 0)

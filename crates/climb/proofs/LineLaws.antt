@@ -8,7 +8,7 @@ use lib.Dec.{T, eqb, ltb}
 use lib.ListN.{length, get_or, set, length-set}
 use lib.Seq.{get_or-set_same, get_or-set_other, set_out}
 use borrow.Author.Tests.{eq-eqb, ne_eqb, eqb-true, eqb-false, ltb-true, ltb-false, lt-ltb}
-use Rattle.definition.specs.Basics.{if◌then◌else◌, first, from, ◌∈?◌}
+use Rattle.definition.specs.Basics.{when◌then◌else◌, first, from, ◌∈?◌}
 use Rattle.machine.specs.Machine.{one_more}
 use Rattle.climb.specs.declared.Ending.{Ending}
 use Rattle.climb.specs.declared.Ending.TheVariants.{Top, Circle, NoRecord}
@@ -252,7 +252,7 @@ top_of (NoRecord c) e = absurd (subst T (sym e) tt)
 -- the climb from class c, where the marks are those of climbs from classes below it
 module _ (parents : List ℕ) (size c : ℕ) (m : List ℕ) (e : size ≡ run_size parents m) (l : c < size) (g : (j : ℕ) → get_or m j 0 ≤ c) where
   as_process : climbed parents m c ≡ process parents size (suc c) (suc size) m c
-  as_process = sym (climb_start parents m c e (sym (ap (λ (t : Bool). if t then suc c else c) (lt-ltb c NO_RECORD (omega arith)))))
+  as_process = sym (climb_start parents m c e (sym (ap (λ (t : Bool). when t then suc c else c) (lt-ltb c NO_RECORD (omega arith)))))
 
   next_marks : Marks (length m) (suc c) (climbed parents m c).marks
   next_marks =
@@ -288,12 +288,12 @@ later_answers parents size (suc n) c m e s g h =
     plain : Ending
     plain = climb_from parents size (suc size) [] c
 
-    tested : (t : Bool) → is_top (climbed parents m c).ending ≡ t → (if not (is_top plain) then plain else rest) ≡ (if not t then plain else rest)
-    tested t d = ap (λ (u : Bool). if not u then plain else rest) (sym (ap is_top found.0) ∙ d)
+    tested : (t : Bool) → is_top (climbed parents m c).ending ≡ t → (when not (is_top plain) then plain else rest) ≡ (when not t then plain else rest)
+    tested t d = ap (λ (u : Bool). when not u then plain else rest) (sym (ap is_top found.0) ∙ d)
 
     go : (t : Bool) → is_top (climbed parents m c).ending ≡ t
         → (is_top (climbed parents m c).ending ≡ true → (process_all parents n (climbed parents m c).marks (suc c)).ending ≡ rest)
-        → (process_all parents (suc n) m c).ending ≡ (if not (is_top plain) then plain else rest)
+        → (process_all parents (suc n) m c).ending ≡ (when not (is_top plain) then plain else rest)
     go true d i = ap (λ (x : Climbed). x.ending) (sym (all_next parents m (suc n) n c (suc c) refl refl refl d)) ∙ i d ∙ sym (tested true d)
     go false d i = ap (λ (x : Climbed). x.ending) (sym (all_over parents m (suc n) n c (suc c) refl refl refl d)) ∙ found.0 ∙ sym (tested false d)
 

@@ -7,7 +7,7 @@ use native.Mathlib.Omega.{arith}
 use lib.Dec.{T, eqb, ltb}
 use lib.ListN.{length, get_or, set, length-set}
 use borrow.Author.Tests.{eq-eqb, ne_eqb, eqb-true, eqb-false, ltb-true, ltb-false, lt-ltb, le-ltb}
-use Rattle.definition.specs.Basics.{if◌then◌else◌}
+use Rattle.definition.specs.Basics.{when◌then◌else◌}
 use Rattle.machine.specs.Machine.{one_more}
 use Rattle.climb.specs.declared.Ending.{Ending}
 use Rattle.climb.specs.declared.Ending.TheVariants.{Top, Circle, NoRecord}
@@ -19,7 +19,7 @@ use Rattle.climb.proofs.CountLaws.{unmarked, unmarked_most, unmarked_less}
 
 -- a choice by three tests, in the order of `process`: pending, in the lineage, parent without a record
 abbrev pub chosen {ℓ} : {A : Type ℓ} → A → A → A → A → Bool → Bool → Bool → A
-chosen w x y z t u v = if not t then w else if u then x else if v then y else z
+chosen w x y z t u v = when not t then w else when u then x else when v then y else z
 
 module _ {ℓ} {A : Type ℓ} (w x y z : A) (t u v : Bool) where
   pub chosen_1 : t ≡ false → chosen w x y z t u v ≡ w
@@ -204,7 +204,7 @@ process_more parents size mark z (suc n) (suc i) m c l a b = go (step_at parents
 pub mark_some : (c : ℕ) → one_more c ≡ 0 → ⊥
 mark_some c = go (ltb c NO_RECORD) refl
   where
-    go : (t : Bool) → ltb c NO_RECORD ≡ t → (if t then suc c else c) ≡ 0 → ⊥
+    go : (t : Bool) → ltb c NO_RECORD ≡ t → (when t then suc c else c) ≡ 0 → ⊥
     go true d e = omega arith
     go false d e = omega (arith, ltb-false c NO_RECORD d)
 
@@ -236,17 +236,17 @@ climb_up parents size mark m c z l {x} {m₂} {p} e h f =
 
 -- the k climbs from class c on, of which the first leaves x and the marks m₂; d is the next class
 module _ (parents m : List ℕ) (k n c d : ℕ) (s : k ≡ suc n) (t : d ≡ suc c) {x : Ending} {m₂ : List ℕ} (e : leaving x m₂ ≡ climbed parents m c) where
-  first_of_all : process_all parents k m c ≡ (if is_top x then process_all parents n m₂ d else leaving x m₂)
+  first_of_all : process_all parents k m c ≡ (when is_top x then process_all parents n m₂ d else leaving x m₂)
   first_of_all =
       ap (λ (i : ℕ). process_all parents i m c) s
-      ∙ ap (λ (i : ℕ). if is_top (climbed parents m c).ending then process_all parents n (climbed parents m c).marks i else climbed parents m c) (sym t)
-      ∙ ap (λ (y : Climbed). if is_top y.ending then process_all parents n y.marks d else y) (sym e)
+      ∙ ap (λ (i : ℕ). when is_top (climbed parents m c).ending then process_all parents n (climbed parents m c).marks i else climbed parents m c) (sym t)
+      ∙ ap (λ (y : Climbed). when is_top y.ending then process_all parents n y.marks d else y) (sym e)
 
   pub all_over : is_top x ≡ false → leaving x m₂ ≡ process_all parents k m c
-  all_over h = sym (first_of_all ∙ ap (λ (b : Bool). if b then process_all parents n m₂ d else leaving x m₂) h)
+  all_over h = sym (first_of_all ∙ ap (λ (b : Bool). when b then process_all parents n m₂ d else leaving x m₂) h)
 
   pub all_next : is_top x ≡ true → process_all parents n m₂ d ≡ process_all parents k m c
-  all_next h = sym (first_of_all ∙ ap (λ (b : Bool). if b then process_all parents n m₂ d else leaving x m₂) h)
+  all_next h = sym (first_of_all ∙ ap (λ (b : Bool). when b then process_all parents n m₂ d else leaving x m₂) h)
 
 pub all_end : (parents m : List ℕ) (n c : ℕ) → n ≡ 0 → leaving Top m ≡ process_all parents n m c
 all_end parents m n c e = sym (ap (λ (i : ℕ). process_all parents i m c) e)

@@ -2,7 +2,7 @@
 -- numbers. Marks stand for the Rust's two sets: a class without a mark is pending, one with the mark of this climb is pending and in its
 -- lineage, one with another mark is not pending.
 use Rattle.std.specs.Prelude.{Bool, true, false, not, ◌&&◌, ◌||◌, List, [], ◌∷◌, map, ℕ, zero, suc, min, eqb, ltb, length, get_or, set}
-use Rattle.definition.specs.Basics.{if◌then◌else◌, first, from, ◌∈?◌}
+use Rattle.definition.specs.Basics.{when◌then◌else◌, first, from, ◌∈?◌}
 use Rattle.machine.specs.Machine.{one_more}
 use Rattle.climb.specs.declared.Ending.{Ending}
 use Rattle.climb.specs.declared.Ending.TheVariants.{Top, Circle, NoRecord}
@@ -47,9 +47,9 @@ abbrev pub process : List ℕ → ℕ → ℕ → ℕ → List ℕ → ℕ → C
 process parents size mark zero marks c = leaving Top marks
 process parents size mark (suc n) marks c =
     let up : Climbed = process parents size mark n (set marks c mark) (get_or parents c 0) in
-    if not (is_pending size mark marks c) then leaving Top marks
-    else if in_lineage mark marks c then leaving (Circle c) marks
-    else if lacks_record parents c then leaving (NoRecord c) marks
+    when not (is_pending size mark marks c) then leaving Top marks
+    else when in_lineage mark marks c then leaving (Circle c) marks
+    else when lacks_record parents c then leaving (NoRecord c) marks
     else up
 
 -- the climb from class c, which marks with c + 1. It goes up at most once from each class: a larger bound changes nothing (`bound_enough`).
@@ -66,7 +66,7 @@ abbrev pub process_all : List ℕ → ℕ → List ℕ → ℕ → Climbed
 process_all parents zero marks c = leaving Top marks
 process_all parents (suc n) marks c =
     let x : Climbed = climbed parents marks c in
-    let later : Climbed = process_all parents n x.marks (suc c) in if is_top x.ending then later else x
+    let later : Climbed = process_all parents n x.marks (suc c) in when is_top x.ending then later else x
 
 -- the climbs from all classes
 unfoldable pub climbed_all : List ℕ → List ℕ → Climbed
@@ -75,9 +75,9 @@ climbed_all parents marks = process_all parents (run_size parents marks) marks 0
 -- one step of `process`: the parent to go on with, or how the climb ended
 abbrev pub step_at : List ℕ → ℕ → ℕ → List ℕ → ℕ → Step
 step_at parents size mark marks c =
-    if not (is_pending size mark marks c) then Over Top
-    else if in_lineage mark marks c then Over (Circle c)
-    else if lacks_record parents c then Over (NoRecord c)
+    when not (is_pending size mark marks c) then Over Top
+    else when in_lineage mark marks c then Over (Circle c)
+    else when lacks_record parents c then Over (NoRecord c)
     else Up (get_or parents c 0)
 
 -- the marks after a step from class c
@@ -90,9 +90,9 @@ abbrev pub climb_from : List ℕ → ℕ → ℕ → List ℕ → ℕ → Ending
 climb_from parents size zero lineage c = Top
 climb_from parents size (suc n) lineage c =
     let up : Ending = climb_from parents size n (c ∷ lineage) (get_or parents c 0) in
-    if not (ltb c size) then Top
-    else if c ∈? lineage then Circle c
-    else if lacks_record parents c then NoRecord c
+    when not (ltb c size) then Top
+    else when c ∈? lineage then Circle c
+    else when lacks_record parents c then NoRecord c
     else up
 
 -- of the climbs without marks from all classes the first that does not end at the top

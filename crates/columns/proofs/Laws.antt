@@ -9,7 +9,7 @@ use lib.ListN.{length, get_or, take, replicate}
 use lib.Seq.{take_at}
 use lib.Dec.{eqb, leb, ltb, eqb→eq, leb→le}
 use borrow.Author.Tests.{ltb-false, le-ltb, eq-eqb, ne_eqb}
-use Rattle.definition.specs.Basics.{if◌then◌else◌}
+use Rattle.definition.specs.Basics.{when◌then◌else◌}
 use Rattle.definition.specs.Sheet.{word, rows}
 use Rattle.definition.specs.Outcome.{rows_fit}
 use Rattle.definition.proofs.Lists.Tests.{T_true, T_and}
@@ -28,7 +28,7 @@ restored_stored : (c r w : ℕ) → r ≤ 2 ^ 32 → w < 2 ^ 32 → restored c r
 unfolding restored stored
 restored_stored c r w h l = go (is_link c)
   where
-    go : (t : Bool) → (let x : ℕ = if t then (w + 2 ^ 32 - r) % 2 ^ 32 else w in if t then (x + r) % 2 ^ 32 else x) ≡ w
+    go : (t : Bool) → (let x : ℕ = when t then (w + 2 ^ 32 - r) % 2 ^ 32 else w in when t then (x + r) % 2 ^ 32 else x) ≡ w
     go true = less_more r w h l
     go false = refl
 
@@ -36,7 +36,7 @@ stored_restored : (c r w : ℕ) → r ≤ 2 ^ 32 → w < 2 ^ 32 → stored c r (
 unfolding restored stored
 stored_restored c r w h l = go (is_link c)
   where
-    go : (t : Bool) → (let x : ℕ = if t then (w + r) % 2 ^ 32 else w in if t then (x + 2 ^ 32 - r) % 2 ^ 32 else x) ≡ w
+    go : (t : Bool) → (let x : ℕ = when t then (w + r) % 2 ^ 32 else w in when t then (x + 2 ^ 32 - r) % 2 ^ 32 else x) ≡ w
     go true = more_less r w h l
     go false = refl
 
@@ -92,7 +92,7 @@ passed : (s : List ℕ) (lent : ℕ) → first_no s lent ≡ 0 → (rows_fit s �
 unfolding first_no
 passed s lent = go (rows_fit s) (ltb lent (length s)) refl refl
   where
-    go : (x y : Bool) → rows_fit s ≡ x → ltb lent (length s) ≡ y → ◌≡◌ {A = ℕ} (if not x then 1 else if y then 22 else 0) 0
+    go : (x y : Bool) → rows_fit s ≡ x → ltb lent (length s) ≡ y → ◌≡◌ {A = ℕ} (when not x then 1 else when y then 22 else 0) 0
         → (rows_fit s ≡ true) × (length s ≤ lent)
     go true true a b e = absurd (omega (arith, e))
     go true false a b e = (a, ltb-false lent (length s) b)

@@ -1,6 +1,6 @@
 -- A sheet stored by column, and the way back, as document 02 has them (F-12).
 use Rattle.std.specs.Prelude.{Bool, not, ◌||◌, ◌≡◌, List, ◌++◌, map, ℕ, ◌+◌, ◌-◌, ◌*◌, ◌%◌, ◌^◌, length, get_or, take, replicate, eqb, ltb}
-use Rattle.definition.specs.Basics.{if◌then◌else◌, concat_map, from}
+use Rattle.definition.specs.Basics.{when◌then◌else◌, concat_map, from}
 use Rattle.definition.specs.Sheet.{word, rows}
 use Rattle.definition.specs.Outcome.{rows_fit}
 
@@ -10,11 +10,11 @@ is_link c = eqb c 1 || eqb c 2
 
 -- what is stored of a word w in column c of row r: of a link its difference from r, modulo 2^32
 unfoldable pub stored : ℕ → ℕ → ℕ → ℕ
-stored c r w = if is_link c then (w + 2 ^ 32 - r) % 2 ^ 32 else w
+stored c r w = when is_link c then (w + 2 ^ 32 - r) % 2 ^ 32 else w
 
 -- the word of which w is stored
 unfoldable pub restored : ℕ → ℕ → ℕ → ℕ
-restored c r w = if is_link c then (w + r) % 2 ^ 32 else w
+restored c r w = when is_link c then (w + r) % 2 ^ 32 else w
 
 -- the list of m × n numbers with f i j at place i × n + j
 unfoldable pub table : ℕ → ℕ → (ℕ → ℕ → ℕ) → List ℕ
@@ -30,15 +30,15 @@ from_columns s = table (rows s) 8 (λ r c. restored c r (get_or s (c * rows s + 
 
 -- by column, or back
 unfoldable pub way : Bool → List ℕ → List ℕ
-way back s = if back then from_columns s else to_columns s
+way back s = when back then from_columns s else to_columns s
 
 -- the first question that gets a no for a source s and a target of `lent` words, or 0
 unfoldable pub first_no : List ℕ → ℕ → ℕ
-first_no s lent = if not (rows_fit s) then 1 else if ltb lent (length s) then 22 else 0
+first_no s lent = when not (rows_fit s) then 1 else when ltb lent (length s) then 22 else 0
 
 -- what the target then holds: the source rearranged by f and zeros after it; after a no, zeros alone
 unfoldable pub target_after : (List ℕ → List ℕ) → List ℕ → ℕ → List ℕ
-target_after f s lent = if eqb (first_no s lent) 0 then f s ++ replicate (lent - length s) 0 else replicate lent 0
+target_after f s lent = when eqb (first_no s lent) 0 then f s ++ replicate (lent - length s) 0 else replicate lent 0
 
 -- Of a source s and a target of `lent` words, rearranged by f, for which g is the way back:
 pub record Rearranged (f g : List ℕ → List ℕ) (s : List ℕ) (lent n : ℕ) (t : List ℕ) : Type 0 where

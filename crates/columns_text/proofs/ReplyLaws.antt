@@ -9,7 +9,7 @@ use lib.Dec.{T, eqb, ltb, eqb→eq}
 use lib.Seq.{take_at, drop_at, length-take-le}
 use borrow.Author.Tests.{eq-eqb, ne_eqb}
 use borrow.Rule.Slice.PartMut.{put_mid}
-use Rattle.definition.specs.Basics.{if◌then◌else◌, concat_map}
+use Rattle.definition.specs.Basics.{when◌then◌else◌, concat_map}
 use Rattle.definition.specs.Text.{sheet_of, text_of}
 use Rattle.definition.specs.Outcome.{Outcome, rows_fit, refused, report}
 use Rattle.definition.proofs.Format.Accepted.{Eights}
@@ -26,7 +26,7 @@ use Rattle.columns_text.specs.Reply.{rearranged, told_by, printed_columns, Repli
 
 -- the outcome of a target w and the first question q that got a no, or 0
 abbrev outcome_of : ℕ → List ℕ → Bool → Outcome
-outcome_of q w t = if t then record { number = 0; file = 0; line = 0; column = 0; name = 0; rows = rows_in w; globals = 0 } else refused q
+outcome_of q w t = when t then record { number = 0; file = 0; line = 0; column = 0; name = 0; rows = rows_in w; globals = 0 } else refused q
 
 rearranged_is : (back : Bool) (lent : ℕ) (s w : List ℕ) (q : ℕ) → q ≡ first_no s (8 * lent) → w ≡ target_after (way back) s (8 * lent)
     → rearranged back lent s ≡ outcome_of q w (eqb q 0)
@@ -36,7 +36,7 @@ rearranged_is back lent s w q e f = rw (e, f)
 -- rows that question 1 refuses
 first_is : (s : List ℕ) (lent : ℕ) → rows_fit s ≡ false → first_no s lent ≡ 1
 unfolding first_no
-first_is s lent e = ap (λ (t : Bool). if not t then 1 else if ltb lent (length s) then 22 else 0) e
+first_is s lent e = ap (λ (t : Bool). when not t then 1 else when ltb lent (length s) then 22 else 0) e
 
 pub refused_first : (back : Bool) (lent : ℕ) (s : List ℕ) → rows_fit s ≡ false → rearranged back lent s ≡ refused 1
 refused_first back lent s e = rearranged_is back lent s (target_after (way back) s (8 * lent)) 1 (sym (first_is s (8 * lent) e)) refl
@@ -44,11 +44,11 @@ refused_first back lent s e = rearranged_is back lent s (target_after (way back)
 -- the answer, by whether a question got a no
 pub told_all : (q lent : ℕ) → q ≡ 0 → record { number = q; pos = record { 0 = 0 }; name = 0; rows = lent; globals = 0 } ≡ told_by q lent
 unfolding told_by
-told_all q lent e = ap (λ (t : Bool). record { number = q; pos = record { 0 = 0 }; name = 0; rows = if t then lent else 0; globals = 0 }) (sym (eq-eqb q 0 e))
+told_all q lent e = ap (λ (t : Bool). record { number = q; pos = record { 0 = 0 }; name = 0; rows = when t then lent else 0; globals = 0 }) (sym (eq-eqb q 0 e))
 
 pub told_none : (q lent : ℕ) → (q ≡ 0 → ⊥) → record { number = q; pos = record { 0 = 0 }; name = 0; rows = 0; globals = 0 } ≡ told_by q lent
 unfolding told_by
-told_none q lent e = ap (λ (t : Bool). record { number = q; pos = record { 0 = 0 }; name = 0; rows = if t then lent else 0; globals = 0 }) (sym (ne_eqb q 0 e))
+told_none q lent e = ap (λ (t : Bool). record { number = q; pos = record { 0 = 0 }; name = 0; rows = when t then lent else 0; globals = 0 }) (sym (ne_eqb q 0 e))
 
 -- the answer of an outcome with a target of 8 × lent words
 module _ (q lent : ℕ) (w : List ℕ) (size : length w ≡ 8 * lent) where
@@ -63,7 +63,7 @@ module _ (q lent : ℕ) (w : List ℕ) (size : length w ≡ 8 * lent) where
     line = line_none;
     column = column_none;
     name = refl;
-    rows = ap (λ (t : Bool). if t then lent else 0) e ∙ row_count;
+    rows = ap (λ (t : Bool). when t then lent else 0) e ∙ row_count;
     globals = refl;
   }
   tells_of false e = record {
@@ -72,7 +72,7 @@ module _ (q lent : ℕ) (w : List ℕ) (size : length w ≡ 8 * lent) where
     line = line_none;
     column = column_none;
     name = refl;
-    rows = ap (λ (t : Bool). if t then lent else 0) e;
+    rows = ap (λ (t : Bool). when t then lent else 0) e;
     globals = refl;
   }
 

@@ -1,6 +1,6 @@
 -- The reply to a sheet's text that is stored by column, or taken back (document 02, F-12).
 use Rattle.std.specs.Prelude.{◌≡◌, Bool, List, ℕ, ◌*◌, length, take, eqb}
-use Rattle.definition.specs.Basics.{if◌then◌else◌}
+use Rattle.definition.specs.Basics.{when◌then◌else◌}
 use Rattle.definition.specs.Text.{sheet_of, text_of}
 use Rattle.definition.specs.Outcome.{Outcome, refused, report}
 use Rattle.text.specs.Writing.{rows_in}
@@ -11,7 +11,7 @@ use Rattle.columns.specs.Columns.{way, first_no, target_after}
 -- all n lent rows of the target, zeros past the source's length; or refused by question 1 or 22
 unfoldable pub rearranged : Bool → ℕ → List ℕ → Outcome
 rearranged back n s =
-    if eqb (first_no s (8 * n)) 0
+    when eqb (first_no s (8 * n)) 0
     then record {
       number = 0;
       file = 0;
@@ -26,7 +26,7 @@ rearranged back n s =
 -- the program's answer of it
 unfoldable pub told_by : ℕ → ℕ → Answer
 told_by q lent =
-    record { number = q; pos = record { 0 = 0 }; name = 0; rows = if eqb q 0 then lent else 0; globals = 0 }
+    record { number = q; pos = record { 0 = 0 }; name = 0; rows = when eqb q 0 then lent else 0; globals = 0 }
 
 -- the report of a sheet's text, as text
 abbrev pub printed_columns : Bool → ℕ → List ℕ → List ℕ

@@ -8,7 +8,7 @@ use lib.Dec.{eqb, T}
 use borrow.Author.Tests.{le-leb}
 use Rattle.definition.specs.Sheet.{Sheet, is}
 use Rattle.definition.specs.Classes.{of_sheet}
-use Rattle.definition.specs.Basics.{if◌then◌else◌, all, first}
+use Rattle.definition.specs.Basics.{when◌then◌else◌, all, first}
 use Rattle.definition.specs.Outside.{Outside, ClassRecord, record_of}
 use Rattle.definition.proofs.Lists.Tests.{and_left, and_right}
 
@@ -26,6 +26,6 @@ recorded O p z h c = among O.records h
     among (x ∷ xs) h = by (eqb x.number c) (among xs (and_right (p x) (all p xs) h))
       where
         by : (t : Bool) → T (p (first (λ x. eqb x.number c) (record { number = 0; name = 0; fields = []; methods = [] }) xs))
-            → T (p (if t then x else first (λ x. eqb x.number c) (record { number = 0; name = 0; fields = []; methods = [] }) xs))
+            → T (p (when t then x else first (λ x. eqb x.number c) (record { number = 0; name = 0; fields = []; methods = [] }) xs))
         by true i = and_left (p x) (all p xs) h
         by false i = i

@@ -1,6 +1,6 @@
 -- The answer rows, in rising sheet row.
 use Rattle.std.specs.Prelude.{Bool, not, ◌&&◌, ◌||◌, List, [], ◌∷◌, ◌++◌, map, ℕ, zero, suc, ◌+◌, ◌-◌, length, get_or, set, take, replicate, eqb, ltb}
-use Rattle.definition.specs.Basics.{if◌then◌else◌, filter, concat_map, from, bit}
+use Rattle.definition.specs.Basics.{when◌then◌else◌, filter, concat_map, from, bit}
 use Rattle.definition.specs.Kind.{CLASS, FUNCTION, LET, IDENTIFIER, HOST_CONSTANT, LITERAL, MEMBER, INSTANCEOF, CALL}
 use Rattle.definition.specs.Sheet.{Sheet, child, a, b, rows, is, holder}
 use Rattle.definition.specs.Meaning.{is_class, class_number}
@@ -45,7 +45,7 @@ module _ (s : Sheet) (h : List Moment) where
 
   -- MAIN_UNIT: true in the main function itself
   abbrev pub host_row : ℕ → List (List ℕ)
-  host_row r = map (λ m. (if eqb (within s m) (b s 0) then 7 else 8) ∷ []) (visit_of h r)
+  host_row r = map (λ m. (when eqb (within s m) (b s 0) then 7 else 8) ∷ []) (visit_of h r)
 
   abbrev pub instance_row : ℕ → List (List ℕ)
   instance_row r = map (λ m. 2 ∷ class_number (lookup (a s r) m.stack) ∷ []) (visit_of h r)
@@ -81,14 +81,14 @@ module _ (O : Outside) (s : Sheet) (h : List Moment) where
   -- the answer rows of sheet row r, without its number
   abbrev pub rows_of : ℕ → List (List ℕ)
   rows_of r =
-      if is s LET r then let_row s h r
-      else if is s IDENTIFIER r then identifier_row s h r
-      else if is s HOST_CONSTANT r then host_row s h r
-      else if is s INSTANCEOF r then instance_row s h r
-      else if is s MEMBER r then member_row r
-      else if is s LITERAL r then literal_rows s h r
-      else if is s FUNCTION r then function_rows s h r
-      else if is s CLASS r then class_rows r
+      when is s LET r then let_row s h r
+      else when is s IDENTIFIER r then identifier_row s h r
+      else when is s HOST_CONSTANT r then host_row s h r
+      else when is s INSTANCEOF r then instance_row s h r
+      else when is s MEMBER r then member_row r
+      else when is s LITERAL r then literal_rows s h r
+      else when is s FUNCTION r then function_rows s h r
+      else when is s CLASS r then class_rows r
       else []
 
   -- all answer rows
@@ -97,20 +97,20 @@ module _ (O : Outside) (s : Sheet) (h : List Moment) where
 
 -- A function as answer rows number it, over base n: one of the sheet is raised by it, one of an earlier entry has its own number.
 abbrev pub raised_function : ℕ → ℕ → ℕ
-raised_function n f = if ltb f 2048 then f + n else f - 2048
+raised_function n f = when ltb f 2048 then f + n else f - 2048
 
 -- a class: those of the core keep their numbers
 abbrev pub raised_class : ℕ → ℕ → ℕ
-raised_class n c = if ltb c 256 then c else 256 + raised_function n (c - 256)
+raised_class n c = when ltb c 256 then c else 256 + raised_function n (c - 256)
 
 -- an answer row with its functions and classes so numbered
 abbrev pub raised_row : ℕ → List ℕ → List ℕ
 raised_row n x =
     let c : ℕ = get_or x 1 0 in
-    if eqb c 1 then set x 2 (raised_function n (get_or x 2 0))
-    else if eqb c 2 || eqb c 22 then set x 2 (raised_class n (get_or x 2 0))
-    else if eqb c 4 || eqb c 5 then set x 3 (get_or x 3 0 + n)
-    else if eqb c 24 then set x 3 (raised_function n (get_or x 3 0))
+    when eqb c 1 then set x 2 (raised_function n (get_or x 2 0))
+    else when eqb c 2 || eqb c 22 then set x 2 (raised_class n (get_or x 2 0))
+    else when eqb c 4 || eqb c 5 then set x 3 (get_or x 3 0 + n)
+    else when eqb c 24 then set x 3 (raised_function n (get_or x 3 0))
     else x
 
 -- the answer rows over base n; over base 0 there is no earlier entry, and nothing to raise

@@ -1,11 +1,11 @@
 -- Lists and tests: what the definitions of the resolver share.
 use Rattle.std.specs.Prelude.{Bool, true, false, not, ◌&&◌, ◌||◌, List, [], ◌∷◌, ◌++◌, ℕ, zero, suc, ◌+◌, max, eqb}
 
-infixr 20 if◌then◌else◌
+infixr 20 when◌then◌else◌
 -- a choice by a test
-abbrev pub if◌then◌else◌ {ℓ} : {A : Type ℓ} → Bool → A → A → A
-if◌then◌else◌ true x y = x
-if◌then◌else◌ false x y = y
+abbrev pub when◌then◌else◌ {ℓ} : {A : Type ℓ} → Bool → A → A → A
+when◌then◌else◌ true x y = x
+when◌then◌else◌ false x y = y
 
 infixr 25 ◌⇒◌
 -- where the first test passes, does the second?
@@ -22,7 +22,7 @@ module _ {ℓ} {A : Type ℓ} where
   -- the elements that pass a test, in order
   abbrev pub filter : (A → Bool) → List A → List A
   filter p [] = []
-  filter p (x ∷ xs) = if p x then x ∷ filter p xs else filter p xs
+  filter p (x ∷ xs) = when p x then x ∷ filter p xs else filter p xs
 
   -- does some element pass a test?
   abbrev pub any : (A → Bool) → List A → Bool
@@ -52,7 +52,7 @@ module _ {ℓ} {A : Type ℓ} where
   -- the first element that passes a test, or d
   abbrev pub first : (A → Bool) → A → List A → A
   first p d [] = d
-  first p d (x ∷ xs) = if p x then x else first p d xs
+  first p d (x ∷ xs) = when p x then x else first p d xs
 
   -- the last element, if there is one, as a list
   abbrev pub final : List A → List A
@@ -68,7 +68,7 @@ module _ {ℓ} {A : Type ℓ} where
   -- the place of the first element that passes a test
   abbrev pub place : (A → Bool) → List A → ℕ
   place p [] = 0
-  place p (x ∷ xs) = if p x then 0 else suc (place p xs)
+  place p (x ∷ xs) = when p x then 0 else suc (place p xs)
 
 module _ {ℓ κ} {A : Type ℓ} {B : Type κ} where
   -- the lists that f gives, joined

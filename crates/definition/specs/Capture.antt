@@ -1,6 +1,6 @@
 -- Captures: which locals and arguments of functions around a function its identifiers mean, and how literals hand them on.
 use Rattle.std.specs.Prelude.{Bool, not, ◌&&◌, List, [], ◌∷◌, map, ℕ, eqb}
-use Rattle.definition.specs.Basics.{if◌then◌else◌, filter, any, distinct, place, from, bit, concat_map, ◌∈?◌}
+use Rattle.definition.specs.Basics.{when◌then◌else◌, filter, any, distinct, place, from, bit, concat_map, ◌∈?◌}
 use Rattle.definition.specs.Kind.{IDENTIFIER, LITERAL}
 use Rattle.definition.specs.Sheet.{Sheet, rows, child, a, is}
 use Rattle.definition.specs.Meaning.{Meaning, row_of, owner_of, is_variable}
@@ -23,7 +23,7 @@ use_at s m =
 -- what stands after f in the list
 abbrev pub beyond : ℕ → List ℕ → List ℕ
 beyond f [] = []
-beyond f (g ∷ gs) = if eqb g f then gs else beyond f gs
+beyond f (g ∷ gs) = when eqb g f then gs else beyond f gs
 
 -- does an identifier stand in f and mean a local or argument of a function around f?
 abbrev pub is_outer : ℕ → Use → Bool
@@ -32,7 +32,7 @@ is_outer f u = is_variable u.means && owner_of u.means ∈? beyond f u.funs
 -- F-6: how many function boundaries lie between an identifier and what it means: the functions around it inside the one that declares
 -- the local or argument; none where it means a global, function or class
 abbrev pub distance : Use → ℕ
-distance u = if is_variable u.means then place (eqb (owner_of u.means)) u.funs else 0
+distance u = when is_variable u.means then place (eqb (owner_of u.means)) u.funs else 0
 
 -- do two identifiers mean one local or argument?
 abbrev pub same : Use → Use → Bool
@@ -50,7 +50,7 @@ module _ (s : Sheet) (h : List Moment) where
   -- code and values of what an identifier means, as function f sees it: its own or global, or captured
   abbrev pub seen_from : ℕ → Use → List ℕ
   seen_from f u =
-      if is_variable u.means && not (eqb (owner_of u.means) f)
+      when is_variable u.means && not (eqb (owner_of u.means) f)
       then 6 ∷ place (same u) (captures f) ∷ 0 ∷ bit (is_mutable s u.means) ∷ []
       else code s h u.means u.slot
 

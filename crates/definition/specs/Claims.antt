@@ -3,7 +3,7 @@
 -- answer that gets one of these wrong does not meet them, however it was made.
 use Rattle.std.specs.Prelude.{◌≡◌, ◌⊎◌, ◌↔◌, Bool, not, ◌&&◌, ℕ, suc, ◌+◌, ◌<◌, length, get_or, take, drop, eqb, T}
 use mathlib.Core.List.{List, [], ◌∷◌, map, Memᴰ as Mem}
-use Rattle.definition.specs.Basics.{if◌then◌else◌, filter, count, place, largest, ◌∈?◌}
+use Rattle.definition.specs.Basics.{when◌then◌else◌, filter, count, place, largest, ◌∈?◌}
 use Rattle.definition.specs.Kind.{FUNCTION, PARAMETER, LET, IDENTIFIER, LITERAL}
 use Rattle.definition.specs.Sheet.{Sheet, a, b, rows, is, kids_of, holder, functions_of, function_of}
 use Rattle.definition.specs.Meaning.{is_variable, row_of}
@@ -40,7 +40,7 @@ abbrev pub open_rows : Stack → List ℕ
 open_rows [] = []
 open_rows (scope r ∷ st) = open_rows st
 open_rows (looping ∷ st) = open_rows st
-open_rows (bound n d ∷ st) = if is_variable d then row_of d ∷ open_rows st else open_rows st
+open_rows (bound n d ∷ st) = when is_variable d then row_of d ∷ open_rows st else open_rows st
 
 -- how many locals are open: the slot of the next one
 abbrev pub open_lets : Sheet → Stack → ℕ
@@ -54,7 +54,7 @@ slots_used s h f = largest (map (λ m. suc (open_lets s m.stack)) (filter (λ m.
 -- local's stand in the answer row of its let
 abbrev pub declared_as : Outside → Sheet → List Row → ℕ → List ℕ
 declared_as O s out d =
-    if is s PARAMETER d then told (eight (d ∷ 4 ∷ place (eqb d) (kids_of s PARAMETER (function_of s d)) ∷ (function_of s d + O.base) ∷ []))
+    when is s PARAMETER d then told (eight (d ∷ 4 ∷ place (eqb d) (kids_of s PARAMETER (function_of s d)) ∷ (function_of s d + O.base) ∷ []))
     else told (first_for out d)
 
 -- how many functions lie around row r inside the function of row d

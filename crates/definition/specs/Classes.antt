@@ -1,6 +1,6 @@
 -- Classes: parents, fields and methods, their own and after inheritance.
 use Rattle.std.specs.Prelude.{Bool, not, ◌&&◌, ◌||◌, List, [], ◌++◌, map, ℕ, zero, suc, ◌+◌, ◌-◌, length, eqb, leb}
-use Rattle.definition.specs.Basics.{if◌then◌else◌, filter, any, first, final, distinct, largest, from, ◌∈?◌}
+use Rattle.definition.specs.Basics.{when◌then◌else◌, filter, any, first, final, distinct, largest, from, ◌∈?◌}
 use Rattle.definition.specs.Kind.{CLASS, FUNCTION, FIELD, PARAMETER, ASSIGN, CLASS_DECLARATION, LITERAL, MEMBER}
 use Rattle.definition.specs.Sheet.{Sheet, child, a, b, rows, is, kids_of, holder}
 use Rattle.definition.specs.Meaning.{class_number}
@@ -21,7 +21,7 @@ lacks_record O s c = not (eqb c 0) && not (has_record O s c)
 
 -- the name of a class that has a record
 abbrev pub class_name : Outside → Sheet → ℕ → ℕ
-class_name O s c = if of_sheet s c then a s (c - 256) else (record_of O c).name
+class_name O s c = when of_sheet s c then a s (c - 256) else (record_of O c).name
 
 -- how many parameters a function of the sheet has
 abbrev pub arity : Sheet → ℕ → ℕ
@@ -33,7 +33,7 @@ method_at s f = record { name = a s f; fun = f; params = arity s f }
 
 -- the own methods of a class
 abbrev pub own_methods : Outside → Sheet → ℕ → List Method
-own_methods O s c = if of_sheet s c then map (method_at s) (kids_of s FUNCTION (c - 256)) else (record_of O c).methods
+own_methods O s c = when of_sheet s c then map (method_at s) (kids_of s FUNCTION (c - 256)) else (record_of O c).methods
 
 -- no method: one of no function
 abbrev pub no_method : Method
@@ -49,7 +49,7 @@ method_named n ms = (method_of n ms).fun
 
 -- the class row of a method or of a literal's function, or 0
 abbrev pub class_of : Sheet → ℕ → ℕ
-class_of s f = if is s CLASS (holder s f) then holder s f else if is s LITERAL (holder s f) then a s (holder s f) else 0
+class_of s f = when is s CLASS (holder s f) then holder s f else when is s LITERAL (holder s f) then a s (holder s f) else 0
 
 -- the parent's fields, then the others
 abbrev pub merge_fields : List ℕ → List ℕ → List ℕ
@@ -65,7 +65,7 @@ merge_methods up own =
 abbrev pub inheriting : {A : Type 0} → (List A → List A → List A) → (ℕ → ℕ) → (ℕ → List A) → ℕ → ℕ → List A
 inheriting merge parent own zero c = []
 inheriting merge parent own (suc n) c =
-    let up = inheriting merge parent own n (parent c) in if eqb (parent c) 0 then own c else merge up (own c)
+    let up = inheriting merge parent own n (parent c) in when eqb (parent c) 0 then own c else merge up (own c)
 
 -- is class c a parent, where `parent` gives that of the class of a row?
 abbrev pub is_parent : Sheet → (ℕ → ℕ) → ℕ → Bool
@@ -81,7 +81,7 @@ module _ (s : Sheet) (h : List Moment) where
   -- the parent of a class, or 0: what the parent's name means at the class declaration
   abbrev pub parent_of : ℕ → ℕ
   parent_of c =
-      if of_sheet s c
+      when of_sheet s c
       then largest (final (map (λ m. class_number (lookup (b s (c - 256)) m.stack)) (filter (λ m. eqb (a s (visited m.event)) (c - 256)) (visits s h CLASS_DECLARATION))))
       else 0
 
@@ -93,7 +93,7 @@ module _ (O : Outside) (s : Sheet) (h : List Moment) where
   -- the own fields of a class, by slot
   abbrev pub own_fields : ℕ → List ℕ
   own_fields c =
-      if of_sheet s c then distinct eqb (map (a s) (kids_of s FIELD (c - 256)) ++ registered s h (c - 256)) else (record_of O c).fields
+      when of_sheet s c then distinct eqb (map (a s) (kids_of s FIELD (c - 256)) ++ registered s h (c - 256)) else (record_of O c).fields
 
   -- the fields of a class after inheritance, by slot; n bounds the climb
   abbrev pub fields : ℕ → ℕ → List ℕ

@@ -1,6 +1,6 @@
 -- Questions 3 and 4: does every row fit, and is every depth at most 64?
 use Rattle.std.specs.Prelude.{Bool, not, ◌&&◌, ◌||◌, List, [], ◌∷◌, ◌++◌, map, ℕ, zero, suc, get_or, eqb, leb, ltb}
-use Rattle.definition.specs.Basics.{if◌then◌else◌, ◌⇒◌, every, all, count, unlike, concat_map, from, bit}
+use Rattle.definition.specs.Basics.{when◌then◌else◌, ◌⇒◌, every, all, count, unlike, concat_map, from, bit}
 use Rattle.definition.specs.Kind.{HEADER, UNIT, CLASS, FUNCTION, FUNCTION_EXPORT, CONSTANT_EXPORT, FIELD, LET, CLASS_DECLARATION, LITERAL}
 use Rattle.definition.specs.Sheet.{Sheet, kind, next, child, file, a, b, rows, kids, is, kids_of, holder}
 use Rattle.definition.specs.Shape.{holds, fits, one, only, shape_of}
@@ -25,18 +25,18 @@ at t r = get_or t r 0
 
 -- the depth of row r, where `up` is the table of parents and t that of depths: row 0 has depth 0, a child list is one deeper
 abbrev pub depth_entry : List ℕ → List ℕ → ℕ → ℕ
-depth_entry up t r = if eqb r 0 then 0 else suc (at t (at up r))
+depth_entry up t r = when eqb r 0 then 0 else suc (at t (at up r))
 
 -- the tables by the table of parents; entry r of each is made of the entry at the parent of r
 module _ (s : Sheet) (up : List ℕ) where
   abbrev pub unit_entry : List ℕ → ℕ → ℕ
-  unit_entry t r = if is s UNIT r then r else at t (at up r)
+  unit_entry t r = when is s UNIT r then r else at t (at up r)
 
   abbrev pub function_entry : List ℕ → ℕ → ℕ
-  function_entry t r = if is s FUNCTION (at up r) then at up r else at t (at up r)
+  function_entry t r = when is s FUNCTION (at up r) then at up r else at t (at up r)
 
   abbrev pub class_entry : List ℕ → ℕ → ℕ
-  class_entry t r = if is s FUNCTION r && is s CLASS (at up r) then at up r else at t (at up r)
+  class_entry t r = when is s FUNCTION r && is s CLASS (at up r) then at up r else at t (at up r)
 
   abbrev pub tables_by : Tables
   tables_by =

@@ -1,6 +1,6 @@
 -- The whole outcome: the questions 1 to 22 in order, the answer, the lent buffer, the program's text.
 use Rattle.std.specs.Prelude.{Bool, not, ◌&&◌, List, [], ◌∷◌, ◌++◌, ℕ, zero, suc, ◌-◌, ◌*◌, min, length, take, drop, replicate, eqb, leb}
-use Rattle.definition.specs.Basics.{if◌then◌else◌, concat_map}
+use Rattle.definition.specs.Basics.{when◌then◌else◌, concat_map}
 use Rattle.definition.specs.Sheet.{Sheet, file, line, column, rows}
 use Rattle.definition.specs.Names.{names_fit, name_count}
 use Rattle.definition.specs.Format.{sheet_fits, depths_fit}
@@ -38,7 +38,7 @@ rows_fit s = eqb (8 * rows s) (length s) && leb 1 (rows s) && leb (rows s) 2048
 -- question 22: do the answer rows fit a buffer of `lent` words?
 abbrev pub answered : ℕ → List (List ℕ) → ℕ → Outcome
 answered lent out g =
-    if leb (8 * length out) lent
+    when leb (8 * length out) lent
     then record { number = 0; file = 0; line = 0; column = 0; name = 0; rows = out; globals = g }
     else refused 22
 
@@ -48,15 +48,15 @@ asked O lent s =
     let h : List Moment = history O s in
     let x : Refusal = refusal O s h in
     let answer : Outcome = answered lent (raised O.base (answers O s h)) (final_globals s h) in
-    if eqb x.number 0 then answer else refused_at x.number s x.at x.name
+    when eqb x.number 0 then answer else refused_at x.number s x.at x.name
 
 -- the outcome of a sheet and a byte list of names, with a buffer of `lent` words
 abbrev pub outcome : Sheet → List ℕ → ℕ → Outcome
 outcome s ns lent =
-    if not (rows_fit s) then refused 1
-    else if not (names_fit ns) then refused 2
-    else if not (sheet_fits (name_count ns) s) then refused 3
-    else if not (depths_fit s) then refused 4
+    when not (rows_fit s) then refused 1
+    else when not (names_fit ns) then refused 2
+    else when not (sheet_fits (name_count ns) s) then refused 3
+    else when not (depths_fit s) then refused 4
     else asked core lent s
 
 -- what the buffer then holds: the answer rows, then zeros to its end

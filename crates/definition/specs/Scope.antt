@@ -1,7 +1,7 @@
 -- Scopes: which declarations are open at each moment of the walk, and what a name then means. Names and scopes alone: no
 -- slots, no numbers of globals, no captures.
 use Rattle.std.specs.Prelude.{Bool, true, false, not, ◌&&◌, ◌||◌, List, [], ◌∷◌, map, ℕ, ◌+◌, ◌-◌, eqb, leb}
-use Rattle.definition.specs.Basics.{if◌then◌else◌, filter, final, head}
+use Rattle.definition.specs.Basics.{when◌then◌else◌, filter, final, head}
 use Rattle.definition.specs.Kind.{CLASS, FUNCTION, LET}
 use Rattle.definition.specs.Sheet.{Sheet, child, a, b, is}
 use Rattle.definition.specs.Meaning.{Meaning, nothing, function, class, global, toplevel, variable}
@@ -22,7 +22,7 @@ abbrev pub find : ℕ → Stack → Stack
 find n [] = []
 find n (scope r ∷ st) = find n st
 find n (looping ∷ st) = find n st
-find n (bound m d ∷ st) = if eqb m n then bound m d ∷ st else find n st
+find n (bound m d ∷ st) = when eqb m n then bound m d ∷ st else find n st
 
 -- what is declared at the top of a stack
 abbrev pub top : Stack → Meaning
@@ -45,7 +45,7 @@ taken n (bound m d ∷ st) = eqb m n || taken n st
 -- the functions around, innermost first
 abbrev pub around : Sheet → Stack → List ℕ
 around s [] = []
-around s (scope r ∷ st) = if is s FUNCTION r then r ∷ around s st else around s st
+around s (scope r ∷ st) = when is s FUNCTION r then r ∷ around s st else around s st
 around s (looping ∷ st) = around s st
 around s (bound m d ∷ st) = around s st
 
@@ -56,7 +56,7 @@ inside s st = head (around s st)
 -- is there a loop around in the innermost function?
 abbrev pub in_loop : Sheet → Stack → Bool
 in_loop s [] = false
-in_loop s (scope r ∷ st) = if is s FUNCTION r then false else in_loop s st
+in_loop s (scope r ∷ st) = when is s FUNCTION r then false else in_loop s st
 in_loop s (looping ∷ st) = true
 in_loop s (bound m d ∷ st) = in_loop s st
 
@@ -75,10 +75,10 @@ new_global s r f = is s LET r && leb (b s r) 1 && eqb (b s f) 1 && not (literal_
 -- what a class, parameter or let row declares in function f
 abbrev pub declared : Sheet → ℕ → ℕ → Meaning
 declared s r f =
-    if is s CLASS r then class (256 + r)
-    else if is s LET r && leb 2 (b s r) then global (b s r - 2) 0
-    else if new_global s r f then toplevel r
-    else if is s LET r && eqb (b s f) 1 then function (child s (child s r))
+    when is s CLASS r then class (256 + r)
+    else when is s LET r && leb 2 (b s r) then global (b s r - 2) 0
+    else when new_global s r f then toplevel r
+    else when is s LET r && eqb (b s f) 1 then function (child s (child s r))
     else variable r f
 
 -- the stack after an event

@@ -1,6 +1,6 @@
 -- The shape of a row by its kind: what its columns a and b hold, and the kinds of its children in their order.
 use Rattle.std.specs.Prelude.{Bool, true, false, ◌&&◌, ◌||◌, List, [], ◌∷◌, ◌++◌, ℕ, ◌-◌, eqb, leb, ltb}
-use Rattle.definition.specs.Basics.{if◌then◌else◌, first, from, ◌∈?◌}
+use Rattle.definition.specs.Basics.{when◌then◌else◌, first, from, ◌∈?◌}
 use Rattle.definition.specs.Sheet.{Sheet, a, rows, is}
 
 -- What a column holds.
@@ -36,9 +36,9 @@ never = one [] ∷ []
 -- what may follow a child of kind k in a list of parts
 abbrev pub rest : ℕ → List Part → List Part
 rest k [] = never
-rest k (one ks ∷ ps) = if k ∈? ks then ps else never
-rest k (perhaps ks ∷ ps) = if k ∈? ks then ps else rest k ps
-rest k (many ks ∷ ps) = if k ∈? ks then many ks ∷ ps else rest k ps
+rest k (one ks ∷ ps) = when k ∈? ks then ps else never
+rest k (perhaps ks ∷ ps) = when k ∈? ks then ps else rest k ps
+rest k (many ks ∷ ps) = when k ∈? ks then many ks ∷ ps else rest k ps
 
 -- may a list end where these parts are left?
 abbrev pub may_end : List Part → Bool

@@ -1,6 +1,6 @@
 -- Where declarations live: indices of arguments, slots of locals, numbers of globals; the code and values of each.
 use Rattle.std.specs.Prelude.{Bool, false, ◌&&◌, List, [], ◌∷◌, map, ℕ, suc, ◌+◌, length, eqb}
-use Rattle.definition.specs.Basics.{if◌then◌else◌, filter, place, largest, bit}
+use Rattle.definition.specs.Basics.{when◌then◌else◌, filter, place, largest, bit}
 use Rattle.definition.specs.Kind.{PARAMETER, LET}
 use Rattle.definition.specs.Sheet.{Sheet, a, b, is, kids_of}
 use Rattle.definition.specs.Meaning.{Meaning, nothing, function, class, global, toplevel, variable, is_variable, is_toplevel, row_of}
@@ -24,7 +24,7 @@ abbrev pub open_locals : Sheet → Stack → ℕ
 open_locals s [] = 0
 open_locals s (scope r ∷ st) = open_locals s st
 open_locals s (looping ∷ st) = open_locals s st
-open_locals s (bound n d ∷ st) = if is_local s d then suc (open_locals s st) else open_locals s st
+open_locals s (bound n d ∷ st) = when is_local s d then suc (open_locals s st) else open_locals s st
 
 -- the slot of the declaration at the top of a stack: as many as locals were open before it
 abbrev pub top_slot : Sheet → Stack → ℕ
@@ -51,7 +51,7 @@ module _ (s : Sheet) (h : List Moment) where
   code (class c) k = 2 ∷ c ∷ []
   code (global g m) k = 3 ∷ g ∷ 0 ∷ bit (eqb m 1) ∷ []
   code (toplevel r) k = 3 ∷ global_of r ∷ 0 ∷ bit (eqb (b s r) 1) ∷ []
-  code (variable r f) k = if is s PARAMETER r then 4 ∷ place (eqb r) (kids_of s PARAMETER f) ∷ f ∷ [] else 5 ∷ k ∷ f ∷ bit (eqb (b s r) 1) ∷ []
+  code (variable r f) k = when is s PARAMETER r then 4 ∷ place (eqb r) (kids_of s PARAMETER f) ∷ f ∷ [] else 5 ∷ k ∷ f ∷ bit (eqb (b s r) 1) ∷ []
 
   -- the local count of function f: its largest slot plus 1, or 0
   abbrev pub local_count : ℕ → ℕ

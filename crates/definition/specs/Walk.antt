@@ -1,6 +1,6 @@
 -- The walk over a sheet, as the list of what happens in it, in order.
 use Rattle.std.specs.Prelude.{Bool, ◌&&◌, ◌||◌, List, [], ◌∷◌, ◌++◌, map, ℕ, zero, suc, ◌+◌, eqb, leb}
-use Rattle.definition.specs.Basics.{if◌then◌else◌, filter, first, concat_map}
+use Rattle.definition.specs.Basics.{when◌then◌else◌, filter, first, concat_map}
 use Rattle.definition.specs.Kind.{UNIT, IMPORT, CLASS, FUNCTION, FUNCTION_EXPORT, CONSTANT_EXPORT, PARAMETER}
 use Rattle.definition.specs.Kind.{ASSIGN, BREAK, CONTINUE, BLOCK, FOR, LET, CLASS_DECLARATION, IDENTIFIER}
 use Rattle.definition.specs.Kind.{HOST_CONSTANT, LITERAL, INSTANCEOF, CALL}
@@ -25,12 +25,12 @@ exports s u =
 
 -- what unit u sees of the unit that import i names: nothing of itself
 abbrev pub seen : Sheet → ℕ → ℕ → List Named
-seen s u i = if eqb (a s i) u then [] else exports s (a s i)
+seen s u i = when eqb (a s i) u then [] else exports s (a s i)
 
 -- an import: all that is seen, if it says so; then each listed name, looked for in the order of the exports
 abbrev pub imports : Sheet → ℕ → ℕ → List Event
 imports s u i =
-    (if eqb (b s i) 1 then map (λ x. bring i x.name x.means) (seen s u i) else [])
+    (when eqb (b s i) 1 then map (λ x. bring i x.name x.means) (seen s u i) else [])
     ++ map (λ k. bring i (a s k) (first (λ x. eqb x.name (a s k)) (named 0 nothing) (seen s u i)).means) (kids s i)
 
 -- is row r a let whose value is a function literal?
@@ -41,18 +41,18 @@ literal_let s r = is s LET r && is s LITERAL (child s r)
 -- literal lets; a class declaration asks for its parent
 abbrev pub before : Sheet → ℕ → List Event
 before s r =
-    if is s UNIT r then enter r ∷ concat_map (imports s r) (kids_of s IMPORT r) ++ map declare (kids_of s CLASS r)
-    else if is s FUNCTION r then enter r ∷ map declare (kids_of s PARAMETER r)
-    else if is s BLOCK r then enter r ∷ map declare (filter (literal_let s) (kids s r))
-    else if is s FOR r then enter r ∷ []
-    else if is s CLASS_DECLARATION r then visit r ∷ []
+    when is s UNIT r then enter r ∷ concat_map (imports s r) (kids_of s IMPORT r) ++ map declare (kids_of s CLASS r)
+    else when is s FUNCTION r then enter r ∷ map declare (kids_of s PARAMETER r)
+    else when is s BLOCK r then enter r ∷ map declare (filter (literal_let s) (kids s r))
+    else when is s FOR r then enter r ∷ []
+    else when is s CLASS_DECLARATION r then visit r ∷ []
     else []
 
 -- what happens after part i of row r: the checks on a call's callee; a `for` comes to its loop after init and test
 abbrev pub after_part : Sheet → ℕ → ℕ → List Event
 after_part s r i =
-    if is s CALL r && eqb i 0 then visit r ∷ []
-    else if is s FOR r && eqb i 1 then loop ∷ []
+    when is s CALL r && eqb i 0 then visit r ∷ []
+    else when is s FOR r && eqb i 1 then loop ∷ []
     else []
 
 -- does row r open a scope: a unit, a function, a block, a `for`?
@@ -69,9 +69,9 @@ is_visited s r =
 -- is no literal; the other rows that ask something are visited
 abbrev pub after : Sheet → ℕ → List Event
 after s r =
-    if opens_scope s r then leave ∷ []
-    else if is s LET r then (if is s LITERAL (child s r) then [] else declare r ∷ [])
-    else if is_visited s r then visit r ∷ []
+    when opens_scope s r then leave ∷ []
+    else when is s LET r then (when is s LITERAL (child s r) then [] else declare r ∷ [])
+    else when is_visited s r then visit r ∷ []
     else []
 
 -- is row k walked as a part: a unit, a function, a statement, an expression or a pair?
@@ -80,7 +80,7 @@ is_part s k = is s UNIT k || is s FUNCTION k || leb 20 (kind s k)
 
 -- the rows that are walked as parts of row r: a class declaration's are the methods of its class
 abbrev pub parts : Sheet → ℕ → List ℕ
-parts s r = filter (is_part s) (kids s (if is s CLASS_DECLARATION r then a s r else r))
+parts s r = filter (is_part s) (kids s (when is s CLASS_DECLARATION r then a s r else r))
 
 -- the parts ks of row r, from part i on, each walked by `walk`
 abbrev pub each : (ℕ → List Event) → Sheet → ℕ → ℕ → List ℕ → List Event

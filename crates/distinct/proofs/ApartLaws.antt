@@ -7,7 +7,7 @@ use Prim.Native.Nat.{ℕ, zero, suc, ◌+◌, ◌-◌, ◌<◌, ◌≤◌}
 use native.Mathlib.Omega.{arith}
 use lib.Dec.{eqb}
 use borrow.Author.Tests.{ne_eqb}
-use Rattle.definition.specs.Basics.{if◌then◌else◌}
+use Rattle.definition.specs.Basics.{when◌then◌else◌}
 use Rattle.definition.specs.Sheet.{Sheet, next, child, rows, chain}
 use Rattle.definition.proofs.Format.Links.{Rises}
 use Rattle.definition.proofs.Format.Passes.{chain_on}
@@ -20,7 +20,7 @@ Place s c = (c ≡ 0) ⊎ (c < rows s)
 
 -- how many rows are ahead
 abbrev pub ahead : Sheet → ℕ → ℕ
-ahead s c = if eqb c 0 then 0 else rows s - c
+ahead s c = when eqb c 0 then 0 else rows s - c
 
 -- what is left to ask from row c on, and the marks then
 abbrev pub left : Sheet → ℕ → ℕ → List ℕ → ℕ → Bool

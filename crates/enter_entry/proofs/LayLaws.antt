@@ -9,7 +9,7 @@ use lib.Dec.{eqb}
 use lib.ListN.{length, get_or, set}
 use lib.Seq.{sets}
 use borrow.Author.Tests.{eq-eqb, ne_eqb, le-leb, lt-leb}
-use Rattle.definition.specs.Basics.{if◌then◌else◌, concat_map}
+use Rattle.definition.specs.Basics.{when◌then◌else◌, concat_map}
 use Rattle.definition.specs.Names.{Name}
 use Rattle.definition.specs.Sheet.{Sheet}
 use Rattle.definition.specs.Meaning.{Named}
@@ -112,8 +112,8 @@ ask_based P k t (visit r) x = refl
 until_based : (P : Outside) (k : ℕ) (t : Sheet) (h : List Moment) → until_no (based P k) t h ≡ until_no P t h
 until_based P k t [] = refl
 until_based P k t (m ∷ ms) =
-    ap (λ (r : Refusal). if eqb r.number 0 then m ∷ until_no (based P k) t ms else []) (ask_based P k t m.event (open_on t m.stack))
-    ∙ ap (λ (l : List Moment). if eqb (ask_event P t m.event (open_on t m.stack)).number 0 then m ∷ l else []) (until_based P k t ms)
+    ap (λ (r : Refusal). when eqb r.number 0 then m ∷ until_no (based P k) t ms else []) (ask_based P k t m.event (open_on t m.stack))
+    ∙ ap (λ (l : List Moment). when eqb (ask_event P t m.event (open_on t m.stack)).number 0 then m ∷ l else []) (until_based P k t ms)
 
 -- the walk's next global
 module _ {w o : List ℕ} {new bytes : ℕ} {n : List ℕ} {ms : List Name} (h : Over w o new bytes n ms) where

@@ -1,6 +1,6 @@
 -- What comes of entering a sheet that has the session's name numbers.
 use Rattle.std.specs.Prelude.{◌≡◌, ◌&&◌, List, ℕ, ◌≤◌, length, get_or, set, leb}
-use Rattle.definition.specs.Basics.{if◌then◌else◌}
+use Rattle.definition.specs.Basics.{when◌then◌else◌}
 use Rattle.definition.specs.Names.{Name}
 use Rattle.definition.specs.Sheet.{Sheet}
 use Rattle.machine.specs.Reads.{PastFour}
@@ -30,7 +30,7 @@ leaving O b t ms = record { names = ms; laid = laid_by (based O b) t; classes = 
 
 -- the session's words after a refusal by question k, the walk's next global being g
 abbrev pub kept_words : ℕ → ℕ → List ℕ → List ℕ
-kept_words k g w = if leb 5 k && leb k 21 then set w 0 g else w
+kept_words k g w = when leb 5 k && leb k 21 then set w 0 g else w
 
 -- Of every session that the words w may be of, and new names ms: the answer x and the words `out` are those of questions 5 to 24, and w' are the session's
 -- words after it.

@@ -9,7 +9,7 @@ use lib.Seq.{length-take-le}
 use lib.Dec.{eqb, leb}
 use borrow.Author.Tests.{le-leb, lt-leb}
 use borrow.Rule.Slice.PartMut.{put_mid}
-use Rattle.definition.specs.Basics.{if◌then◌else◌, concat_map}
+use Rattle.definition.specs.Basics.{when◌then◌else◌, concat_map}
 use Rattle.definition.specs.Sheet.{Sheet, rows}
 use Rattle.definition.specs.Names.{names_fit, name_count}
 use Rattle.definition.specs.Format.{sheet_fits, depths_fit}
@@ -40,18 +40,18 @@ module _ (lent : ℕ) where
   good_no : (q : ℕ) → Good lent (refused q)
   good_no q = (Eights.none, omega arith)
 
-  good_if : (t : Bool) (x y : Outcome) → Good lent x → Good lent y → Good lent (if t then x else y)
+  good_if : (t : Bool) (x y : Outcome) → Good lent x → Good lent y → Good lent (when t then x else y)
   good_if true x y p q = p
   good_if false x y p q = q
 
-  good_unless : (t : Bool) (q : ℕ) (x : Outcome) → Good lent x → Good lent (if not t then refused q else x)
+  good_unless : (t : Bool) (q : ℕ) (x : Outcome) → Good lent x → Good lent (when not t then refused q else x)
   good_unless t q x p = good_if (not t) (refused q) x (good_no q) p
 
   good_told : (S : Session) (s : Sheet) (ns : List ℕ) → Good lent (asked_in S s ns lent)
   good_told S s ns =
       let x : Outcome = asked (outside_of S) lent (entry_sheet S ns s) in
       let good : Good lent x = good_asked lent (outside_of S) (entry_sheet S ns s) in
-      good_if (not (eqb x.number 0)) (renamed (to_entry S ns) x) (if within (accepting S s ns lent x) then x else refused 24) good
+      good_if (not (eqb x.number 0)) (renamed (to_entry S ns) x) (when within (accepting S s ns lent x) then x else refused 24) good
       (good_if (within (accepting S s ns lent x)) x (refused 24) good (good_no 24))
 
   good_entered : (S : Session) (s : Sheet) (ns : List ℕ) → Good lent (entered S s ns lent)
@@ -76,8 +76,8 @@ module _ (w b : List ℕ) (lent : ℕ) where
   abbrev result_by : Outcome → List ℕ → List ℕ → List ℕ → Result
   result_by o accepted used bytes = record {
     outcome = o;
-    words = if eqb o.number 0 then accepted else if leb 5 o.number && leb o.number 21 then used else w;
-    bytes = if eqb o.number 0 then bytes else b;
+    words = when eqb o.number 0 then accepted else when leb 5 o.number && leb o.number 21 then used else w;
+    bytes = when eqb o.number 0 then bytes else b;
   }
 
   abbrev result_of : Sheet → List ℕ → Result
@@ -87,26 +87,26 @@ module _ (w b : List ℕ) (lent : ℕ) where
   idle o = record { outcome = o; words = w; bytes = b }
 
   -- a sheet that question 1 refuses, names that 2 refuses: after 23 of the session
-  first : (a t : Bool) (z : Outcome) → t ≡ false → (if not a then refused 23 else if not t then refused 1 else z) ≡ (if not a then refused 23 else refused 1)
-  first a t z e = ap (λ (c : Bool). if not a then refused 23 else if not c then refused 1 else z) e
+  first : (a t : Bool) (z : Outcome) → t ≡ false → (when not a then refused 23 else when not t then refused 1 else z) ≡ (when not a then refused 23 else refused 1)
+  first a t z e = ap (λ (c : Bool). when not a then refused 23 else when not c then refused 1 else z) e
 
   second : (a t u : Bool) (z : Outcome) → u ≡ false
-      → (if not a then refused 23 else if not t then refused 1 else if not u then refused 2 else z) ≡ (if not a then refused 23 else if not t then refused 1 else refused 2)
-  second a t u z e = ap (λ (c : Bool). if not a then refused 23 else if not t then refused 1 else if not c then refused 2 else z) e
+      → (when not a then refused 23 else when not t then refused 1 else when not u then refused 2 else z) ≡ (when not a then refused 23 else when not t then refused 1 else refused 2)
+  second a t u z e = ap (λ (c : Bool). when not a then refused 23 else when not t then refused 1 else when not c then refused 2 else z) e
 
-  pub sheet_none : (ns : List ℕ) (s : Sheet) → rows_fit s ≡ false → result_of s ns ≡ idle (if not (session_fits whole w b) then refused 23 else refused 1)
+  pub sheet_none : (ns : List ℕ) (s : Sheet) → rows_fit s ≡ false → result_of s ns ≡ idle (when not (session_fits whole w b) then refused 23 else refused 1)
   sheet_none ns s e =
       let yes : List ℕ = showing (after_entry (session_in whole w b) s ns lent) (words_with whole w (enter_outcome whole w b s ns lent).globals (new_entry (session_in whole w b) s ns)) in
       let no : List ℕ = set w 0 (after_entry (session_in whole w b) s ns lent).globals in
       let names : List ℕ = bytes_with w b (new_entry (session_in whole w b) s ns) in
       ap (λ (o : Outcome). result_by o yes no names) (first (session_fits whole w b) (rows_fit s) _ e) ∙ go (session_fits whole w b) yes no names
     where
-      go : (a : Bool) (x y z : List ℕ) → result_by (if not a then refused 23 else refused 1) x y z ≡ idle (if not a then refused 23 else refused 1)
+      go : (a : Bool) (x y z : List ℕ) → result_by (when not a then refused 23 else refused 1) x y z ≡ idle (when not a then refused 23 else refused 1)
       go true x y z = refl
       go false x y z = refl
 
   pub names_none : (s : Sheet) (ns : List ℕ) → names_fit ns ≡ false
-      → result_of s ns ≡ idle (if not (session_fits whole w b) then refused 23 else if not (rows_fit s) then refused 1 else refused 2)
+      → result_of s ns ≡ idle (when not (session_fits whole w b) then refused 23 else when not (rows_fit s) then refused 1 else refused 2)
   names_none s ns e =
       let yes : List ℕ = showing (after_entry (session_in whole w b) s ns lent) (words_with whole w (enter_outcome whole w b s ns lent).globals (new_entry (session_in whole w b) s ns)) in
       let no : List ℕ = set w 0 (after_entry (session_in whole w b) s ns lent).globals in
@@ -114,21 +114,21 @@ module _ (w b : List ℕ) (lent : ℕ) where
       ap (λ (o : Outcome). result_by o yes no names) (second (session_fits whole w b) (rows_fit s) (names_fit ns) _ e)
       ∙ go (session_fits whole w b) (rows_fit s) yes no names
     where
-      go : (a t : Bool) (x y z : List ℕ) → result_by (if not a then refused 23 else if not t then refused 1 else refused 2) x y z
-          ≡ idle (if not a then refused 23 else if not t then refused 1 else refused 2)
+      go : (a t : Bool) (x y z : List ℕ) → result_by (when not a then refused 23 else when not t then refused 1 else refused 2) x y z
+          ≡ idle (when not a then refused 23 else when not t then refused 1 else refused 2)
       go true true x y z = refl
       go true false x y z = refl
       go false t x y z = refl
 
   -- of k lines that were read
   result_read : (sheet ns : List ℕ) (k : ℕ) (ws : List ℕ) → SheetRead sheet 16384 k ws → result_of (take (8 * k) ws) ns ≡ result_of (sheet_of sheet) ns
-  result_read sheet ns k ws = same_read (λ s. result_of s ns) (idle (if not (session_fits whole w b) then refused 23 else refused 1)) (λ s e. sheet_none ns s e) sheet k ws
+  result_read sheet ns k ws = same_read (λ s. result_of s ns) (idle (when not (session_fits whole w b) then refused 23 else refused 1)) (λ s e. sheet_none ns s e) sheet k ws
 
   -- of the start of two texts
   result_cut : (s ns : List ℕ) → result_of (sheet_of (take 165889 s)) (take 32769 ns) ≡ result_of (sheet_of s) ns
   result_cut s ns =
-      same_cut (λ t. result_of t (take 32769 ns)) (idle (if not (session_fits whole w b) then refused 23 else refused 1)) (λ t e. sheet_none (take 32769 ns) t e) s
-      ∙ same_names_cut (λ t. result_of (sheet_of s) t) (idle (if not (session_fits whole w b) then refused 23 else if not (rows_fit (sheet_of s)) then refused 1 else refused 2))
+      same_cut (λ t. result_of t (take 32769 ns)) (idle (when not (session_fits whole w b) then refused 23 else refused 1)) (λ t e. sheet_none (take 32769 ns) t e) s
+      ∙ same_names_cut (λ t. result_of (sheet_of s) t) (idle (when not (session_fits whole w b) then refused 23 else when not (rows_fit (sheet_of s)) then refused 1 else refused 2))
       (λ t e. names_none (sheet_of s) t e) ns
 
   pub outcome_read : (sheet ns : List ℕ) (k : ℕ) (ws : List ℕ) → SheetRead sheet 16384 k ws
@@ -196,18 +196,18 @@ module _ (lent : ℕ) (w b sheet names before : List ℕ) where
         ∙ result_cut w b (8 * lent) s ns in
         record {
           text =
-              subst (λ (r : Result). Begins (if lends then text_of (report r.outcome) ++ session_row r.words else []) before n after) same h.text;
-          session = h.session ∙ ap (λ (r : Result). if lends then r.words else w) same;
-          bytes = h.bytes ∙ ap (λ (r : Result). if lends then r.bytes else b) same;
+              subst (λ (r : Result). Begins (when lends then text_of (report r.outcome) ++ session_row r.words else []) before n after) same h.text;
+          session = h.session ∙ ap (λ (r : Result). when lends then r.words else w) same;
+          bytes = h.bytes ∙ ap (λ (r : Result). when lends then r.bytes else b) same;
         };
   }
 
   -- nothing is entered
   not_entered : lends ≡ false → RepliedOfEntry lent w b sheet names before 0 w b before
   not_entered e = replied_texts (record {
-    text = subst (λ (t : Bool). Begins (if t then printed_entry lent w b sheet names else []) before 0 before) (sym e) (record { count = refl; text = refl });
-    session = sym (ap (λ (t : Bool). if t then words_of lent w b sheet names else w) e);
-    bytes = sym (ap (λ (t : Bool). if t then bytes_of lent w b sheet names else b) e);
+    text = subst (λ (t : Bool). Begins (when t then printed_entry lent w b sheet names else []) before 0 before) (sym e) (record { count = refl; text = refl });
+    session = sym (ap (λ (t : Bool). when t then words_of lent w b sheet names else w) e);
+    bytes = sym (ap (λ (t : Bool). when t then bytes_of lent w b sheet names else b) e);
   })
 
   pub many : 2048 < lent → is_lent lent (length before) ≡ false
@@ -260,7 +260,7 @@ module _ (lent : ℕ) (w b sheet names before : List ℕ) where
         subst (λ (t : List ℕ). Begins t before n after)
         (ap (λ (t : List ℕ). t ++ session_row w') told ∙ ap (λ (v : List ℕ). text_of (report o) ++ session_row v) here.session) p in
         replied_texts (record {
-          text = subst (λ (t : Bool). Begins (if t then printed_entry lent w b sheet names else []) before n after) (sym has) written;
-          session = here.session ∙ sym (ap (λ (t : Bool). if t then words_of lent w b sheet names else w) has);
-          bytes = here.bytes ∙ sym (ap (λ (t : Bool). if t then bytes_of lent w b sheet names else b) has);
+          text = subst (λ (t : Bool). Begins (when t then printed_entry lent w b sheet names else []) before n after) (sym has) written;
+          session = here.session ∙ sym (ap (λ (t : Bool). when t then words_of lent w b sheet names else w) has);
+          bytes = here.bytes ∙ sym (ap (λ (t : Bool). when t then bytes_of lent w b sheet names else b) has);
         })

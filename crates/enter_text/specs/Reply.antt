@@ -1,6 +1,6 @@
 -- The reply to an entry (document 02, F-1): its report, and one row more that tells the session after it.
 use Rattle.std.specs.Prelude.{◌≡◌, Bool, ◌&&◌, List, [], ◌∷◌, ◌++◌, ℕ, ◌*◌, length, take, leb}
-use Rattle.definition.specs.Basics.{if◌then◌else◌}
+use Rattle.definition.specs.Basics.{when◌then◌else◌}
 use Rattle.definition.specs.Text.{sheet_of, text_of}
 use Rattle.definition.specs.Outcome.{Outcome, report, buffer}
 use Rattle.session.specs.Words.{whole, enter_outcome, enter_words, enter_bytes}
@@ -35,10 +35,10 @@ is_lent lent room = leb lent 2048 && leb 166050 room
 -- Of that entry, and a lent text of which n bytes are written and which then is `after`:
 pub record RepliedEntry (lent : ℕ) (w b sheet names before : List ℕ) (n : ℕ) (w' b' after : List ℕ) : Type 0 where
   -- it begins with the reply,
-  pub text : Begins (if is_lent lent (length before) then printed_entry lent w b sheet names else []) before n after
+  pub text : Begins (when is_lent lent (length before) then printed_entry lent w b sheet names else []) before n after
   -- and the session has the words and bytes after the entry; where there is no reply, nothing is entered.
-  pub session : w' ≡ (if is_lent lent (length before) then words_of lent w b sheet names else w)
-  pub bytes : b' ≡ (if is_lent lent (length before) then bytes_of lent w b sheet names else b)
+  pub session : w' ≡ (when is_lent lent (length before) then words_of lent w b sheet names else w)
+  pub bytes : b' ≡ (when is_lent lent (length before) then bytes_of lent w b sheet names else b)
 
 -- The same of two texts of which `sheet` and `names` were read: all of them, or one byte more than the longest that is accepted.
 pub record RepliedOfEntry (lent : ℕ) (w b sheet names before : List ℕ) (n : ℕ) (w' b' after : List ℕ) : Type 0 where

@@ -10,7 +10,7 @@ use lib.ListN.{get_or, set}
 use lib.Seq.{get_or-set_other}
 use lib.Dec.{eqb, ltb, T}
 use borrow.Author.Tests.{lt-ltb}
-use Rattle.definition.specs.Basics.{if◌then◌else◌, filter, all, concat_map, from, bit, place}
+use Rattle.definition.specs.Basics.{when◌then◌else◌, filter, all, concat_map, from, bit, place}
 use Rattle.definition.specs.Sheet.{Sheet, kind, child, b, rows, is, kids_of}
 use Rattle.definition.specs.Meaning.{Meaning, nothing, function, class, global, toplevel, variable, is_variable, is_class, owner_of}
 use Rattle.definition.specs.Outside.{Outside}
@@ -50,8 +50,8 @@ raised_keeps (suc n) x j l = go (eqb c 1) (eqb c 2 || eqb c 22) (eqb c 4 || eqb 
     three v = get_or-set_other x 3 j v 0 (λ e. omega arith)
 
     go : (t u v w : Bool)
-        → get_or (if t then set x 2 (raised_function (suc n) (get_or x 2 0)) else if u then set x 2 (raised_class (suc n) (get_or x 2 0))
-        else if v then set x 3 (get_or x 3 0 + suc n) else if w then set x 3 (raised_function (suc n) (get_or x 3 0)) else x) j 0
+        → get_or (when t then set x 2 (raised_function (suc n) (get_or x 2 0)) else when u then set x 2 (raised_class (suc n) (get_or x 2 0))
+        else when v then set x 3 (get_or x 3 0 + suc n) else when w then set x 3 (raised_function (suc n) (get_or x 3 0)) else x) j 0
         ≡ get_or x j 0
     go true u v w = two (raised_function (suc n) (get_or x 2 0))
     go false true v w = two (raised_class (suc n) (get_or x 2 0))
@@ -74,7 +74,7 @@ fourth_low : (r n : ℕ) (vs : List ℕ) → Low r vs → Low r (with_fourth n v
 fourth_low r n [] h = tt
 fourth_low r n (c ∷ vs) h = h
 
-truth_low : (r : ℕ) (t : Bool) → Low r ((if t then 7 else 8) ∷ [])
+truth_low : (r : ℕ) (t : Bool) → Low r ((when t then 7 else 8) ∷ [])
 truth_low r true = tt
 truth_low r false = tt
 
@@ -87,14 +87,14 @@ module _ (s : Sheet) (h : List Moment) where
   code_low r (toplevel x) k = tt
   code_low r (variable x f) k = go (is s 11 x)
     where
-      go : (t : Bool) → Low r (if t then 4 ∷ place (eqb x) (kids_of s 11 f) ∷ f ∷ [] else 5 ∷ k ∷ f ∷ bit (eqb (b s x) 1) ∷ [])
+      go : (t : Bool) → Low r (when t then 4 ∷ place (eqb x) (kids_of s 11 f) ∷ f ∷ [] else 5 ∷ k ∷ f ∷ bit (eqb (b s x) 1) ∷ [])
       go true = tt
       go false = tt
 
   seen_low : (r f : ℕ) (u : Use) → Low r (seen_from s h f u)
   seen_low r f u = go (is_variable u.means && not (eqb (owner_of u.means) f))
     where
-      go : (t : Bool) → Low r (if t then 6 ∷ place (same u) (captures s h f) ∷ 0 ∷ bit (is_mutable s u.means) ∷ [] else code s h u.means u.slot)
+      go : (t : Bool) → Low r (when t then 6 ∷ place (same u) (captures s h f) ∷ 0 ∷ bit (is_mutable s u.means) ∷ [] else code s h u.means u.slot)
       go true = tt
       go false = code_low r u.means u.slot
 
@@ -142,13 +142,13 @@ module _ {B : Type 0} (pick : List ℕ → List B) (none : (x : List ℕ) → T 
       ap (λ (ys : List B). ys ++ picked_of r vss) (none (answer_over n r vs) (subst (λ (c : ℕ). T (ltb c 22)) (sym (raised_keeps n (eight (r ∷ vs)) 1 (omega arith))) l))
       ∙ low_none r p
 
-  choose : (r : ℕ) (t u : Bool) {xs : List (List ℕ)} (ys : List (List ℕ)) (z : List B) → (T t → T u → ⊥) → Every (Low r) xs → picked_of r ys ≡ (if u then z else [])
-      → picked_of r (if t then xs else ys) ≡ (if u then z else [])
+  choose : (r : ℕ) (t u : Bool) {xs : List (List ℕ)} (ys : List (List ℕ)) (z : List B) → (T t → T u → ⊥) → Every (Low r) xs → picked_of r ys ≡ (when u then z else [])
+      → picked_of r (when t then xs else ys) ≡ (when u then z else [])
   choose r true true ys z x p e = absurd (x tt tt)
   choose r true false ys z x p e = low_none r p
   choose r false u ys z x p e = e
 
-  last : (r : ℕ) (u : Bool) (xs : List (List ℕ)) → picked_of r (if u then xs else []) ≡ (if u then picked_of r xs else [])
+  last : (r : ℕ) (u : Bool) (xs : List (List ℕ)) → picked_of r (when u then xs else []) ≡ (when u then picked_of r xs else [])
   last r true xs = refl
   last r false xs = refl
 
@@ -156,7 +156,7 @@ module _ {B : Type 0} (pick : List ℕ → List B) (none : (x : List ℕ) → T 
     abbrev pub picked_class : ℕ → List B
     picked_class r = picked_of r (class_rows O s h r)
 
-    row_picked : (r : ℕ) → picked_of r (rows_of O s h r) ≡ (if is s 4 r then picked_class r else [])
+    row_picked : (r : ℕ) → picked_of r (rows_of O s h r) ≡ (when is s 4 r then picked_class r else [])
     row_picked r =
         choose r (is s 29 r) (is s 4 r) _ _ (kind_apart (kind s r) 29 4 tt) (let_low s h r)
         (choose r (is s 50 r) (is s 4 r) _ _ (kind_apart (kind s r) 50 4 tt) (identifier_low s h r)
@@ -173,7 +173,7 @@ module _ {B : Type 0} (pick : List ℕ → List B) (none : (x : List ℕ) → T 
         ∙ concat_append pick (map (raised_by n) own) (map (raised_by n) rest)
         ∙ ap (λ (ys : List B). ys ++ concat_map pick (map (raised_by n) rest))
         (concat_map_lem pick (raised_by n) own ∙ concat_map_lem (λ x. pick (raised_by n x)) (λ vs. eight (r ∷ vs)) (rows_of O s h r) ∙ row_picked r)
-        ∙ ap (λ (ys : List B). (if is s 4 r then picked_class r else []) ++ ys) (rows_picked rs)
+        ∙ ap (λ (ys : List B). (when is s 4 r then picked_class r else []) ++ ys) (rows_picked rs)
         ∙ join (is s 4 r)
       where
         own : List (List ℕ)
@@ -182,7 +182,7 @@ module _ {B : Type 0} (pick : List ℕ → List B) (none : (x : List ℕ) → T 
         rest : List (List ℕ)
         rest = concat_map (λ r. map (λ vs. eight (r ∷ vs)) (rows_of O s h r)) rs
 
-        join : (t : Bool) → (if t then picked_class r else []) ++ concat_map picked_class (filter (is s 4) rs) ≡ concat_map picked_class (if t then r ∷ filter (is s 4) rs else filter (is s 4) rs)
+        join : (t : Bool) → (when t then picked_class r else []) ++ concat_map picked_class (filter (is s 4) rs) ≡ concat_map picked_class (when t then r ∷ filter (is s 4) rs else filter (is s 4) rs)
         join true = refl
         join false = refl
 

@@ -7,7 +7,7 @@ use native.Mathlib.Omega.{arith}
 use lib.Dec.{eqb, leb}
 use lib.ListN.{length, replicate, length-append}
 use borrow.Author.Tests.{eqb-false}
-use Rattle.definition.specs.Basics.{if◌then◌else◌, concat_map}
+use Rattle.definition.specs.Basics.{when◌then◌else◌, concat_map}
 use Rattle.definition.specs.Sheet.{Sheet}
 use Rattle.definition.specs.Outside.{Outside, based}
 use Rattle.definition.specs.Scope.{history}
@@ -29,7 +29,7 @@ accepted_rows O lent s = go (eqb x.number 0) refl (leb (8 * length out) lent)
 
     came : Bool → Bool → Outcome
     came t u =
-        if t then (if u then record { number = 0; file = 0; line = 0; column = 0; name = 0; rows = out; globals = final_globals s (history O s) } else refused 22)
+        when t then (when u then record { number = 0; file = 0; line = 0; column = 0; name = 0; rows = out; globals = final_globals s (history O s) } else refused 22)
         else refused_at x.number s x.at x.name
 
     go : (t : Bool) → eqb x.number 0 ≡ t → (u : Bool) → (came t u).number ≡ 0 → (came t u).rows ≡ out

@@ -5,7 +5,7 @@ use Prim.Native.Nat.{ℕ, zero, suc, ◌+◌, ◌-◌, ◌≤◌}
 use native.Mathlib.Omega.{arith}
 use lib.ListN.{length, get_or}
 use lib.Dec.{eqb}
-use Rattle.definition.specs.Basics.{if◌then◌else◌, filter, any, first, from}
+use Rattle.definition.specs.Basics.{when◌then◌else◌, filter, any, first, from}
 use Rattle.definition.specs.Sheet.{Sheet, word, next, child, rows, chain, is, kids_of}
 use Rattle.definition.specs.Outside.{Method, no_record, record_of}
 use Rattle.definition.specs.Classes.{of_sheet, method_at, own_methods, no_method, method_of, merge_methods}
@@ -22,7 +22,7 @@ first_few : (p : Method → Bool) (d : Method) {ms : List Method} → Few d → 
 first_few p d l every_none = l
 first_few p d l (every_one {x = m} {xs = ms} h q) = go (p m) (first_few p d l q)
   where
-    go : (t : Bool) → Few (first p d ms) → Few (if t then m else first p d ms)
+    go : (t : Bool) → Few (first p d ms) → Few (when t then m else first p d ms)
     go true k = h
     go false k = k
 
@@ -30,7 +30,7 @@ kept_few : (p : Method → Bool) {ms : List Method} → Every Few ms → Every F
 kept_few p every_none = every_none
 kept_few p (every_one {x = m} {xs = ms} h q) = go (p m) (kept_few p q)
   where
-    go : (t : Bool) → Every Few (filter p ms) → Every Few (if t then m ∷ filter p ms else filter p ms)
+    go : (t : Bool) → Every Few (filter p ms) → Every Few (when t then m ∷ filter p ms else filter p ms)
     go true k = every_one h k
     go false k = k
 
@@ -50,7 +50,7 @@ chained_few p (suc n) s (suc r) = go (p (suc r)) (chained_few p n s (next s (suc
     rest : List ℕ
     rest = filter p (chain n s (next s (suc r)))
 
-    go : (t : Bool) → length rest ≤ n → length (if t then suc r ∷ rest else rest) ≤ suc n
+    go : (t : Bool) → length rest ≤ n → length (when t then suc r ∷ rest else rest) ≤ suc n
     go true l = omega arith
     go false l = omega arith
 
@@ -70,7 +70,7 @@ module _ (w : List ℕ) (fit : (j : ℕ) → get_or w j 0 ≤ 4294967295) where
       go (r ∷ rs) = by (eqb (word w r 0) c) (go rs)
         where
           by : (t : Bool) → Every Few (first (λ x. eqb x.number c) no_record (map (record_at w) rs)).methods
-              → Every Few (if t then record_at w r else first (λ x. eqb x.number c) no_record (map (record_at w) rs)).methods
+              → Every Few (when t then record_at w r else first (λ x. eqb x.number c) no_record (map (record_at w) rs)).methods
           by true h = held_few (word w r 4) (word w r 5)
           by false h = h
 
@@ -78,7 +78,7 @@ module _ (w : List ℕ) (fit : (j : ℕ) → get_or w j 0 ≤ 4294967295) where
     own_few : (c : ℕ) → Every Few (own_methods (over w) s c)
     own_few c = go (of_sheet s c)
       where
-        go : (t : Bool) → Every Few (if t then map (method_at s) (kids_of s 6 (c - 256)) else (record_of (over w) c).methods)
+        go : (t : Bool) → Every Few (when t then map (method_at s) (kids_of s 6 (c - 256)) else (record_of (over w) c).methods)
         go true = every_map (method_at s) (kids_of s 6 (c - 256)) (λ f q. omega (arith, chained_few (is s 11) (rows s) s (child s f)))
         go false = recorded_few c
 
@@ -90,7 +90,7 @@ module _ (w : List ℕ) (fit : (j : ℕ) → get_or w j 0 ≤ 4294967295) where
         up : List Method
         up = methods_in (over w) s o n (parent_in s o c)
 
-        go : (t : Bool) → Every Few up → Every Few (if t then own_methods (over w) s c else merge_methods up (own_methods (over w) s c))
+        go : (t : Bool) → Every Few up → Every Few (when t then own_methods (over w) s c else merge_methods up (own_methods (over w) s c))
         go true p = own_few c
         go false p = merged_few p (own_few c)
 

@@ -7,7 +7,7 @@ use lib.ListN.{length, get_or}
 use lib.Seq.{sets}
 use lib.Dec.{eqb, ltb, T}
 use borrow.Author.Tests.{eq-eqb, ne_eqb, ltb-true}
-use Rattle.definition.specs.Basics.{if◌then◌else◌, bit}
+use Rattle.definition.specs.Basics.{when◌then◌else◌, bit}
 use Rattle.definition.specs.Sheet.{Sheet, a}
 use Rattle.definition.specs.Outside.{Outside}
 use Rattle.definition.specs.Answer.{raised_class}
@@ -46,7 +46,7 @@ module _ (s : Sheet) (o : Store) (n : ℕ) (x : List ℕ) where
     member_size = go (eqb (get_or x 1 0) 23) (eqb (get_or x 1 0) 24)
       where
         go : (t u : Bool)
-            → length (if t || u then (if t then get_or x 3 0 ∷ 0 ∷ 0 ∷ [] else method_told O s o n (get_or x 0 0) (get_or x 2 0)) else []) ≡ 3 * bit (t || u)
+            → length (when t || u then (when t then get_or x 3 0 ∷ 0 ∷ 0 ∷ [] else method_told O s o n (get_or x 0 0) (get_or x 2 0)) else []) ≡ 3 * bit (t || u)
         go true u = refl
         go false true = refl
         go false false = refl
@@ -72,7 +72,7 @@ module _ (s : Sheet) (o : Store) (n : ℕ) (x : List ℕ) where
   class_size = go (eqb (get_or x 1 0) 22)
     where
       go : (t : Bool)
-          → length (if t then raised_class n (256 + get_or x 0 0) ∷ a s (get_or x 0 0) ∷ raised_class n (parent_in s o (256 + get_or x 0 0)) ∷ get_or x 4 0 ∷ get_or x 5 0 ∷ [] else [])
+          → length (when t then raised_class n (256 + get_or x 0 0) ∷ a s (get_or x 0 0) ∷ raised_class n (parent_in s o (256 + get_or x 0 0)) ∷ get_or x 4 0 ∷ get_or x 5 0 ∷ [] else [])
           ≡ 5 * bit t
       go true = refl
       go false = refl

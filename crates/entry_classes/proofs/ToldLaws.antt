@@ -8,7 +8,7 @@ use lib.ListN.{length, get_or, length-append, length-map}
 use lib.Seq.{sets}
 use lib.Dec.{eqb, ltb, T}
 use borrow.Author.Tests.{ne_eqb, ltb-true}
-use Rattle.definition.specs.Basics.{if◌then◌else◌, filter, all, count, total, concat_map, from, bit}
+use Rattle.definition.specs.Basics.{when◌then◌else◌, filter, all, count, total, concat_map, from, bit}
 use Rattle.definition.specs.Sheet.{Sheet, a, rows, is}
 use Rattle.definition.specs.Outside.{Outside, Method, based}
 use Rattle.definition.specs.Scope.{Moment, history}
@@ -187,7 +187,7 @@ module _ {O : Outside} {s : Sheet} (ok : PastFour O s) {o : Store} (k : StoreRea
 
 -- counted as a list of as many zeros
 abbrev one : Bool → List ℕ
-one t = if t then 0 ∷ [] else []
+one t = when t then 0 ∷ [] else []
 
 module _ {A : Type 0} where
   ones_count : (p : A → Bool) (xs : List A) → length (concat_map (λ x. one (p x)) xs) ≡ count p xs

@@ -1,6 +1,6 @@
 -- The words of a class and of a member in a session, as they are made of the answer row that tells it.
 use Rattle.std.specs.Prelude.{Bool, ◌||◌, List, [], ◌∷◌, ℕ, ◌+◌, get_or, eqb, ltb}
-use Rattle.definition.specs.Basics.{if◌then◌else◌}
+use Rattle.definition.specs.Basics.{when◌then◌else◌}
 use Rattle.definition.specs.Sheet.{Sheet, a, rows}
 use Rattle.definition.specs.Outside.{Outside, Method}
 use Rattle.definition.specs.Classes.{method_of}
@@ -34,7 +34,7 @@ method_told O s o n r k = let m : Method = method_of k (methods_in O s o (rows s
 
 -- the words of the member that answer row x tells, and of the class
 unfoldable pub told_member : Outside → Sheet → Store → ℕ → List ℕ → List ℕ
-told_member O s o n x = if eqb (get_or x 1 0) 23 then get_or x 3 0 ∷ 0 ∷ 0 ∷ [] else method_told O s o n (get_or x 0 0) (get_or x 2 0)
+told_member O s o n x = when eqb (get_or x 1 0) 23 then get_or x 3 0 ∷ 0 ∷ 0 ∷ [] else method_told O s o n (get_or x 0 0) (get_or x 2 0)
 
 unfoldable pub told_class : Sheet → Store → ℕ → List ℕ → List ℕ
 told_class s o n x =
@@ -42,7 +42,7 @@ told_class s o n x =
 
 -- the same, and no words if it tells none
 unfoldable pub member_in : Outside → Sheet → Store → ℕ → List ℕ → List ℕ
-member_in O s o n x = if tells_member x then told_member O s o n x else []
+member_in O s o n x = when tells_member x then told_member O s o n x else []
 
 unfoldable pub class_in : Sheet → Store → ℕ → List ℕ → List ℕ
-class_in s o n x = if tells_class x then told_class s o n x else []
+class_in s o n x = when tells_class x then told_class s o n x else []

@@ -8,7 +8,7 @@ use lib.ListN.{length, get_or, take, drop, set, length-append, drop_of_length-le
 use lib.Seq.{sets}
 use lib.Dec.{leb}
 use borrow.Author.Tests.{le-leb, lt-leb}
-use Rattle.definition.specs.Basics.{if◌then◌else◌, filter, any, place, concat_map}
+use Rattle.definition.specs.Basics.{when◌then◌else◌, filter, any, place, concat_map}
 use Rattle.definition.specs.Names.{Name, listed, same_name}
 use Rattle.names.specs.Listed.{Ends}
 use Rattle.names.proofs.Laws.{drop_step, past_end, next_name}
@@ -40,15 +40,15 @@ byte_last v name at i h = ap (λ (l : List ℕ). sets v (at + i) (l ++ 10 ∷ []
 -- A name that is new, and one that is not.
 module _ (first number : ℕ) (x : Name) where
   pub is_old : number < first → ended_from first number x ≡ []
-  is_old h = ap (λ (t : Bool). if t then ended x else []) (lt-leb first number h)
+  is_old h = ap (λ (t : Bool). when t then ended x else []) (lt-leb first number h)
 
   pub is_new_lem : first ≤ number → ended_from first number x ≡ ended x
-  is_new_lem h = ap (λ (t : Bool). if t then ended x else []) (le-leb first number h)
+  is_new_lem h = ap (λ (t : Bool). when t then ended x else []) (le-leb first number h)
 
   pub ended_size : length (ended_from first number x) ≤ length x + 1
   ended_size = go (leb first number)
     where
-      go : (t : Bool) → length (if t then ended x else []) ≤ length x + 1
+      go : (t : Bool) → length (when t then ended x else []) ≤ length x + 1
       go true = omega (arith, length-append x (10 ∷ []))
       go false = omega arith
 
@@ -76,9 +76,9 @@ new_bytes_lem p first numbers (x ∷ xs) i h =
     let z : i + 0 ≡ i = omega arith in
     let on = new_bytes_lem p first numbers xs (suc i) (λ k l. let q : suc i + k ≡ i + suc k = omega arith in ap (λ (j : ℕ). leb first (get_or numbers j 0)) q ∙ h (suc k) (omega arith)) in
     let t : leb first (get_or numbers i 0) ≡ p x = ap (λ (j : ℕ). leb first (get_or numbers j 0)) (sym z) ∙ h 0 (omega arith) in
-    ap (λ (u : Bool). (if u then ended x else []) ++ new_bytes first numbers (suc i) xs) t ∙ ap (λ (r : List ℕ). (if p x then ended x else []) ++ r) on ∙ go (p x)
+    ap (λ (u : Bool). (when u then ended x else []) ++ new_bytes first numbers (suc i) xs) t ∙ ap (λ (r : List ℕ). (when p x then ended x else []) ++ r) on ∙ go (p x)
   where
-    go : (u : Bool) → (if u then ended x else []) ++ concat_map ended (filter p xs) ≡ concat_map ended (if u then x ∷ filter p xs else filter p xs)
+    go : (u : Bool) → (when u then ended x else []) ++ concat_map ended (filter p xs) ≡ concat_map ended (when u then x ∷ filter p xs else filter p xs)
     go true = refl
     go false = refl
 

@@ -7,7 +7,7 @@ use native.Mathlib.Omega.{arith}
 use lib.ListN.{length, get_or, drop, length-append}
 use lib.Dec.{eqb}
 use borrow.Author.Tests.{eq-eqb, ne_eqb, not-true}
-use Rattle.definition.specs.Basics.{if◌then◌else◌, filter, any, unlike, place, concat_map}
+use Rattle.definition.specs.Basics.{when◌then◌else◌, filter, any, unlike, place, concat_map}
 use Rattle.definition.specs.Names.{Name, fixed, listed, same_name, names_fit}
 use Rattle.names.proofs.Laws.{drop_step}
 use Rattle.session.specs.Session.{Session, all_names}
@@ -43,7 +43,7 @@ apart_kept : (q : Name → Bool) (xs : List Name) → unlike same_name xs ≡ tr
 apart_kept q [] u = refl
 apart_kept q (x ∷ xs) u = let a = apart_here x xs u in go (q x) (none_kept (same_name x) q xs a.0) (apart_kept q xs a.1)
   where
-    go : (t : Bool) → any (same_name x) (filter q xs) ≡ false → unlike same_name (filter q xs) ≡ true → unlike same_name (if t then x ∷ filter q xs else filter q xs) ≡ true
+    go : (t : Bool) → any (same_name x) (filter q xs) ≡ false → unlike same_name (filter q xs) ≡ true → unlike same_name (when t then x ∷ filter q xs else filter q xs) ≡ true
     go true e v = apart_from x (filter q xs) e v
     go false e v = v
 
@@ -52,7 +52,7 @@ kept_pass q [] i h = absurd (omega arith)
 kept_pass q (x ∷ xs) i h = go (kept_pass q xs) (q x) refl i h
   where
     go : ((j : ℕ) → j < length (filter q xs) → q (get_or (filter q xs) j []) ≡ true) → (t : Bool) → q x ≡ t → (j : ℕ)
-        → j < length (if t then x ∷ filter q xs else filter q xs) → q (get_or (if t then x ∷ filter q xs else filter q xs) j []) ≡ true
+        → j < length (when t then x ∷ filter q xs else filter q xs) → q (get_or (when t then x ∷ filter q xs else filter q xs) j []) ≡ true
     go on true e zero l = e
     go on true e (suc j) l = on j (omega arith)
     go on false e j l = on j l
@@ -64,8 +64,8 @@ place_told p q [] [] e h = refl
 place_told p q [] (w ∷ ws) e h = absurd (omega arith)
 place_told p q (x ∷ xs) [] e h = absurd (omega arith)
 place_told p q (x ∷ xs) (w ∷ ws) e h =
-    ap (λ (t : Bool). if t then 0 else suc (place p xs)) (h 0 (omega arith))
-    ∙ ap (λ (m : ℕ). if q w then 0 else suc m) (place_told p q xs ws (omega arith) (λ k l. h (suc k) (omega arith)))
+    ap (λ (t : Bool). when t then 0 else suc (place p xs)) (h 0 (omega arith))
+    ∙ ap (λ (m : ℕ). when q w then 0 else suc m) (place_told p q xs ws (omega arith) (λ k l. h (suc k) (omega arith)))
 
 module _ (S : Session) (ns : List ℕ) where
   -- the names of the session and the entry, and those of them that are not fixed
@@ -134,7 +134,7 @@ pub place_below : (numbers : List ℕ) (n : ℕ) → place (λ x. eqb x n) numbe
 place_below [] n = omega arith
 place_below (w ∷ ws) n = go (eqb w n) (place_below ws n)
   where
-    go : (t : Bool) → place (λ x. eqb x n) ws ≤ length ws → (if t then 0 else suc (place (λ x. eqb x n) ws)) ≤ suc (length ws)
+    go : (t : Bool) → place (λ x. eqb x n) ws ≤ length ws → (when t then 0 else suc (place (λ x. eqb x n) ws)) ≤ suc (length ws)
     go true h = omega arith
     go false h = omega arith
 
@@ -143,13 +143,13 @@ module _ (numbers : List ℕ) (n k : ℕ) where
   abbrev is : ℕ → Bool
   is x = eqb x n
 
-  place_step : k < length numbers → place is (drop k numbers) ≡ (if eqb (get_or numbers k 0) n then 0 else suc (place is (drop (k + 1) numbers)))
+  place_step : k < length numbers → place is (drop k numbers) ≡ (when eqb (get_or numbers k 0) n then 0 else suc (place is (drop (k + 1) numbers)))
   place_step h = ap (place is) (drop_step numbers k 0 h)
 
   -- it is there,
   pub place_here : k < length numbers → get_or numbers k 0 ≡ n → place is (drop k numbers) ≡ 0
-  place_here h e = place_step h ∙ ap (λ (t : Bool). if t then 0 else suc (place is (drop (k + 1) numbers))) (eq-eqb (get_or numbers k 0) n e)
+  place_here h e = place_step h ∙ ap (λ (t : Bool). when t then 0 else suc (place is (drop (k + 1) numbers))) (eq-eqb (get_or numbers k 0) n e)
 
   -- or further on
   pub place_on : k < length numbers → (get_or numbers k 0 ≡ n → ⊥) → place is (drop k numbers) ≡ suc (place is (drop (k + 1) numbers))
-  place_on h f = place_step h ∙ ap (λ (t : Bool). if t then 0 else suc (place is (drop (k + 1) numbers))) (ne_eqb (get_or numbers k 0) n f)
+  place_on h f = place_step h ∙ ap (λ (t : Bool). when t then 0 else suc (place is (drop (k + 1) numbers))) (ne_eqb (get_or numbers k 0) n f)

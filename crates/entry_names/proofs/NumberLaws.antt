@@ -7,7 +7,7 @@ use native.Mathlib.Omega.{arith}
 use lib.ListN.{length, get_or, take, drop, set, length-append}
 use lib.Dec.{eqb}
 use borrow.Author.Tests.{eqb-true, eqb-false, ne_eqb}
-use Rattle.definition.specs.Basics.{if◌then◌else◌, bit, filter, any, unlike, place, from, concat_map}
+use Rattle.definition.specs.Basics.{when◌then◌else◌, bit, filter, any, unlike, place, from, concat_map}
 use Rattle.definition.specs.Names.{Name, fixed, listed, same_name, names_fit}
 use Rattle.names.specs.Listed.{Ends, starts, numbered}
 use Rattle.names.proofs.Laws.{store_next, past_end, next_size, next_name, next_count, table_size}
@@ -30,7 +30,7 @@ number_found l room u x = go (any (same_name x) l) refl
     n : ℕ
     n = (searched l (index_of l) x).0
 
-    go : (t : Bool) → any (same_name x) l ≡ t → n ≡ (if t then suc (place (same_name x) l) else 0)
+    go : (t : Bool) → any (same_name x) l ≡ t → n ≡ (when t then suc (place (same_name x) l) else 0)
     go true e =
         let i : ℕ = place (same_name x) l in
         let h = place_below (same_name x) l e in
@@ -68,7 +68,7 @@ module _ (l : List Name) where
   pub new_none : (x : Name) → eqb (number_in l x) 0 ≡ is_new l x
   new_none x = go (any (same_name x) l)
     where
-      go : (t : Bool) → eqb (if t then suc (place (same_name x) l) else 0) 0 ≡ not t
+      go : (t : Bool) → eqb (when t then suc (place (same_name x) l) else 0) 0 ≡ not t
       go true = ne_eqb (suc (place (same_name x) l)) 0 (λ e. absurd (omega arith))
       go false = refl
 
@@ -76,15 +76,15 @@ module _ (l : List Name) where
   pub new_more : (x : Name) (xs : List Name) → length (filter (is_new l) (x ∷ xs)) ≡ bit (eqb (number_in l x) 0) + length (filter (is_new l) xs)
   new_more x xs = go (is_new l x) ∙ ap (λ (t : Bool). bit t + length (filter (is_new l) xs)) (sym (new_none x))
     where
-      go : (t : Bool) → length (if t then x ∷ filter (is_new l) xs else filter (is_new l) xs) ≡ bit t + length (filter (is_new l) xs)
+      go : (t : Bool) → length (when t then x ∷ filter (is_new l) xs else filter (is_new l) xs) ≡ bit t + length (filter (is_new l) xs)
       go true = omega arith
       go false = omega arith
 
   pub bytes_more : (x : Name) (xs : List Name)
-      → length (concat_map ended (filter (is_new l) (x ∷ xs))) ≡ (if eqb (number_in l x) 0 then length x + 1 else 0) + length (concat_map ended (filter (is_new l) xs))
-  bytes_more x xs = go (is_new l x) ∙ ap (λ (t : Bool). (if t then length x + 1 else 0) + length (concat_map ended (filter (is_new l) xs))) (sym (new_none x))
+      → length (concat_map ended (filter (is_new l) (x ∷ xs))) ≡ (when eqb (number_in l x) 0 then length x + 1 else 0) + length (concat_map ended (filter (is_new l) xs))
+  bytes_more x xs = go (is_new l x) ∙ ap (λ (t : Bool). (when t then length x + 1 else 0) + length (concat_map ended (filter (is_new l) xs))) (sym (new_none x))
     where
-      go : (t : Bool) → length (concat_map ended (if t then x ∷ filter (is_new l) xs else filter (is_new l) xs)) ≡ (if t then length x + 1 else 0) + length (concat_map ended (filter (is_new l) xs))
+      go : (t : Bool) → length (concat_map ended (when t then x ∷ filter (is_new l) xs else filter (is_new l) xs)) ≡ (when t then length x + 1 else 0) + length (concat_map ended (filter (is_new l) xs))
       go true = omega (arith, length-append (ended x) (concat_map ended (filter (is_new l) xs)), length-append x (10 ∷ []))
       go false = omega arith
 
@@ -105,14 +105,14 @@ module _ (l : List Name) where
 
       here : (t : Bool) → any (same_name x) l ≡ t → found_or (suc (length l + length (filter (is_new l) d))) (number_in l x) ≡ suc (place (same_name x) (l ++ filter (is_new l) (d ++ x ∷ xs)))
       here true e =
-          ap (λ (t : Bool). found_or (suc (length l + length (filter (is_new l) d))) (if t then suc (place (same_name x) l) else 0)) e
-          ∙ ap (λ (t : Bool). if t then suc (length l + length (filter (is_new l) d)) else suc (place (same_name x) l)) (ne_eqb (suc (place (same_name x) l)) 0 (λ z. absurd (omega arith)))
+          ap (λ (t : Bool). found_or (suc (length l + length (filter (is_new l) d))) (when t then suc (place (same_name x) l) else 0)) e
+          ∙ ap (λ (t : Bool). when t then suc (length l + length (filter (is_new l) d)) else suc (place (same_name x) l)) (ne_eqb (suc (place (same_name x) l)) 0 (λ z. absurd (omega arith)))
           ∙ ap suc (sym (place_left (same_name x) l (filter (is_new l) (d ++ x ∷ xs)) e))
       here false e =
           let f : any (same_name x) d ≡ false = none_in d (x ∷ xs) u 0 (omega arith) in
-          let k : filter (is_new l) (x ∷ xs) ≡ x ∷ filter (is_new l) xs = ap (λ (t : Bool). if not t then x ∷ filter (is_new l) xs else filter (is_new l) xs) e in
-          let z : place (same_name x) (x ∷ filter (is_new l) xs) ≡ 0 = ap (λ (t : Bool). if t then 0 else suc (place (same_name x) (filter (is_new l) xs))) (same_itself x) in
-          ap (λ (t : Bool). found_or (suc (length l + length (filter (is_new l) d))) (if t then suc (place (same_name x) l) else 0)) e
+          let k : filter (is_new l) (x ∷ xs) ≡ x ∷ filter (is_new l) xs = ap (λ (t : Bool). when not t then x ∷ filter (is_new l) xs else filter (is_new l) xs) e in
+          let z : place (same_name x) (x ∷ filter (is_new l) xs) ≡ 0 = ap (λ (t : Bool). when t then 0 else suc (place (same_name x) (filter (is_new l) xs))) (same_itself x) in
+          ap (λ (t : Bool). found_or (suc (length l + length (filter (is_new l) d))) (when t then suc (place (same_name x) l) else 0)) e
           ∙ omega (
             arith,
             place_right (same_name x) l (filter (is_new l) (d ++ x ∷ xs)) e,
@@ -190,7 +190,7 @@ passed_few {ns = ns} p n fit =
 -- the name that ends at e, of which a number was found or not
 pub passed_next : {l : List Name} {ns numbers : List ℕ} {at e count new bytes found next number count' new' bytes' : ℕ} → Passed l ns numbers at count new bytes
     → Ends ns at e → found ≡ number_in l (take (e - at) (drop at ns)) → next ≡ suc (length l) + new → number ≡ found_or next found → count < length numbers
-    → count' ≡ count + 1 → new' ≡ new + bit (eqb found 0) → bytes' ≡ bytes + (if eqb found 0 then e - at + 1 else 0)
+    → count' ≡ count + 1 → new' ≡ new + bit (eqb found 0) → bytes' ≡ bytes + (when eqb found 0 then e - at + 1 else 0)
     → Passed l ns (set numbers count number) (e + 1) count' new' bytes'
 passed_next {l} {ns} {numbers} {at} {e} {count} {new} {bytes} {found} {next} {number} {count'} {new'} {bytes'} p n f m g room c a b =
     record {
@@ -205,8 +205,8 @@ passed_next {l} {ns} {numbers} {at} {e} {count} {new} {bytes} {found} {next} {nu
         b,
         ap (λ (r : List Name). length (concat_map ended (filter (is_new l) r))) (next_name n),
         bytes_more l x xs,
-        ap (λ (k : ℕ). if eqb k 0 then length x + 1 else 0) f,
-        ap (λ (k : ℕ). if eqb found 0 then k + 1 else 0) (next_size n),
+        ap (λ (k : ℕ). when eqb k 0 then length x + 1 else 0) f,
+        ap (λ (k : ℕ). when eqb found 0 then k + 1 else 0) (next_size n),
       );
       told =
           ap (λ (k : ℕ). take k (set numbers count number) ++ numbers_from l (suc (length l) + new') xs) c
@@ -224,7 +224,7 @@ passed_next {l} {ns} {numbers} {at} {e} {count} {new} {bytes} {found} {next} {nu
     small_bit true = omega arith
     small_bit false = omega arith
 
-    small_part : (t : Bool) → (if t then e - at + 1 else 0) ≤ e - at + 1
+    small_part : (t : Bool) → (when t then e - at + 1 else 0) ≤ e - at + 1
     small_part true = omega arith
     small_part false = omega arith
 

@@ -9,7 +9,7 @@ use lib.ListN.{length, get_or, set, length-append, length-map, get_or-append, ge
 use lib.Seq.{ext_get_or, get_or-set_same, get_or-set_other}
 use lib.Dec.{eqb, leb, ltb, T}
 use borrow.Author.Tests.{lt-ltb, le-ltb, le-leb, lt-leb, ne_eqb}
-use Rattle.definition.specs.Basics.{if◌then◌else◌, all, place, from, concat_map}
+use Rattle.definition.specs.Basics.{when◌then◌else◌, all, place, from, concat_map}
 use Rattle.definition.specs.Names.{Name, fixed, listed, same_name}
 use Rattle.definition.specs.Sheet.{Sheet, word, kind, rows}
 use Rattle.definition.specs.Shape.{shape_of, nought}
@@ -30,7 +30,7 @@ use Rattle.entry_names.proofs.PlaceLaws.{place_left}
 
 -- Two tests that are the same up to m, by one that is computed, and from m on.
 alike : Bool → Bool → Bool
-alike t u = if t then u else not u
+alike t u = when t then u else not u
 
 alike_same : (t u : Bool) → T (alike t u) → t ≡ u
 unfolding alike
@@ -88,25 +88,25 @@ module _ (k c : ℕ) where
 
   pub in_none : (c ≡ 6 → ⊥) → (c ≡ 7 → ⊥) → false ≡ in_column k c
   in_none f g =
-      sym (ap (λ (t : Bool). if t then holds_name (shape_of k).a else if eqb c 7 then holds_name (shape_of k).b else false) (ne_eqb c 6 f)
-      ∙ ap (λ (t : Bool). if t then holds_name (shape_of k).b else false) (ne_eqb c 7 g))
+      sym (ap (λ (t : Bool). when t then holds_name (shape_of k).a else when eqb c 7 then holds_name (shape_of k).b else false) (ne_eqb c 6 f)
+      ∙ ap (λ (t : Bool). when t then holds_name (shape_of k).b else false) (ne_eqb c 7 g))
 
 -- What is told of a number: a fixed one stays,
 module _ (w : List ℕ) (n : ℕ) where
   abbrev listed_told : ℕ
-  listed_told = if ltb (n - 25) (length w) then get_or w (n - 25) 0 else n
+  listed_told = when ltb (n - 25) (length w) then get_or w (n - 25) 0 else n
 
   pub told_low : n < 25 → number_told w n ≡ n
-  told_low h = ap (λ (t : Bool). if t then n else listed_told) (lt-ltb n 25 h)
+  told_low h = ap (λ (t : Bool). when t then n else listed_told) (lt-ltb n 25 h)
 
   -- a listed one has its number among those lent, and any other stays
   pub told_there : 25 ≤ n → n - 25 < length w → number_told w n ≡ get_or w (n - 25) 0
   told_there h l =
-      ap (λ (t : Bool). if t then n else listed_told) (le-ltb n 25 h) ∙ ap (λ (t : Bool). if t then get_or w (n - 25) 0 else n) (lt-ltb (n - 25) (length w) l)
+      ap (λ (t : Bool). when t then n else listed_told) (le-ltb n 25 h) ∙ ap (λ (t : Bool). when t then get_or w (n - 25) 0 else n) (lt-ltb (n - 25) (length w) l)
 
   pub told_none : 25 ≤ n → length w ≤ n - 25 → number_told w n ≡ n
   told_none h l =
-      ap (λ (t : Bool). if t then n else listed_told) (le-ltb n 25 h) ∙ ap (λ (t : Bool). if t then get_or w (n - 25) 0 else n) (le-ltb (n - 25) (length w) l)
+      ap (λ (t : Bool). when t then n else listed_told) (le-ltb n 25 h) ∙ ap (λ (t : Bool). when t then get_or w (n - 25) 0 else n) (le-ltb (n - 25) (length w) l)
 
 -- word i, by the kind of its row
 module _ (s w : List ℕ) (i : ℕ) {x k : ℕ} {t : Bool} (at : x ≡ get_or s i 0) (of : k ≡ get_or s (i - i % 8) 0) (by : t ≡ in_column k (i % 8)) where
@@ -116,22 +116,22 @@ module _ (s w : List ℕ) (i : ℕ) {x k : ℕ} {t : Bool} (at : x ≡ get_or s 
       ap (λ (j : ℕ). in_column (get_or s j 0) (i % 8)) q ∙ ap (λ (m : ℕ). in_column m (i % 8)) (sym of) ∙ sym by
 
   pub word_named : {r : ℕ} → t ≡ true → r ≡ number_told w x → r ≡ word_told s w i
-  word_named e f = f ∙ ap (number_told w) at ∙ sym (ap (λ (u : Bool). if u then number_told w (get_or s i 0) else get_or s i 0) (test ∙ e))
+  word_named e f = f ∙ ap (number_told w) at ∙ sym (ap (λ (u : Bool). when u then number_told w (get_or s i 0) else get_or s i 0) (test ∙ e))
 
   pub word_plain : t ≡ false → x ≡ word_told s w i
-  word_plain e = at ∙ sym (ap (λ (u : Bool). if u then number_told w (get_or s i 0) else get_or s i 0) (test ∙ e))
+  word_plain e = at ∙ sym (ap (λ (u : Bool). when u then number_told w (get_or s i 0) else get_or s i 0) (test ∙ e))
 
 -- a number that names something, and one past all
 module _ (k l : List Name) (n : ℕ) where
   pub renumbered_is : 1 ≤ n → n ≤ length k → renumbered k l n ≡ suc (place (same_name (get_or k (n - 1) [])) l)
   renumbered_is h g =
-      ap (λ (t : Bool). if t && leb n (length k) then suc (place (same_name (get_or k (n - 1) [])) l) else n) (le-leb 1 n h)
-      ∙ ap (λ (t : Bool). if t then suc (place (same_name (get_or k (n - 1) [])) l) else n) (le-leb n (length k) g)
+      ap (λ (t : Bool). when t && leb n (length k) then suc (place (same_name (get_or k (n - 1) [])) l) else n) (le-leb 1 n h)
+      ∙ ap (λ (t : Bool). when t then suc (place (same_name (get_or k (n - 1) [])) l) else n) (le-leb n (length k) g)
 
   pub renumbered_past : length k < n → renumbered k l n ≡ n
   renumbered_past h =
-      ap (λ (t : Bool). if t && leb n (length k) then suc (place (same_name (get_or k (n - 1) [])) l) else n) (le-leb 1 n (omega arith))
-      ∙ ap (λ (t : Bool). if t then suc (place (same_name (get_or k (n - 1) [])) l) else n) (lt-leb n (length k) h)
+      ap (λ (t : Bool). when t && leb n (length k) then suc (place (same_name (get_or k (n - 1) [])) l) else n) (le-leb 1 n (omega arith))
+      ∙ ap (λ (t : Bool). when t then suc (place (same_name (get_or k (n - 1) [])) l) else n) (lt-leb n (length k) h)
 
 -- a fixed name has the same number in all lists that begin with the fixed ones
 pub fixed_stays : (k l : List Name) (n : ℕ) → n < 25 → renumbered (fixed ++ k) (fixed ++ l) n ≡ n
@@ -174,7 +174,7 @@ module _ (S : Session) (ns w : List ℕ) (told : w ≡ session_numbers S ns) whe
       go (inr h) = by h (side (n - 25) (length w))
 
   -- a row word by word
-  row_word : (s : Sheet) (r c : ℕ) → c < 8 → get_or (entry_row S ns s r) c 0 ≡ (if in_column (kind s r) c then to_session S ns (word s r c) else word s r c)
+  row_word : (s : Sheet) (r c : ℕ) → c < 8 → get_or (entry_row S ns s r) c 0 ≡ (when in_column (kind s r) c then to_session S ns (word s r c) else word s r c)
   row_word s r zero h = refl
   row_word s r (suc zero) h = refl
   row_word s r (suc (suc zero)) h = refl
@@ -195,8 +195,8 @@ module _ (S : Session) (ns w : List ℕ) (told : w ≡ session_numbers S ns) whe
       ap (λ (j : ℕ). get_or (entry_sheet S ns s) j 0) (sym q)
       ∙ entry_word_lem S ns s 0 (rows s) r c (omega arith) (omega (arith, whole_rows s fit, h))
       ∙ ap (λ (j : ℕ). get_or (entry_row S ns s j) c 0) z ∙ row_word s r c (omega arith)
-      ∙ ap (λ (x : ℕ). if in_column (kind s r) c then to_session S ns x else x) v
-      ∙ ap (λ (x : ℕ). if in_column (kind s r) c then x else get_or s i 0) (sym (told_session (get_or s i 0)))
+      ∙ ap (λ (x : ℕ). when in_column (kind s r) c then to_session S ns x else x) v
+      ∙ ap (λ (x : ℕ). when in_column (kind s r) c then x else get_or s i 0) (sym (told_session (get_or s i 0)))
 
   -- words as many as the sheet has, each told so
   pub sheet_told : (s u : List ℕ) → rows_fit s ≡ true → length u ≡ length s → ((i : ℕ) → i < length s → get_or u i 0 ≡ word_told s w i) → u ≡ entry_sheet S ns s

@@ -1,6 +1,6 @@
 -- The names of an entry by the session's numbers, as they are counted and stored; l is the list of the session's names.
 use Rattle.std.specs.Prelude.{◌≡◌, Bool, false, not, List, [], ◌∷◌, ◌++◌, map, ℕ, suc, ◌+◌, ◌-◌, ◌/◌, ◌%◌, length, get_or, take, eqb, leb, ltb}
-use Rattle.definition.specs.Basics.{if◌then◌else◌, bit, any, place, from, concat_map}
+use Rattle.definition.specs.Basics.{when◌then◌else◌, bit, any, place, from, concat_map}
 use Rattle.definition.specs.Names.{Name, listed, same_name}
 use Rattle.definition.specs.Sheet.{Sheet, kind}
 use Rattle.definition.specs.Shape.{shape_of}
@@ -14,11 +14,11 @@ is_new l x = not (any (same_name x) l)
 
 -- the number of a name in a list, 0 if it is absent there
 abbrev pub number_in : List Name → Name → ℕ
-number_in l x = if any (same_name x) l then suc (place (same_name x) l) else 0
+number_in l x = when any (same_name x) l then suc (place (same_name x) l) else 0
 
 -- the number found of a name, or the next one if it is absent
 abbrev pub found_or : ℕ → ℕ → ℕ
-found_or next found = if eqb found 0 then next else found
+found_or next found = when eqb found 0 then next else found
 
 -- the numbers of names one after another; those that the list has not get the numbers from `next` on
 abbrev pub numbers_from : List Name → ℕ → List Name → List ℕ
@@ -38,19 +38,19 @@ pub record NamesTold (S : Session) (ns : List ℕ) (count new bytes : ℕ) (numb
 
 -- the session's number of the entry's name n, by the numbers of the listed names
 abbrev pub number_told : List ℕ → ℕ → ℕ
-number_told numbers n = if ltb n 25 then n else if ltb (n - 25) (length numbers) then get_or numbers (n - 25) 0 else n
+number_told numbers n = when ltb n 25 then n else when ltb (n - 25) (length numbers) then get_or numbers (n - 25) 0 else n
 
 -- does column c of a row of kind k hold names?
 abbrev pub in_column : ℕ → ℕ → Bool
-in_column k c = if eqb c 6 then holds_name (shape_of k).a else if eqb c 7 then holds_name (shape_of k).b else false
+in_column k c = when eqb c 6 then holds_name (shape_of k).a else when eqb c 7 then holds_name (shape_of k).b else false
 
 -- word i of a sheet; if it is a name, the session's number of it
 abbrev pub word_told : Sheet → List ℕ → ℕ → ℕ
-word_told s numbers i = if in_column (kind s (i / 8)) (i % 8) then number_told numbers (get_or s i 0) else get_or s i 0
+word_told s numbers i = when in_column (kind s (i / 8)) (i % 8) then number_told numbers (get_or s i 0) else get_or s i 0
 
 -- a name with its end if its number is `first` at least, else nothing
 abbrev pub ended_from : ℕ → ℕ → Name → List ℕ
-ended_from first number x = if leb first number then ended x else []
+ended_from first number x = when leb first number then ended x else []
 
 -- the same of names one after another, whose numbers stand from place k on
 abbrev pub new_bytes : ℕ → List ℕ → ℕ → List Name → List ℕ

@@ -4,7 +4,7 @@
 
 ghost use Rattle.std.specs.Prelude.{◌≡◌, true, List, ℕ, suc, ◌+◌, ◌^◌, ◌<◌, ◌≤◌, length, set, eqb};
 ghost use Rattle.std.proofs.lemmas.List.Edits.{sets};
-ghost use Rattle.definition.specs.Basics.{if◌then◌else◌, bit, concat_map, place, unlike};
+ghost use Rattle.definition.specs.Basics.{when◌then◌else◌, bit, concat_map, place, unlike};
 ghost use Rattle.definition.specs.Names.{same_name, names_fit};
 ghost use Rattle.definition.specs.Outcome.{rows_fit};
 ghost use Rattle.names.specs.Listed.{starts, numbered};
@@ -52,7 +52,7 @@ fn found_or(next: u32, found: u32) -> u32
 fn counted(tally: Numbered, found: u32, size: usize) -> Numbered
     requires { (tally.count ≤ 1024) × (tally.new ≤ 1024) × (tally.bytes ≤ 32768) × (size ≤ 32768) }
     ensures { (result.count ≡ tally.count + 1) × (result.new ≡ tally.new + bit (eqb found 0))
-        × (result.bytes ≡ tally.bytes + (if eqb found 0 then size + 1 else 0)) }
+        × (result.bytes ≡ tally.bytes + (when eqb found 0 then size + 1 else 0)) }
 {
     let count = tally.count + 1;
     if found == 0 {

@@ -6,7 +6,7 @@ use Prim.Native.Nat.{ℕ}
 use lib.Dec.{eqb, leb}
 use lib.ListN.{length}
 use borrow.Author.Tests.{eq-eqb, ne_eqb}
-use Rattle.definition.specs.Basics.{if◌then◌else◌}
+use Rattle.definition.specs.Basics.{when◌then◌else◌}
 use Rattle.definition.specs.Kind.{IMPORT}
 use Rattle.definition.specs.Names.{names_fit, name_count}
 use Rattle.definition.specs.Sheet.{Sheet, child, a, kids, kids_of}
@@ -42,18 +42,18 @@ module _ (g : ℕ) (s : Sheet) (ns : List ℕ) {n : ℕ} (e : n ≡ first_four s
 
 -- the outcome by it
 pub entered_by : (S : Session) (s : Sheet) (ns : List ℕ) (lent : ℕ)
-    → entered S s ns lent ≡ (if eqb (entry_no S.globals s ns) 0 then asked_in S s ns lent else refused (entry_no S.globals s ns))
+    → entered S s ns lent ≡ (when eqb (entry_no S.globals s ns) 0 then asked_in S s ns lent else refused (entry_no S.globals s ns))
 entered_by S s ns lent = go (rows_fit s) (names_fit ns) (sheet_fits (name_count ns) s) (depths_fit s) (entry_fits S s)
   where
     q : Outcome
     q = asked_in S s ns lent
 
     go : (x y z w t : Bool)
-        → (if not x then refused 1 else if not y then refused 2 else if not z then refused 3 else if not w then refused 4 else if not t then refused 23 else q)
-        ≡ (if eqb (if eqb (if not x then 1 else if not y then 2 else if not z then 3 else if not w then 4 else 0) 0 then (if t then 0 else 23)
-        else (if not x then 1 else if not y then 2 else if not z then 3 else if not w then 4 else 0)) 0 then q
-        else refused (if eqb (if not x then 1 else if not y then 2 else if not z then 3 else if not w then 4 else 0) 0 then (if t then 0 else 23)
-        else (if not x then 1 else if not y then 2 else if not z then 3 else if not w then 4 else 0)))
+        → (when not x then refused 1 else when not y then refused 2 else when not z then refused 3 else when not w then refused 4 else when not t then refused 23 else q)
+        ≡ (when eqb (when eqb (when not x then 1 else when not y then 2 else when not z then 3 else when not w then 4 else 0) 0 then (when t then 0 else 23)
+        else (when not x then 1 else when not y then 2 else when not z then 3 else when not w then 4 else 0)) 0 then q
+        else refused (when eqb (when not x then 1 else when not y then 2 else when not z then 3 else when not w then 4 else 0) 0 then (when t then 0 else 23)
+        else (when not x then 1 else when not y then 2 else when not z then 3 else when not w then 4 else 0)))
     go false y z w t = refl
     go true false z w t = refl
     go true true false w t = refl

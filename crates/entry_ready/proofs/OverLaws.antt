@@ -6,7 +6,7 @@ use Prim.Native.Nat.{ℕ, ◌*◌}
 use lib.Dec.{eqb, leb}
 use lib.ListN.{length}
 use borrow.Author.Tests.{eqb-true, eqb-false}
-use Rattle.definition.specs.Basics.{if◌then◌else◌}
+use Rattle.definition.specs.Basics.{when◌then◌else◌}
 use Rattle.definition.specs.Sheet.{Sheet}
 use Rattle.definition.specs.Scope.{history}
 use Rattle.definition.specs.Slots.{final_globals}
@@ -30,9 +30,9 @@ no_name O lent t = by (eqb r.number 0) refl (leb (8 * length out) lent)
     out = raised O.base (answers O t (history O t))
 
     by : (u : Bool) → eqb r.number 0 ≡ u → (v : Bool)
-        → (if u then (if v then record { number = 0; file = 0; line = 0; column = 0; name = 0; rows = out; globals = final_globals t (history O t) } else refused 22)
+        → (when u then (when v then record { number = 0; file = 0; line = 0; column = 0; name = 0; rows = out; globals = final_globals t (history O t) } else refused 22)
         else refused_at r.number t r.at r.name).number ≡ 0
-        → (if u then (if v then record { number = 0; file = 0; line = 0; column = 0; name = 0; rows = out; globals = final_globals t (history O t) } else refused 22)
+        → (when u then (when v then record { number = 0; file = 0; line = 0; column = 0; name = 0; rows = out; globals = final_globals t (history O t) } else refused 22)
         else refused_at r.number t r.at r.name).name ≡ 0
     by true e true h = refl
     by true e false h = refl
@@ -53,7 +53,7 @@ asked_in_lem S s ns lent = by (eqb x.number 0) refl (within (accepting S s ns le
     same e = let z = no_name (outside_of S) lent (entry_sheet S ns s) e in ap (λ (k : ℕ). renamed (λ m. k) x) (z ∙ sym (ap to z))
 
     by : (u : Bool) → eqb x.number 0 ≡ u → (v : Bool)
-        → (if not u then renamed to x else if v then x else refused 24) ≡ renamed to (if not u then x else if v then x else refused 24)
+        → (when not u then renamed to x else when v then x else refused 24) ≡ renamed to (when not u then x else when v then x else refused 24)
     by true e true = same (eqb-true x.number 0 e)
     by true e false = refl
     by false e v = refl

@@ -6,7 +6,7 @@ use Prim.Native.Nat.{ℕ, ◌≤◌}
 use native.Mathlib.Omega.{arith}
 use lib.Dec.{eqb, leb, T, eqb→eq}
 use lib.ListN.{length, get_or, length-append}
-use Rattle.definition.specs.Basics.{if◌then◌else◌, filter, any}
+use Rattle.definition.specs.Basics.{when◌then◌else◌, filter, any}
 use Rattle.definition.specs.Kind.{IMPORT}
 use Rattle.definition.specs.Names.{Name, fixed, listed, same_name, names_fit, name_count}
 use Rattle.definition.specs.Sheet.{Sheet, child, a, kids, kids_of}
@@ -41,8 +41,8 @@ pub passed : (g : ℕ) (s : Sheet) (ns : List ℕ) → entry_no g s ns ≡ 0 →
 passed g s ns e = go (rows_fit s) refl (names_fit ns) refl (sheet_fits (name_count ns) s) refl (depths_fit s) refl (fits_over g s) refl e
   where
     go : (x : Bool) → rows_fit s ≡ x → (y : Bool) → names_fit ns ≡ y → (z : Bool) → sheet_fits (name_count ns) s ≡ z → (w : Bool) → depths_fit s ≡ w → (t : Bool) → fits_over g s ≡ t
-        → ◌≡◌ {A = ℕ} (if eqb (if not x then 1 else if not y then 2 else if not z then 3 else if not w then 4 else 0) 0 then (if t then 0 else 23)
-        else (if not x then 1 else if not y then 2 else if not z then 3 else if not w then 4 else 0)) 0 → Passed g s ns
+        → ◌≡◌ {A = ℕ} (when eqb (when not x then 1 else when not y then 2 else when not z then 3 else when not w then 4 else 0) 0 then (when t then 0 else 23)
+        else (when not x then 1 else when not y then 2 else when not z then 3 else when not w then 4 else 0)) 0 → Passed g s ns
     go true a true b true c true d true f h = record { rows_fit_lem = a; names_fit_lem = b; sheet_fits_lem = c; depths_fit_lem = d; entry_fits_lem = f }
     go true a true b true c true d false f h = absurd (omega arith)
     go true a true b true c false d t f h = absurd (omega arith)
@@ -65,7 +65,7 @@ pub shorter : (p : Name → Bool) (l : List Name) → length (filter p l) ≤ le
 shorter p [] = omega arith
 shorter p (x ∷ l) = go (p x) (shorter p l)
   where
-    go : (t : Bool) → length (filter p l) ≤ length l → length (if t then x ∷ filter p l else filter p l) ≤ length (x ∷ l)
+    go : (t : Bool) → length (filter p l) ≤ length l → length (when t then x ∷ filter p l else filter p l) ≤ length (x ∷ l)
     go true h = omega arith
     go false h = omega arith
 

@@ -1,6 +1,6 @@
 -- What comes of an entry's sheet over a session: questions 5 to 22, then 24.
 use Rattle.std.specs.Prelude.{◌≡◌, not, ◌&&◌, List, [], ◌∷◌, ◌++◌, ℕ, set, eqb, leb}
-use Rattle.definition.specs.Basics.{if◌then◌else◌}
+use Rattle.definition.specs.Basics.{when◌then◌else◌}
 use Rattle.definition.specs.Names.{Name}
 use Rattle.definition.specs.Sheet.{Sheet}
 use Rattle.definition.specs.Outcome.{Outcome, refused, asked, buffer}
@@ -20,15 +20,15 @@ module _ (S : Session) (t : Sheet) (ms : List Name) (lent : ℕ) where
   abbrev pub asked_over : Outcome
   asked_over =
       let x : Outcome = asked (outside_of S) lent t in
-      if not (eqb x.number 0) then x
-      else if within (record { globals = x.globals; entries = S.entries ++ entry_of ∷ [] }) then x
+      when not (eqb x.number 0) then x
+      else when within (record { globals = x.globals; entries = S.entries ++ entry_of ∷ [] }) then x
       else refused 24
 
   -- the session's words after it
   abbrev pub words_after : List ℕ → List ℕ
   words_after w =
-      if eqb asked_over.number 0 then words_with whole w asked_over.globals entry_of
-      else if leb 5 asked_over.number && leb asked_over.number 21 then set w 0 (next_global (outside_of S) t)
+      when eqb asked_over.number 0 then words_with whole w asked_over.globals entry_of
+      else when leb 5 asked_over.number && leb asked_over.number 21 then set w 0 (next_global (outside_of S) t)
       else w
 
 -- The answer x and the words w of the lent buffer are those of the outcome.

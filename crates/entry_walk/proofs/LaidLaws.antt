@@ -8,7 +8,7 @@ use lib.ListN.{length, drop, length-append, length-map}
 use lib.Seq.{drop_at}
 use lib.Dec.{eqb, leb}
 use borrow.Author.Tests.{ne_eqb, eqb-true}
-use Rattle.definition.specs.Basics.{if◌then◌else◌, bit, head}
+use Rattle.definition.specs.Basics.{when◌then◌else◌, bit, head}
 use Rattle.definition.specs.Sheet.{Sheet, kind, child, rows, b, kids_of}
 use Rattle.definition.specs.Meaning.{Meaning, Named, named, nothing, function, class, global, toplevel, variable}
 use Rattle.definition.specs.Outside.{Outside, based}
@@ -64,9 +64,9 @@ module _ (O : Outside) (s : Sheet) (n : ℕ) where
 
   -- an open entry's words tell it, by the tests on its tag
   left_cases : (b₃ b₄ b₅ b₆ b₇ : Bool) (x y : ℕ) → (b₆ ≡ true → b₇ ≡ false)
-      → Known s (history O s) y (if b₃ then function x else if b₄ then class x else if b₅ then global x y else if b₆ then variable x y else if b₇ then toplevel x else nothing)
-      → (if b₃ then function (raised_function n x) else if b₄ then class (raised_class n x) else if b₅ then global x y else if b₇ then global y (bit (eqb (b s x) 1)) else nothing)
-      ≡ left (based O n) s (if b₃ then function x else if b₄ then class x else if b₅ then global x y else if b₆ then variable x y else if b₇ then toplevel x else nothing)
+      → Known s (history O s) y (when b₃ then function x else when b₄ then class x else when b₅ then global x y else when b₆ then variable x y else when b₇ then toplevel x else nothing)
+      → (when b₃ then function (raised_function n x) else when b₄ then class (raised_class n x) else when b₅ then global x y else when b₇ then global y (bit (eqb (b s x) 1)) else nothing)
+      ≡ left (based O n) s (when b₃ then function x else when b₄ then class x else when b₅ then global x y else when b₆ then variable x y else when b₇ then toplevel x else nothing)
   left_cases true b₄ b₅ b₆ b₇ x y h k = refl
   left_cases false true b₅ b₆ b₇ x y h k = refl
   left_cases false false true b₆ b₇ x y h k = refl
@@ -90,8 +90,8 @@ module _ (O : Outside) (s : Sheet) (n : ℕ) where
     where
       one : (t : Bool) → leb (entry_word v k 0) 1 ≡ t → (u : Bool)
           → map kept (declared_on (entries v k))
-          ++ (if t then [] else named (entry_word v k 1) (left_by s n (entry_word v k 0) (entry_word v k 2) (entry_word v k 3)) ∷ [])
-          ≡ map kept (declared_on ((if t then (if u then looping else scope (entry_word v k 1)) else bound (entry_word v k 1)
+          ++ (when t then [] else named (entry_word v k 1) (left_by s n (entry_word v k 0) (entry_word v k 2) (entry_word v k 3)) ∷ [])
+          ≡ map kept (declared_on ((when t then (when u then looping else scope (entry_word v k 1)) else bound (entry_word v k 1)
           (meaning_of (entry_word v k 0) (entry_word v k 2) (entry_word v k 3))) ∷ entries v k))
       one true e true = append-nil (map kept (declared_on (entries v k)))
       one true e false = append-nil (map kept (declared_on (entries v k)))
@@ -134,7 +134,7 @@ leave_state : (O : Outside) (s : Sheet) (x : State) → ((step_state O s leave x
 unfolding step_state step_scopes check_event
 leave_state O s x = by (not (eqb x.refusal.number 0))
   where
-    by : (t : Bool) → let y : State = if t then x else record { scopes = step_scopes s leave x.scopes; store = step_store O s leave x.scopes x.store; refusal = x.refusal } in
+    by : (t : Bool) → let y : State = when t then x else record { scopes = step_scopes s leave x.scopes; store = step_store O s leave x.scopes x.store; refusal = x.refusal } in
         (y.refusal ≡ x.refusal) × (y.scopes.next_global ≡ x.scopes.next_global) × (y.store ≡ x.store)
     by true = (refl, refl, refl)
     by false = (refl, refl, leave_stores O s x.scopes x.store)

@@ -1,6 +1,6 @@
 -- What the walk of an entry declared, read off the open entries when its body ends, before its scopes close.
 use Rattle.std.specs.Prelude.{◌≡◌, List, [], ◌∷◌, ◌++◌, ℕ, zero, suc, ◌-◌, length, eqb, leb}
-use Rattle.definition.specs.Basics.{if◌then◌else◌, bit}
+use Rattle.definition.specs.Basics.{when◌then◌else◌, bit}
 use Rattle.definition.specs.Kind.{IMPORT}
 use Rattle.definition.specs.Sheet.{Sheet, child, b, kids, kids_of}
 use Rattle.definition.specs.Meaning.{Meaning, Named, named, nothing, function, class, global}
@@ -18,16 +18,16 @@ pub record OneUnit (s : Sheet) : Type 0 where
 -- what an open entry of tag t with values x and y means to later entries, whose functions and classes are raised by n
 abbrev pub left_by : Sheet → ℕ → ℕ → ℕ → ℕ → Meaning
 left_by s n t x y =
-    if eqb t 3 then function (raised_function n x)
-    else if eqb t 4 then class (raised_class n x)
-    else if eqb t 5 then global x y
-    else if eqb t 7 then global y (bit (eqb (b s x) 1))
+    when eqb t 3 then function (raised_function n x)
+    else when eqb t 4 then class (raised_class n x)
+    else when eqb t 5 then global x y
+    else when eqb t 7 then global y (bit (eqb (b s x) 1))
     else nothing
 
 -- what open entry i leaves: nothing, if it is a mark
 abbrev pub left_in : Sheet → ℕ → List ℕ → ℕ → List Named
 left_in s n v i =
-    if leb (entry_word v i 0) 1 then [] else named (entry_word v i 1) (left_by s n (entry_word v i 0) (entry_word v i 2) (entry_word v i 3)) ∷ []
+    when leb (entry_word v i 0) 1 then [] else named (entry_word v i 1) (left_by s n (entry_word v i 0) (entry_word v i 2) (entry_word v i 3)) ∷ []
 
 -- what the m open entries from entry k on leave
 unfoldable pub left_from : Sheet → ℕ → List ℕ → ℕ → ℕ → List Named

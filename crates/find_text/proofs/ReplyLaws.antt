@@ -5,7 +5,7 @@ use mathlib.Core.List.{List, [], ◌∷◌}
 use Prim.Native.Nat.{ℕ}
 use native.Mathlib.Omega.{arith}
 use lib.ListN.{length, take, drop}
-use Rattle.definition.specs.Basics.{if◌then◌else◌, concat_map}
+use Rattle.definition.specs.Basics.{when◌then◌else◌, concat_map}
 use Rattle.definition.specs.Names.{names_fit}
 use Rattle.definition.specs.Text.{text_of}
 use Rattle.definition.specs.Outcome.{report}
@@ -50,7 +50,7 @@ module _ (names name : List ℕ) (x : Found) (w : List ℕ) (found : (x.number �
 
 -- in a list that question 2 refuses nothing is found
 refused_none : (name ns : List ℕ) → names_fit ns ≡ false → find ns name ≡ (0, 0)
-refused_none name ns e = ap (λ (t : Bool). if t then searched (numbered ns) (index_of (numbered ns)) name else (0, 0)) e
+refused_none name ns e = ap (λ (t : Bool). when t then searched (numbered ns) (index_of (numbered ns)) name else (0, 0)) e
 
 -- The reply to the bytes read of a list is the reply to the list.
 pub replied_names : {names name before : List ℕ} {n : ℕ} {after : List ℕ} → Begins (reply 0 (length before) (printed_find names name)) before n after

@@ -8,7 +8,7 @@ use lib.ListN.{length, take, drop, length-append}
 use lib.Dec.{ltb}
 use lib.Seq.{sets, sets-eq, length-sets, take_at, length-take-le}
 use borrow.Author.Tests.{lt-ltb, ltb-true, ltb-false}
-use Rattle.definition.specs.Basics.{if◌then◌else◌, concat_map}
+use Rattle.definition.specs.Basics.{when◌then◌else◌, concat_map}
 use Rattle.definition.proofs.Format.Accepted.{Eights}
 use Rattle.sink.specs.Sink.{Sink, sink, emit, emit_all}
 
@@ -66,7 +66,7 @@ rows_over (r ∷ rs) k w e l =
   where
     go : (t : Bool) → ltb k (length w / 8) ≡ t → (k < length w / 8 → Over (sets w (8 * k) r) (emit_all rs (sink (suc k) (sets w (8 * k) r))))
         → (length w / 8 ≤ k → Over w (emit_all rs (sink (suc (length w / 8)) w)))
-        → Over w (emit_all rs (if t then sink (suc k) (sets w (8 * k) r) else sink (suc (length w / 8)) w))
+        → Over w (emit_all rs (when t then sink (suc k) (sets w (8 * k) r) else sink (suc (length w / 8)) w))
     go true h f g =
         let n : length (sets w (8 * k) r) ≡ length w = length-sets w (8 * k) r in
         let y = f (ltb-true k (length w / 8) h) in

@@ -6,7 +6,7 @@ use Prim.Native.Nat.{ℕ, zero, suc, ◌+◌, ◌*◌, ◌<◌, ◌≤◌}
 use native.Mathlib.Omega.{arith}
 use lib.Dec.{eqb, leb, eqb→eq, leb→le}
 use lib.ListN.{length, get_or, replicate, length-replicate}
-use Rattle.definition.specs.Basics.{if◌then◌else◌, all, from}
+use Rattle.definition.specs.Basics.{when◌then◌else◌, all, from}
 use Rattle.definition.specs.Sheet.{Sheet, rows}
 use Rattle.definition.specs.Format.{sheet_fits, depths_fit}
 use Rattle.definition.specs.Names.{names_fit, name_count}
@@ -38,7 +38,7 @@ module _ (last : ℕ) (s : Sheet) (t m : List ℕ) (some : 0 < rows s) (few : ro
 
   -- the number that the answers to questions 3 and 4 give
   abbrev pub number : Bool → Bool → ℕ
-  number x y = if not x then 3 else if not y then 4 else 0
+  number x y = when not x then 3 else when not y then 4 else 0
 
   pub links_no : links_ok s ≡ false → 3 ≡ format_question last s
   links_no e = ap (λ (x : Bool). number x (depths_fit s)) (ap (λ (x : Bool). x && rows_all s last t m) (sym e) ∙ fits)
@@ -73,13 +73,13 @@ sized s e =
     (sym (eqb→eq (8 * rows s) (length s) q2.0), leb→le 1 (rows s) q2.1, leb→le (rows s) 2048 q1.1)
 
 -- the outcome by the answer of the first four questions
-pub outcome_of_lem : (s : Sheet) (ns : List ℕ) (lent : ℕ) → outcome s ns lent ≡ (if eqb (first_four s ns) 0 then asked core lent s else refused (first_four s ns))
+pub outcome_of_lem : (s : Sheet) (ns : List ℕ) (lent : ℕ) → outcome s ns lent ≡ (when eqb (first_four s ns) 0 then asked core lent s else refused (first_four s ns))
 outcome_of_lem s ns lent = go (rows_fit s) (names_fit ns) (sheet_fits (name_count ns) s) (depths_fit s)
   where
     go : (x y z w : Bool)
-        → (if not x then refused 1 else if not y then refused 2 else if not z then refused 3 else if not w then refused 4 else asked core lent s)
-        ≡ (if eqb (if not x then 1 else if not y then 2 else if not z then 3 else if not w then 4 else 0) 0 then asked core lent s
-        else refused (if not x then 1 else if not y then 2 else if not z then 3 else if not w then 4 else 0))
+        → (when not x then refused 1 else when not y then refused 2 else when not z then refused 3 else when not w then refused 4 else asked core lent s)
+        ≡ (when eqb (when not x then 1 else when not y then 2 else when not z then 3 else when not w then 4 else 0) 0 then asked core lent s
+        else refused (when not x then 1 else when not y then 2 else when not z then 3 else when not w then 4 else 0))
     go false y z w = refl
     go true false z w = refl
     go true true false w = refl

@@ -6,7 +6,7 @@ use mathlib.Core.List.{List, [], ◌∷◌, map}
 use Prim.Native.Nat.{ℕ, zero, suc, ◌<◌, ◌≤◌}
 use native.Mathlib.Omega.{arith}
 use lib.Dec.{eqb, leb, ltb, T, T_not, not_T, eqb→eq, ltb→lt, lt→ltb, leb→le, le→leb}
-use Rattle.definition.specs.Basics.{if◌then◌else◌, ◌⇒◌, bit}
+use Rattle.definition.specs.Basics.{when◌then◌else◌, ◌⇒◌, bit}
 use Rattle.definition.specs.Sheet.{Sheet, kind, next, child, file, a, b, rows, chain, kids, is, holder}
 use Rattle.definition.specs.Shape.{Column, holds, one, only, fits, rest, may_end, never, shape_of}
 use Rattle.definition.specs.Format.{tables, parent, file_fits, constant_fits, columns_fit, children_fit, unit_marked, unit_body, method_named}
@@ -103,7 +103,7 @@ module _ (s : Sheet) (ok : LinkFacts s) (top : kind s 0 ≡ 0) (r : ℕ) (l : r 
       c : ℕ
       c = child s r
 
-      after : (t : Bool) → T (fits (if t then [] else never) (map (kind s) (chain (rows s) s (next s c)))) → T t × (map (kind s) (chain (rows s) s (next s c)) ≡ [])
+      after : (t : Bool) → T (fits (when t then [] else never) (map (kind s) (chain (rows s) s (next s c)))) → T t × (map (kind s) (chain (rows s) s (next s c)) ≡ [])
       after true g = (tt, none_fits (map (kind s) (chain (rows s) s (next s c))) g)
       after false g = absurd (never_fits (map (kind s) (chain (rows s) s (next s c))) g)
 
@@ -136,7 +136,7 @@ module _ (s : Sheet) (ok : LinkFacts s) (top : kind s 0 ≡ 0) (r : ℕ) (l : r 
       q : T (eqb (kind s c) 25) × T (eqb (next s c) 0)
       q = T_and (eqb (kind s c) 25) (eqb (next s c) 0) h
 
-      back : (t : Bool) (ks : List ℕ) → T t → ks ≡ [] → T (fits (if t || false then [] else never) ks)
+      back : (t : Bool) (ks : List ℕ) → T t → ks ≡ [] → T (fits (when t || false then [] else never) ks)
       back true ks x e = subst (λ (k : List ℕ). T (fits [] k)) (sym e) tt
       back false ks x e = absurd x
 
@@ -159,7 +159,7 @@ module _ (s : Sheet) (ok : LinkFacts s) (top : kind s 0 ≡ 0) (r : ℕ) (l : r 
 
     -- by the tests alone: t6 a function, t2 of a unit, t4 of a class, x its mark, c its block, n its name
     by_tests : (t6 t2 t4 : Bool) (x : ℕ) (c n : Bool) → (T t2 → T t4 → ⊥)
-        → T (if not t6 then true else if t2 then eqb x 1 && c else (eqb x 0 && (not t4 || n)))
+        → T (when not t6 then true else when t2 then eqb x 1 && c else (eqb x 0 && (not t4 || n)))
         → T (t6 ⇒ eqb x (bit (t6 && t2))) × T (t6 && t2 ⇒ c) × T (t6 && t4 ⇒ n)
     by_tests false t2 t4 x c n f h = (tt, tt, tt)
     by_tests true true true x c n f h = absurd (f tt tt)
@@ -169,7 +169,7 @@ module _ (s : Sheet) (ok : LinkFacts s) (top : kind s 0 ≡ 0) (r : ℕ) (l : r 
 
     of_tests : (t6 t2 t4 : Bool) (x : ℕ) (c n : Bool)
         → T (t6 ⇒ eqb x (bit (t6 && t2))) → T (t6 && t2 ⇒ c) → T (t6 && t4 ⇒ n)
-        → T (if not t6 then true else if t2 then eqb x 1 && c else (eqb x 0 && (not t4 || n)))
+        → T (when not t6 then true else when t2 then eqb x 1 && c else (eqb x 0 && (not t4 || n)))
     of_tests false t2 t4 x c n h g k = tt
     of_tests true true t4 x c n h g k = and_both (eqb x 1) c h g
     of_tests true false true x c n h g k = and_both (eqb x 0) (false || n) h k

@@ -8,7 +8,7 @@ use Prim.Native.Nat.{ℕ, zero, suc, ◌+◌, ◌*◌, ◌<◌, ◌≤◌, min}
 use native.Mathlib.Omega.{arith}
 use lib.Dec.{eqb}
 use lib.ListN.{length}
-use Rattle.definition.specs.Basics.{if◌then◌else◌}
+use Rattle.definition.specs.Basics.{when◌then◌else◌}
 use Rattle.definition.specs.Sheet.{Sheet, word, kind, next, child, rows, chain, is, holder}
 use Rattle.definition.specs.Shape.{Part, fits}
 use Rattle.definition.specs.Format.{tables, at, parent_table, unit_entry, function_entry, class_entry, unit, function, class, children_fit}
@@ -63,7 +63,7 @@ pub record Filled (s : Sheet) (r : ℕ) (t : List ℕ) : Type 0 where
 
 module _ (s : Sheet) (ok : LinkFacts s) (some : 0 < rows s) (few : rows s ≤ 2048) where
   -- the entries of row 0
-  either : (b : Bool) (x y : ℕ) → x ≡ 0 → y ≡ 0 → (if b then x else y) ≡ 0
+  either : (b : Bool) (x y : ℕ) → x ≡ 0 → y ≡ 0 → (when b then x else y) ≡ 0
   either true x y p q = p
   either false x y p q = q
 
@@ -205,8 +205,8 @@ module _ (s : Sheet) (ok : LinkFacts s) (some : 0 < rows s) (few : rows s ≤ 20
     reached_stays k n g e = record { of_unit_lem = stays_row s r t k 2 (omega arith) n g ∙ e.of_unit_lem; of_class_lem = stays_row s r t k 4 (omega arith) n g ∙ e.of_class_lem }
 
     -- the row's own unit and class
-    if_unit : (b : Bool) (x y z : ℕ) → y ≡ z → (if b then x else y) ≡ (if b then x else z)
-    if_unit b x y z e = ap (λ (v : ℕ). if b then x else v) e
+    if_unit : (b : Bool) (x y z : ℕ) → y ≡ z → (when b then x else y) ≡ (when b then x else z)
+    if_unit b x y z e = ap (λ (v : ℕ). when b then x else v) e
 
     pub unit_here_lem : unit_here r (kind s r) (entry_in t r) ≡ unit (tables s) r
     unit_here_lem = go (ℕ-trichotomy 0 r)
@@ -226,7 +226,7 @@ module _ (s : Sheet) (ok : LinkFacts s) (some : 0 < rows s) (few : rows s ≤ 20
 
         go : (0 < r) ⊎ ((0 ≡ r) ⊎ (r < 0)) → class_here s (kind s r) (entry_in t r) ≡ class (tables s) r
         go (inl z) =
-            ap (λ (p : ℕ). if is s 6 r && is s 4 p then p else word t r 4) here_entered.parent
+            ap (λ (p : ℕ). when is s 6 r && is s 4 p then p else word t r 4) here_entered.parent
             ∙ if_unit (is s 6 r && is s 4 (holder s r)) (holder s r) (word t r 4) (class (tables s) (holder s r)) here_waiting.of_class_lem ∙ sym (class_step s ok r z l)
         go (inr (inl e)) =
             either (is s 6 r && is s 4 (word t r 0)) (word t r 0) (word t r 4) (here_entered.parent ∙ top_holder e) (here_waiting.of_class_lem ∙ ap (class (tables s)) (top_holder e) ∙ class_top)
@@ -258,8 +258,8 @@ module _ (s : Sheet) (ok : LinkFacts s) (some : 0 < rows s) (few : rows s ≤ 20
                 child_depth s r t z c_other c_room ∙ ap (λ (d : ℕ). min (d + 1) 4294967295) here_entered.depth
                 ∙ omega (arith, depth_low (suc r) r (omega arith) l, depth_step s ok (child s r) (omega (arith, c_up.0)) c_up.1, ap (at (tables s).depths) c_held);
             fun =
-                child_fun s r t z c_other c_room ∙ ap (λ (v : ℕ). if is s 6 r then r else v) here_entered.fun
-                ∙ ap (λ (p : ℕ). if is s 6 p then p else function (tables s) p) (sym c_held) ∙ sym (function_step s ok (child s r) (omega (arith, c_up.0)) c_up.1);
+                child_fun s r t z c_other c_room ∙ ap (λ (v : ℕ). when is s 6 r then r else v) here_entered.fun
+                ∙ ap (λ (p : ℕ). when is s 6 p then p else function (tables s) p) (sym c_held) ∙ sym (function_step s ok (child s r) (omega (arith, c_up.0)) c_up.1);
           }
 
       child_listed : Listed s u (child s r)
@@ -321,7 +321,7 @@ module _ (s : Sheet) (ok : LinkFacts s) (some : 0 < rows s) (few : rows s ≤ 20
                 ∙ ap (λ (p : ℕ). suc (at (tables s).depths p)) (sym n_held) ∙ sym (depth_step s ok (next s r) (omega (arith, n_up.0)) n_up.1);
             fun =
                 next_fun s r t z n_other n_apart n_room ∙ here_entered.fun ∙ function_step s ok r not_top l
-                ∙ ap (λ (p : ℕ). if is s 6 p then p else function (tables s) p) (sym n_held) ∙ sym (function_step s ok (next s r) (omega (arith, n_up.0)) n_up.1);
+                ∙ ap (λ (p : ℕ). when is s 6 p then p else function (tables s) p) (sym n_held) ∙ sym (function_step s ok (next s r) (omega (arith, n_up.0)) n_up.1);
           }
 
       next_listed : Listed s u (next s r)

@@ -8,18 +8,18 @@ use native.Mathlib.Omega.{arith}
 use lib.Dec.{eqb}
 use lib.ListN.{length, set, length-set}
 use borrow.Author.Tests.{eq-eqb, ne_eqb}
-use Rattle.definition.specs.Basics.{if◌then◌else◌}
+use Rattle.definition.specs.Basics.{when◌then◌else◌}
 use Rattle.definition.specs.Sheet.{Sheet, word, kind, next, child, a}
 use Rattle.row_fits.specs.declared.row.Entry.{Entry}
 use Rattle.row_fits.specs.Pass.{row_in, entry_in, put_entry, note_next, note_child, note_own, note_declared, note_all, note_row, next_entry, child_entry, unit_here, class_here}
 use Rattle.first_four.proofs.EntryLaws.{word_same, word_row, word_column, put_length, put_row, put_seven, put_parent, put_depth, put_unit, put_fun, put_class, put_state}
 
 -- a choice by a test whose value is known
-pub chosen {ℓ} : {A : Type ℓ} (t : Bool) (x y : A) → t ≡ true → (if t then x else y) ≡ x
-chosen t x y e = ap (λ (b : Bool). if b then x else y) e
+pub chosen {ℓ} : {A : Type ℓ} (t : Bool) (x y : A) → t ≡ true → (when t then x else y) ≡ x
+chosen t x y e = ap (λ (b : Bool). when b then x else y) e
 
-pub passed {ℓ} : {A : Type ℓ} (t : Bool) (x y : A) → t ≡ false → (if t then x else y) ≡ y
-passed t x y e = ap (λ (b : Bool). if b then x else y) e
+pub passed {ℓ} : {A : Type ℓ} (t : Bool) (x y : A) → t ≡ false → (when t then x else y) ≡ y
+passed t x y e = ap (λ (b : Bool). when b then x else y) e
 
 module _ (s : Sheet) (r : ℕ) (t : List ℕ) where
   abbrev here : Entry
@@ -73,7 +73,7 @@ module _ (s : Sheet) (r : ℕ) (t : List ℕ) where
   unfolding note_own
   length_u3 = length-set (set u2 (8 * r + 2) (unit_here r (kind s r) here)) (8 * r + 4) (class_here s (kind s r) here) ∙ length-set u2 (8 * r + 2) (unit_here r (kind s r) here) ∙ length_u2
 
-  if_length : (b : Bool) (x y : List ℕ) (n : ℕ) → length x ≡ n → length y ≡ n → length (if b then x else y) ≡ n
+  if_length : (b : Bool) (x y : List ℕ) (n : ℕ) → length x ≡ n → length y ≡ n → length (when b then x else y) ≡ n
   if_length true x y n p q = p
   if_length false x y n p q = q
 
@@ -82,7 +82,7 @@ module _ (s : Sheet) (r : ℕ) (t : List ℕ) where
   length_noted = if_length (eqb (kind s r) 30) (set u3 (8 * a s r + 7) r) u3 (length t) (length-set u3 (8 * a s r + 7) r ∙ length_u3) length_u3
 
   -- the last step writes a word 7 alone
-  if_word : (b : Bool) (x y : List ℕ) (k c v : ℕ) → word x k c ≡ v → word y k c ≡ v → word (if b then x else y) k c ≡ v
+  if_word : (b : Bool) (x y : List ℕ) (k c v : ℕ) → word x k c ≡ v → word y k c ≡ v → word (when b then x else y) k c ≡ v
   if_word true x y k c v p q = p
   if_word false x y k c v p q = q
 
@@ -144,7 +144,7 @@ module _ (s : Sheet) (r : ℕ) (t : List ℕ) where
       eqb_eq : eqb (kind s r) 30 ≡ true → kind s r ≡ 30
       eqb_eq e = borrow.Author.Tests.eqb-true (kind s r) 30 e
 
-      go : (b : Bool) → (b ≡ true → kind s r ≡ 30) → word (if b then set u3 (8 * a s r + 7) r else u3) k 7 ≡ word t k 7
+      go : (b : Bool) → (b ≡ true → kind s r ≡ 30) → word (when b then set u3 (8 * a s r + 7) r else u3) k 7 ≡ word t k 7
       go true h = word_row u3 (a s r) 7 r k 7 (f (h refl)) (omega arith) (omega arith) ∙ seven_u3 k
       go false h = seven_u3 k
 

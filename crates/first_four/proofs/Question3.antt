@@ -7,7 +7,7 @@ use Prim.Native.Nat.{ℕ, zero, suc, ◌+◌, ◌*◌, ◌<◌, ◌≤◌}
 use native.Mathlib.Omega.{arith}
 use lib.Dec.{eqb, leb, ltb, T, T_not, not_T, eqb→eq, ltb→lt, leb→le}
 use lib.ListN.{length, get_or}
-use Rattle.definition.specs.Basics.{if◌then◌else◌, ◌⇒◌, all, count, from}
+use Rattle.definition.specs.Basics.{when◌then◌else◌, ◌⇒◌, all, count, from}
 use Rattle.definition.specs.Sheet.{Sheet, word, kind, next, child, a, b, rows, kids, is, holder}
 use Rattle.definition.specs.Shape.{holds, shape_of}
 use Rattle.definition.specs.Format.{tables, at, parent, unit, function, class, depth_entry, parent_table, header_first}
@@ -101,7 +101,7 @@ module _ (s : Sheet) (t : List ℕ) (ok : LinkFacts s) (top : kind s 0 ≡ 0) (s
   function_low zero k h l = absurd (omega arith)
   function_low (suc n) k h l = go (ℕ-trichotomy 0 k) (function_low n)
     where
-      pick : (x : Bool) (p q : ℕ) → p < rows s → q < rows s → (if x then p else q) < rows s
+      pick : (x : Bool) (p q : ℕ) → p < rows s → q < rows s → (when x then p else q) < rows s
       pick true p q u v = u
       pick false p q u v = v
 
@@ -121,8 +121,8 @@ module _ (s : Sheet) (t : List ℕ) (ok : LinkFacts s) (top : kind s 0 ≡ 0) (s
       Is c = (c ≡ 0) ⊎ ((c < rows s) × T (is s 4 c))
 
       pick : (x y : Bool) (p q : ℕ) → p < rows s → (T y → T (is s 4 p)) → (q ≡ 0) ⊎ ((q < rows s) × T (is s 4 q))
-          → ((if x && y then p else q) ≡ 0)
-          ⊎ (((if x && y then p else q) < rows s) × T (is s 4 (if x && y then p else q)))
+          → ((when x && y then p else q) ≡ 0)
+          ⊎ (((when x && y then p else q) < rows s) × T (is s 4 (when x && y then p else q)))
       pick true true p q u f v = inr (u, f tt)
       pick true false p q u f v = v
       pick false y p q u f v = v

@@ -6,7 +6,7 @@ use mathlib.Core.Bool.{Bool, true, false, not, ◌&&◌}
 use Prim.Native.Nat.{ℕ, ◌+◌, ◌<◌, ◌≤◌}
 use native.Mathlib.Omega.{arith}
 use lib.Dec.{eqb, ltb, T, eqb→eq, ltb→lt}
-use Rattle.definition.specs.Basics.{if◌then◌else◌, all, from, head, ◌∈?◌}
+use Rattle.definition.specs.Basics.{when◌then◌else◌, all, from, head, ◌∈?◌}
 use Rattle.definition.specs.Shape.{Column, unread, up_to, name, row, global, mode, or_zero, Part, one, perhaps, many, never, rest, may_end, shape_of}
 use Rattle.definition.proofs.Lists.Tests.{T_and, ℕ-trichotomy}
 use Rattle.definition.proofs.Lists.Counts.{all_below, in_cases}
@@ -81,12 +81,12 @@ decode : List ℕ → Column
 decode [] = unread
 decode (t ∷ xs) =
     let inner : Column = decode xs in
-    if eqb t 0 then unread
-    else if eqb t 1 then up_to (head xs)
-    else if eqb t 2 then name
-    else if eqb t 3 then row (head xs)
-    else if eqb t 4 then global
-    else if eqb t 5 then mode
+    when eqb t 0 then unread
+    else when eqb t 1 then up_to (head xs)
+    else when eqb t 2 then name
+    else when eqb t 3 then row (head xs)
+    else when eqb t 4 then global
+    else when eqb t 5 then mode
     else or_zero inner
 
 back : (c : Column) → decode (encode c) ≡ c
@@ -165,7 +165,7 @@ not_in k (x ∷ ks) h l m = go (not_in k ks (T_and (ltb x 60) (all (λ j. ltb j 
     go f (inl e) = omega (arith, ltb→lt x 60 (T_and (ltb x 60) (all (λ j. ltb j 60) ks) h).0)
     go f (inr y) = f y
 
-other : (t : Bool) (x y : List Part) → (T t → ⊥) → (if t then x else y) ≡ y
+other : (t : Bool) (x y : List Part) → (T t → ⊥) → (when t then x else y) ≡ y
 other true x y f = absurd (f tt)
 other false x y f = refl
 

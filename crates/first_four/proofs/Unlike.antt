@@ -11,7 +11,7 @@ use native.Mathlib.Omega.{arith}
 use lib.Dec.{eqb, T, T_not, not_T, eqb→eq}
 use lib.ListN.{length, get_or, set, length-set}
 use lib.Seq.{get_or-set_same, get_or-set_other}
-use Rattle.definition.specs.Basics.{if◌then◌else◌, ◌⇒◌, any, unlike, filter}
+use Rattle.definition.specs.Basics.{when◌then◌else◌, ◌⇒◌, any, unlike, filter}
 use Rattle.definition.specs.Sheet.{Sheet, kind, a, kids, is}
 use Rattle.definition.specs.Format.{names_apart, unit_apart, class_apart}
 use Rattle.definition.proofs.Lists.Tests.{T_and, and_both, decide, eqb_of, T-imp, if_true, if_false, kind_apart, ℕ-trichotomy}
@@ -108,7 +108,7 @@ module _ (s : Sheet) (k v : ℕ) where
           (subst (λ (x : List ℕ). T (unmarked s k v x cs)) (sym (if_false (is s k c) (set m (a s c) v) m t)) (off (subst (Apart m) (names_no c cs t) q)))
 
   -- the marks after it: none above v, and as many as before
-  if_both : (P : List ℕ → Type 0) (t : Bool) (x y : List ℕ) → P x → P y → P (if t then x else y)
+  if_both : (P : List ℕ → Type 0) (t : Bool) (x y : List ℕ) → P x → P y → P (when t then x else y)
   if_both P true x y p q = p
   if_both P false x y p q = q
 
@@ -223,13 +223,13 @@ module _ (s : Sheet) (r : ℕ) (m : List ℕ) (u : Under m (4 * r + 1)) where
       go (inl t) w = (
         imp_of (is s 2 r) (names_apart s 4 r && names_apart s 7 r && names_apart s 8 r)
             (λ x. unit_gives g
-            (subst T (if_true (is s 2 r) (unit_unmarked s r m) (if is s 4 r then class_unmarked s r m else true) t) h)),
+            (subst T (if_true (is s 2 r) (unit_unmarked s r m) (when is s 4 r then class_unmarked s r m else true) t) h)),
         imp_of (is s 4 r) (names_apart s 10 r && names_apart s 6 r) (λ x. absurd (kind_apart (kind s r) 2 4 tt t x)),
       )
       go (inr t) (inl w) = (
         no (is s 2 r) (names_apart s 4 r && names_apart s 7 r && names_apart s 8 r) t,
         imp_of (is s 4 r) (names_apart s 10 r && names_apart s 6 r)
-            (λ x. class_gives g (subst T (if_false (is s 2 r) (unit_unmarked s r m) (if is s 4 r then class_unmarked s r m else true) t ∙ if_true (is s 4 r) (class_unmarked s r m) true w) h)),
+            (λ x. class_gives g (subst T (if_false (is s 2 r) (unit_unmarked s r m) (when is s 4 r then class_unmarked s r m else true) t ∙ if_true (is s 4 r) (class_unmarked s r m) true w) h)),
       )
       go (inr t) (inr w) = (no (is s 2 r) (names_apart s 4 r && names_apart s 7 r && names_apart s 8 r) t, no (is s 4 r) (names_apart s 10 r && names_apart s 6 r) w)
 
@@ -239,15 +239,15 @@ module _ (s : Sheet) (r : ℕ) (m : List ℕ) (u : Under m (4 * r + 1)) where
     where
       go : T (is s 2 r) ⊎ T (not (is s 2 r)) → T (is s 4 r) ⊎ T (not (is s 4 r)) → T (row_unmarked s r m)
       go (inl t) w =
-          subst T (sym (if_true (is s 2 r) (unit_unmarked s r m) (if is s 4 r then class_unmarked s r m else true) t))
+          subst T (sym (if_true (is s 2 r) (unit_unmarked s r m) (when is s 4 r then class_unmarked s r m else true) t))
           (gives_unit (T-imp (is s 2 r) (names_apart s 4 r && names_apart s 7 r && names_apart s 8 r) x t))
       go (inr t) (inl w) =
-          subst T (sym (if_false (is s 2 r) (unit_unmarked s r m) (if is s 4 r then class_unmarked s r m else true) t ∙ if_true (is s 4 r) (class_unmarked s r m) true w))
+          subst T (sym (if_false (is s 2 r) (unit_unmarked s r m) (when is s 4 r then class_unmarked s r m else true) t ∙ if_true (is s 4 r) (class_unmarked s r m) true w))
           (gives_class (T-imp (is s 4 r) (names_apart s 10 r && names_apart s 6 r) y w))
-      go (inr t) (inr w) = subst T (sym (if_false (is s 2 r) (unit_unmarked s r m) (if is s 4 r then class_unmarked s r m else true) t ∙ if_false (is s 4 r) (class_unmarked s r m) true w)) tt
+      go (inr t) (inr w) = subst T (sym (if_false (is s 2 r) (unit_unmarked s r m) (when is s 4 r then class_unmarked s r m else true) t ∙ if_false (is s 4 r) (class_unmarked s r m) true w)) tt
 
   -- the marks after it
-  three : (x y z : List ℕ) (P : List ℕ → Type 0) (t2 t4 : Bool) → P x → P y → P z → P (if t2 then x else if t4 then y else z)
+  three : (x y z : List ℕ) (P : List ℕ → Type 0) (t2 t4 : Bool) → P x → P y → P z → P (when t2 then x else when t4 then y else z)
   three x y z P true t4 p q o = p
   three x y z P false true p q o = q
   three x y z P false false p q o = o

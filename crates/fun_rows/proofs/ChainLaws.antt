@@ -8,7 +8,7 @@ use lib.Dec.{eqb}
 use lib.ListN.{length, get_or, set, length-set}
 use lib.Seq.{get_or-set_same, get_or-set_other}
 use borrow.Author.Tests.{eqb-true, eqb-false, ne_eqb}
-use Rattle.definition.specs.Basics.{if◌then◌else◌, filter, from}
+use Rattle.definition.specs.Basics.{when◌then◌else◌, filter, from}
 use Rattle.definition.specs.Sheet.{Sheet, rows, kind, is}
 use Rattle.machine.specs.Machine.{cell}
 use Rattle.classes.specs.Table.{Clear}
@@ -40,7 +40,7 @@ filter_length : (p : ℕ → Bool) (k n : ℕ) → length (filter p (from k n)) 
 filter_length p k zero = omega arith
 filter_length p k (suc n) = go (p k) (filter_length p (suc k) n)
   where
-    go : (t : Bool) → length (filter p (from (suc k) n)) ≤ n → length (if t then k ∷ filter p (from (suc k) n) else filter p (from (suc k) n)) ≤ suc n
+    go : (t : Bool) → length (filter p (from (suc k) n)) ≤ n → length (when t then k ∷ filter p (from (suc k) n) else filter p (from (suc k) n)) ≤ suc n
     go true g = omega arith
     go false g = omega arith
 
@@ -52,10 +52,10 @@ from_one k n l =
     ap (from k) e ∙ ap (λ (i : ℕ). k ∷ from i (n - (k + 1))) d
 
 pub filter_in : (p : ℕ → Bool) (k n : ℕ) → k < n → p k ≡ true → filter p (from k (n - k)) ≡ k ∷ filter p (from (k + 1) (n - (k + 1)))
-filter_in p k n l e = ap (filter p) (from_one k n l) ∙ ap (λ (t : Bool). if t then k ∷ filter p (from (k + 1) (n - (k + 1))) else filter p (from (k + 1) (n - (k + 1)))) e
+filter_in p k n l e = ap (filter p) (from_one k n l) ∙ ap (λ (t : Bool). when t then k ∷ filter p (from (k + 1) (n - (k + 1))) else filter p (from (k + 1) (n - (k + 1)))) e
 
 pub filter_out : (p : ℕ → Bool) (k n : ℕ) → k < n → p k ≡ false → filter p (from k (n - k)) ≡ filter p (from (k + 1) (n - (k + 1)))
-filter_out p k n l e = ap (filter p) (from_one k n l) ∙ ap (λ (t : Bool). if t then k ∷ filter p (from (k + 1) (n - (k + 1))) else filter p (from (k + 1) (n - (k + 1)))) e
+filter_out p k n l e = ap (filter p) (from_one k n l) ∙ ap (λ (t : Bool). when t then k ∷ filter p (from (k + 1) (n - (k + 1))) else filter p (from (k + 1) (n - (k + 1)))) e
 
 pub filter_end : (p : ℕ → Bool) (k n : ℕ) → n ≤ k → filter p (from k (n - k)) ≡ []
 filter_end p k n l = let e : n - k ≡ 0 = omega arith in ap (λ (i : ℕ). filter p (from k i)) e

@@ -7,7 +7,7 @@ use native.Mathlib.Omega.{arith}
 use lib.Dec.{eqb}
 use lib.ListN.{length, get_or}
 use borrow.Author.Tests.{eqb-true, eq-eqb, ne_eqb, not-true, not-false}
-use Rattle.definition.specs.Basics.{if◌then◌else◌, filter, any, from, concat_map}
+use Rattle.definition.specs.Basics.{when◌then◌else◌, filter, any, from, concat_map}
 use Rattle.definition.specs.Sheet.{Sheet, rows, child}
 use Rattle.definition.specs.Slots.{is_mutable}
 use Rattle.machine.specs.Machine.{Store, Node, cell, node_at, previous, chain_to, list_at, code_of}
@@ -83,7 +83,7 @@ chain_end (suc n) ns l e = rw e
 
 chain_one : (n : ℕ) (ns : List ℕ) (l : ℕ) → 0 < n → (l ≡ 0 → ⊥) → literal_chain n ns l ≡ l ∷ literal_chain (n - 1) ns (get_or ns l 0)
 unfolding literal_chain
-chain_one n ns l g f = ap (λ (m : ℕ). literal_chain m ns l) (below n g) ∙ ap (λ (t : Bool). if t then [] else l ∷ literal_chain (n - 1) ns (get_or ns l 0)) (ne_eqb l 0 f)
+chain_one n ns l g f = ap (λ (m : ℕ). literal_chain m ns l) (below n g) ∙ ap (λ (t : Bool). when t then [] else l ∷ literal_chain (n - 1) ns (get_or ns l 0)) (ne_eqb l 0 f)
 
 module _ (s : Sheet) (t q : List ℕ) (f j : ℕ) where
   pub captured_start : (hs ns : List ℕ) (l : ℕ) → f < rows s → LiteralChains s t hs ns → l ≡ get_or hs f 0 → captured_by s t q f j (literal_chain (rows s) ns l) ≡ escapes s t q f j
@@ -121,11 +121,11 @@ module _ (s : Sheet) (t q : List ℕ) (f j : ℕ) where
 -- The escaping slots, by that test.
 filter_same : (p r : ℕ → Bool) → ((x : ℕ) → p x ≡ r x) → (xs : List ℕ) → filter p xs ≡ filter r xs
 filter_same p r h [] = refl
-filter_same p r h (x ∷ xs) = ap (λ (t : Bool). if t then x ∷ filter p xs else filter p xs) (h x) ∙ ap (λ (l : List ℕ). if r x then x ∷ l else l) (filter_same p r h xs)
+filter_same p r h (x ∷ xs) = ap (λ (t : Bool). when t then x ∷ filter p xs else filter p xs) (h x) ∙ ap (λ (l : List ℕ). when r x then x ∷ l else l) (filter_same p r h xs)
 
 filter_false : (p : ℕ → Bool) → ((x : ℕ) → p x ≡ false) → (xs : List ℕ) → filter p xs ≡ []
 filter_false p h [] = refl
-filter_false p h (x ∷ xs) = ap (λ (t : Bool). if t then x ∷ filter p xs else filter p xs) (h x) ∙ filter_false p h xs
+filter_false p h (x ∷ xs) = ap (λ (t : Bool). when t then x ∷ filter p xs else filter p xs) (h x) ∙ filter_false p h xs
 
 captured_all : (s : Sheet) (o : Store) (f j : ℕ) (ls : List ℕ) → captured_by s o.table o.nodes f j ls ≡ hands_on s f j (concat_map (λ g. list_at o (8 * g + 6)) (map (child s) ls))
 unfolding captured_by list_at
@@ -147,7 +147,7 @@ asked_slots s t q hs ns f g h = go (eqb (get_or hs f 0) 0) refl
     never : get_or hs f 0 ≡ 0 → (j : ℕ) → escapes s t q f j ≡ false
     never e j = sym (captured_start s t q f j hs ns (get_or hs f 0) g h refl) ∙ sym (captured_end s t q f j (rows s) ns (get_or hs f 0) e)
 
-    go : (b : Bool) → eqb (get_or hs f 0) 0 ≡ b → filter (escapes s t q f) (from 0 (if b then 0 else cell t f 5)) ≡ filter (escapes s t q f) (from 0 (cell t f 5))
+    go : (b : Bool) → eqb (get_or hs f 0) 0 ≡ b → filter (escapes s t q f) (from 0 (when b then 0 else cell t f 5)) ≡ filter (escapes s t q f) (from 0 (cell t f 5))
     go true e = sym (filter_false (escapes s t q f) (never (eqb-true (get_or hs f 0) 0 e)) (from 0 (cell t f 5)))
     go false e = refl
 

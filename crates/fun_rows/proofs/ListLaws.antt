@@ -7,7 +7,7 @@ use native.Mathlib.Omega.{arith}
 use native.Mathlib.Numerals.{sub-one}
 use lib.Dec.{eqb}
 use lib.ListN.{length}
-use Rattle.definition.specs.Basics.{if◌then◌else◌}
+use Rattle.definition.specs.Basics.{when◌then◌else◌}
 use Rattle.definition.specs.Sheet.{Sheet, is, b, child}
 use Rattle.definition.specs.Meaning.{Meaning, nothing, function, class, global, toplevel, variable, is_variable, is_declared, owner_of}
 use Rattle.definition.specs.Answer.{eight}
@@ -39,7 +39,7 @@ code_short s (global n m) k g = omega arith
 code_short s (toplevel r) k g = omega arith
 code_short s (variable r f) k g = go (is s 11 r) _ _
   where
-    go : (t : Bool) (i j : ℕ) → length (if t then 4 ∷ i ∷ f ∷ [] else 5 ∷ k ∷ f ∷ j ∷ []) ≤ 4
+    go : (t : Bool) (i j : ℕ) → length (when t then 4 ∷ i ∷ f ∷ [] else 5 ∷ k ∷ f ∷ j ∷ []) ≤ 4
     go true i j = omega arith
     go false i j = omega arith
 
@@ -47,7 +47,7 @@ seen_short : (s : Sheet) (d : Meaning) (k g f : ℕ) (o : Store) → length (see
 unfolding seen_in
 seen_short s d k g f o = go (is_variable d && not (eqb (owner_of d) f)) _ _
   where
-    go : (t : Bool) (i j : ℕ) → length (if t then 6 ∷ i ∷ 0 ∷ j ∷ [] else code_of s d k g) ≤ 4
+    go : (t : Bool) (i j : ℕ) → length (when t then 6 ∷ i ∷ 0 ∷ j ∷ [] else code_of s d k g) ≤ 4
     go true i j = omega arith
     go false i j = code_short s d k g
 

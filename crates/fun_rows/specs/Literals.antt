@@ -1,6 +1,6 @@
 -- The literals that stand in each function, chained, and the slots that they capture.
 use Rattle.std.specs.Prelude.{◌≡◌, Bool, false, ◌&&◌, ◌||◌, List, [], ◌∷◌, ℕ, zero, suc, ◌<◌, get_or, eqb}
-use Rattle.definition.specs.Basics.{if◌then◌else◌, filter, from}
+use Rattle.definition.specs.Basics.{when◌then◌else◌, filter, from}
 use Rattle.definition.specs.Sheet.{Sheet, rows, is, child}
 use Rattle.machine.specs.Machine.{cell, chain_to}
 use Rattle.machine.specs.Reads.{hands_on}
@@ -16,7 +16,7 @@ stands_in s t f l = is s 52 l && (eqb (cell t l 0) 1 && eqb (cell t l 1) f)
 -- the rows chained by a table from row l on; n bounds their number
 unfoldable pub literal_chain : ℕ → List ℕ → ℕ → List ℕ
 literal_chain zero ns l = []
-literal_chain (suc n) ns l = if eqb l 0 then [] else l ∷ literal_chain n ns (get_or ns l 0)
+literal_chain (suc n) ns l = when eqb l 0 then [] else l ∷ literal_chain n ns (get_or ns l 0)
 
 -- The literals that the table says stand in function f are chained from entry f of hs by ns, in rising row.
 pub record LiteralChains (s : Sheet) (t hs ns : List ℕ) : Type 0 where
@@ -33,4 +33,4 @@ escapes s t q f j = captured_by s t q f j (filter (stands_in s t f) (from 0 (row
 
 -- how many slots of function f may escape: none where no literal stands in it
 abbrev pub slots_asked : List ℕ → List ℕ → ℕ → ℕ
-slots_asked t hs f = if eqb (get_or hs f 0) 0 then 0 else cell t f 5
+slots_asked t hs f = when eqb (get_or hs f 0) 0 then 0 else cell t f 5

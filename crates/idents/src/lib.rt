@@ -2,7 +2,7 @@
 #![tactic(auto)]
 
 ghost use Rattle.std.specs.Prelude.{◌≡◌, ◌≤◌, eqb, length};
-ghost use Rattle.definition.specs.Basics.{if◌then◌else◌};
+ghost use Rattle.definition.specs.Basics.{when◌then◌else◌};
 ghost use Rattle.definition.specs.Sheet.{kind};
 ghost use Rattle.definition.specs.Meaning.{row_of, owner_of};
 ghost use Rattle.definition.specs.Walk.{visit};
@@ -25,7 +25,7 @@ use words::word;
 
 // The question on an undeclared name: 9 for null, 8 for any other.
 fn undeclared(m: u32) -> u32
-    ensures { result ≡ (if eqb m 22 then 9 else 8) }
+    ensures { result ≡ (when eqb m 22 then 9 else 8) }
 {
     if m == name::NULL {
         question::NULL_DECLARED
@@ -46,7 +46,7 @@ fn capture(
     nodes: &mut [u32],
 ) -> Store
     ensures { store_of result results.new nodes.new
-        ≡ (if is_outer_variable (means d) env.fun.0
+        ≡ (when is_outer_variable (means d) env.fun.0
         then add_capture (open_functions sheet.now (scopes_of env entries.now))
         (record { key = row_of (means d); one = owner_of (means d); two = d.slot })
         (store_of store results.old nodes.old)

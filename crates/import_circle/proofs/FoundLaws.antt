@@ -9,7 +9,7 @@ use lib.Dec.{T, eqb}
 use lib.ListN.{length, get_or, set, replicate, length-set, length-append, get_or-append}
 use lib.Seq.{get_or-set_same, get_or-set_other, get_or-append_seam}
 use borrow.Author.Tests.{eq-eqb, ne_eqb, lt-ltb}
-use Rattle.definition.specs.Basics.{if◌then◌else◌, ◌∈?◌}
+use Rattle.definition.specs.Basics.{when◌then◌else◌, ◌∈?◌}
 use Rattle.definition.specs.Kind.{IMPORT}
 use Rattle.definition.specs.Sheet.{Sheet, kind, next, child, a, rows, is}
 use Rattle.definition.proofs.Lists.Tests.{true_of, T_true}
@@ -28,9 +28,9 @@ use Rattle.import_circle.specs.Search.{added, added_at, Holds}
 pub added_kept : (vs found : List ℕ) (x : ℕ) → T (x ∈? found) → T (x ∈? added found vs)
 unfolding added
 added_kept [] found x m = m
-added_kept (v ∷ vs) found x m = added_kept vs (if v ∈? found then found else found ++ v ∷ []) x (go (v ∈? found))
+added_kept (v ∷ vs) found x m = added_kept vs (when v ∈? found then found else found ++ v ∷ []) x (go (v ∈? found))
   where
-    go : (t : Bool) → T (x ∈? (if t then found else found ++ v ∷ []))
+    go : (t : Bool) → T (x ∈? (when t then found else found ++ v ∷ []))
     go true = m
     go false = in_before x v found m
 
@@ -38,10 +38,10 @@ pub added_new : (vs found : List ℕ) (x : ℕ) → T (x ∈? vs) → T (x ∈? 
 unfolding added
 added_new [] found x m = absurd m
 added_new (v ∷ vs) found x m =
-    ⊎_elim (λ (e : x ≡ v). added_kept vs (if v ∈? found then found else found ++ v ∷ []) x (go (v ∈? found) refl e))
-    (λ k. added_new vs (if v ∈? found then found else found ++ v ∷ []) x k) (in_cases x v vs m)
+    ⊎_elim (λ (e : x ≡ v). added_kept vs (when v ∈? found then found else found ++ v ∷ []) x (go (v ∈? found) refl e))
+    (λ k. added_new vs (when v ∈? found then found else found ++ v ∷ []) x k) (in_cases x v vs m)
   where
-    go : (t : Bool) → (v ∈? found) ≡ t → x ≡ v → T (x ∈? (if t then found else found ++ v ∷ []))
+    go : (t : Bool) → (v ∈? found) ≡ t → x ≡ v → T (x ∈? (when t then found else found ++ v ∷ []))
     go true q e = subst (λ (y : ℕ). T (y ∈? found)) (sym e) (T_true (v ∈? found) q)
     go false q e = in_last x v found e
 
@@ -49,9 +49,9 @@ pub added_from : (vs found : List ℕ) (x : ℕ) → T (x ∈? added found vs) �
 unfolding added
 added_from [] found x m = inl m
 added_from (v ∷ vs) found x m =
-    ⊎_elim (λ k. go (v ∈? found) k) (λ k. inr (in_tail x v vs k)) (added_from vs (if v ∈? found then found else found ++ v ∷ []) x m)
+    ⊎_elim (λ k. go (v ∈? found) k) (λ k. inr (in_tail x v vs k)) (added_from vs (when v ∈? found then found else found ++ v ∷ []) x m)
   where
-    go : (t : Bool) → T (x ∈? (if t then found else found ++ v ∷ [])) → T (x ∈? found) ⊎ T (x ∈? (v ∷ vs))
+    go : (t : Bool) → T (x ∈? (when t then found else found ++ v ∷ [])) → T (x ∈? found) ⊎ T (x ∈? (v ∷ vs))
     go true k = inl k
     go false k = ⊎_elim inl (λ e. inr (in_head x v vs e)) (in_either x v found k)
 
@@ -59,11 +59,11 @@ added_from (v ∷ vs) found x m =
 pub added_places : (vs found : List ℕ) → (length found ≤ length (added found vs)) × ((i : ℕ) → i < length found → get_or (added found vs) i 0 ≡ get_or found i 0)
 unfolding added
 added_places [] found = (omega arith, λ i l. refl)
-added_places (v ∷ vs) found = go (v ∈? found) (added_places vs (if v ∈? found then found else found ++ v ∷ []))
+added_places (v ∷ vs) found = go (v ∈? found) (added_places vs (when v ∈? found then found else found ++ v ∷ []))
   where
-    go : (t : Bool) → (length (if t then found else found ++ v ∷ []) ≤ length (added (if t then found else found ++ v ∷ []) vs))
-        × ((i : ℕ) → i < length (if t then found else found ++ v ∷ []) → get_or (added (if t then found else found ++ v ∷ []) vs) i 0 ≡ get_or (if t then found else found ++ v ∷ []) i 0)
-        → (length found ≤ length (added (if t then found else found ++ v ∷ []) vs)) × ((i : ℕ) → i < length found → get_or (added (if t then found else found ++ v ∷ []) vs) i 0 ≡ get_or found i 0)
+    go : (t : Bool) → (length (when t then found else found ++ v ∷ []) ≤ length (added (when t then found else found ++ v ∷ []) vs))
+        × ((i : ℕ) → i < length (when t then found else found ++ v ∷ []) → get_or (added (when t then found else found ++ v ∷ []) vs) i 0 ≡ get_or (when t then found else found ++ v ∷ []) i 0)
+        → (length found ≤ length (added (when t then found else found ++ v ∷ []) vs)) × ((i : ℕ) → i < length found → get_or (added (when t then found else found ++ v ∷ []) vs) i 0 ≡ get_or found i 0)
     go true h = h
     go false h =
         let long = length-append found (v ∷ []) in
@@ -125,19 +125,19 @@ module _ (m q : List ℕ) (n : ℕ) (found : List ℕ) (h : Holds m q n found) w
 module _ (s : Sheet) (k : ℕ) (m q : List ℕ) (n : ℕ) (found : List ℕ) (h : Holds m q n found) where
   pub add_other : (kind s k ≡ IMPORT → ⊥) → Holds m q n (added_at s k found)
   unfolding added_at
-  add_other f = subst (Holds m q n) (sym (ap (λ (t : Bool). if t then added found (a s k ∷ []) else found) (ne_eqb (kind s k) IMPORT f))) h
+  add_other f = subst (Holds m q n) (sym (ap (λ (t : Bool). when t then added found (a s k ∷ []) else found) (ne_eqb (kind s k) IMPORT f))) h
 
   module _ (e : kind s k ≡ IMPORT) (v : ℕ) (to : v ≡ a s k) where
-    at_import : added_at s k found ≡ (if v ∈? found then found else found ++ v ∷ [])
+    at_import : added_at s k found ≡ (when v ∈? found then found else found ++ v ∷ [])
     unfolding added_at added
     at_import =
-        ap (λ (t : Bool). if t then added found (a s k ∷ []) else found) (eq-eqb (kind s k) IMPORT e)
-        ∙ ap (λ (i : ℕ). if i ∈? found then found else found ++ i ∷ []) (sym to)
+        ap (λ (t : Bool). when t then added found (a s k ∷ []) else found) (eq-eqb (kind s k) IMPORT e)
+        ∙ ap (λ (i : ℕ). when i ∈? found then found else found ++ i ∷ []) (sym to)
 
     pub add_old : (get_or m v 0 ≡ 0 → ⊥) → Holds m q n (added_at s k found)
     add_old f =
         let there : (v ∈? found) ≡ true = sym (h.marks v) ∙ ap not (ne_eqb (get_or m v 0) 0 f) in
-        subst (Holds m q n) (sym (at_import ∙ ap (λ (t : Bool). if t then found else found ++ v ∷ []) there)) h
+        subst (Holds m q n) (sym (at_import ∙ ap (λ (t : Bool). when t then found else found ++ v ∷ []) there)) h
 
     pub add_new_lem : get_or m v 0 ≡ 0 → (T (is s IMPORT k) → a s k < length m) → length m ≤ 2048 → {m' q' : List ℕ} {x : ℕ}
         → m' ≡ set m v 1 → q' ≡ set q n v → x ≡ one_more n → Holds m' q' x (added_at s k found)
@@ -145,8 +145,8 @@ module _ (s : Sheet) (k : ℕ) (m q : List ℕ) (n : ℕ) (found : List ℕ) (h 
         let absent : (v ∈? found) ≡ false = sym (h.marks v) ∙ ap not (eq-eqb (get_or m v 0) 0 free) in
         let new : T (v ∈? found) → ⊥ = λ g. subst T absent g in
         let l : v < length m = omega (arith, to, wide (T_true (is s IMPORT k) (eq-eqb (kind s k) IMPORT e))) in
-        let count : one_more n ≡ suc n = ap (λ (t : Bool). if t then suc n else n) (lt-ltb n 4294967295 (omega (arith, holds_few m q n found h))) in
-        rw (mark, write, to_n ∙ count, at_import ∙ ap (λ (t : Bool). if t then found else found ++ v ∷ []) absent) (holds_more m q n found h v l new)
+        let count : one_more n ≡ suc n = ap (λ (t : Bool). when t then suc n else n) (lt-ltb n 4294967295 (omega (arith, holds_few m q n found h))) in
+        rw (mark, write, to_n ∙ count, at_import ∙ ap (λ (t : Bool). when t then found else found ++ v ∷ []) absent) (holds_more m q n found h v l new)
 
 -- A child list: from row k on, what is added at k and then from the next row on.
 pub add_step : (s : Sheet) → Importing s → (k : ℕ) (found : List ℕ) → (k ≡ 0 → ⊥) → k < rows s
@@ -154,8 +154,8 @@ pub add_step : (s : Sheet) → Importing s → (k : ℕ) (found : List ℕ) → 
 unfolding added added_at
 add_step s ok k found f l = go (is s IMPORT k) ∙ ap (added found) (sym (from_step s ok k f l))
   where
-    go : (t : Bool) → added (if t then added found (a s k ∷ []) else found) (imports_from s (next s k))
-        ≡ added found (if t then a s k ∷ imports_from s (next s k) else imports_from s (next s k))
+    go : (t : Bool) → added (when t then added found (a s k ∷ []) else found) (imports_from s (next s k))
+        ≡ added found (when t then a s k ∷ imports_from s (next s k) else imports_from s (next s k))
     go true = refl
     go false = refl
 
@@ -183,7 +183,7 @@ module _ (s : Sheet) (ok : Importing s) (u : ℕ) (m₀ q₀ : List ℕ) (count 
   adding_wide unit f t =
       let p = h.rest in
       let e : imports_from s k ≡ a s k ∷ imports_from s (next s k) =
-      from_step s ok k f h.row ∙ ap (λ (w : Bool). if w then a s k ∷ imports_from s (next s k) else imports_from s (next s k)) (true_of (is s IMPORT k) t) in
+      from_step s ok k f h.row ∙ ap (λ (w : Bool). when w then a s k ∷ imports_from s (next s k) else imports_from s (next s k)) (true_of (is s IMPORT k) t) in
       let there : T (a s k ∈? imports_of s u) =
       subst (λ (vs : List ℕ). T (a s k ∈? vs)) (sym (p.1 ∙ ap (λ (vs : List ℕ). p.0 ++ vs) e))
       (in_second (a s k) p.0 (a s k ∷ imports_from s (next s k)) (in_head (a s k) (a s k) (imports_from s (next s k)) refl)) in
@@ -202,7 +202,7 @@ module _ (s : Sheet) (ok : Importing s) (u : ℕ) (m₀ q₀ : List ℕ) (count 
       })
     where
       go : ((passed : List ℕ) × (imports_of s u ≡ passed ++ imports_from s k)) → (t : Bool)
-          → imports_from s k ≡ (if t then a s k ∷ imports_from s (next s k) else imports_from s (next s k))
+          → imports_from s k ≡ (when t then a s k ∷ imports_from s (next s k) else imports_from s (next s k))
           → (passed : List ℕ) × (imports_of s u ≡ passed ++ imports_from s (next s k))
       go p true e =
           (p.0 ++ a s k ∷ [], p.1 ∙ ap (λ (vs : List ℕ). p.0 ++ vs) e ∙ sym (append_assoc p.0 (a s k ∷ []) (imports_from s (next s k))))

@@ -9,7 +9,7 @@ use native.Mathlib.Numerals.{add-one}
 use lib.Dec.{T}
 use lib.ListN.{get_or}
 use borrow.Author.Tests.{eq-eqb, ne_eqb}
-use Rattle.definition.specs.Basics.{if◌then◌else◌, filter, first, from, ◌∈?◌}
+use Rattle.definition.specs.Basics.{when◌then◌else◌, filter, first, from, ◌∈?◌}
 use Rattle.definition.specs.Kind.{UNIT, IMPORT}
 use Rattle.definition.specs.Sheet.{Sheet, kind, next, child, a, rows, is}
 use Rattle.definition.proofs.Lists.Tests.{T_true}
@@ -38,7 +38,7 @@ module _ (s : Sheet) (ok : Importing s) (u : ℕ) (ranks : List ℕ) (k x : ℕ)
   ranked_more f {y} {j} to g = rw to ((next_row s ok k f h.0).0, go h.1 (is s IMPORT k) refl (from_step s ok k f h.0))
     where
       go : (p : (passed : List ℕ) × (imports_of s u ≡ passed ++ imports_from s k) × ((v : ℕ) → T (v ∈? passed) → get_or ranks v 0 ≤ x)) (t : Bool)
-          → is s IMPORT k ≡ t → imports_from s k ≡ (if t then a s k ∷ imports_from s (next s k) else imports_from s (next s k))
+          → is s IMPORT k ≡ t → imports_from s k ≡ (when t then a s k ∷ imports_from s (next s k) else imports_from s (next s k))
           → (passed : List ℕ) × (imports_of s u ≡ passed ++ imports_from s (next s k)) × ((v : ℕ) → T (v ∈? passed) → get_or ranks v 0 ≤ y)
       go p true e q = (
         p.0 ++ a s k ∷ [],
@@ -94,7 +94,7 @@ unfolding units
 lowest_start s = let e : rows s - 0 ≡ rows s = omega arith in ap (λ (n : ℕ). first (circles s) 0 (filter (is s UNIT) (from 0 n))) e
 
 module _ (s : Sheet) (u : ℕ) (l : u < rows s) where
-  lowest_step : lowest_from s u ≡ (if is s UNIT u && circles s u then u else lowest_from s (u + 1))
+  lowest_step : lowest_from s u ≡ (when is s UNIT u && circles s u then u else lowest_from s (u + 1))
   lowest_step =
       let e : rows s - u ≡ suc (rows s - (u + 1)) = omega arith in
       ap (λ (n : ℕ). first (circles s) 0 (filter (is s UNIT) (from u n))) e
@@ -103,15 +103,15 @@ module _ (s : Sheet) (u : ℕ) (l : u < rows s) where
       later : List ℕ
       later = filter (is s UNIT) (from (u + 1) (rows s - (u + 1)))
 
-      go : (t : Bool) → first (circles s) 0 (if t then u ∷ later else later) ≡ (if t && circles s u then u else first (circles s) 0 later)
+      go : (t : Bool) → first (circles s) 0 (when t then u ∷ later else later) ≡ (when t && circles s u then u else first (circles s) 0 later)
       go true = refl
       go false = refl
 
   pub lowest_here : {x : Bool} {r : ℕ} → x ≡ (is s UNIT u && circles s u) → x ≡ true → lowest_from s u ≡ r → u ≡ r
-  lowest_here told e h = sym (lowest_step ∙ ap (λ (t : Bool). if t then u else lowest_from s (u + 1)) (sym told ∙ e)) ∙ h
+  lowest_here told e h = sym (lowest_step ∙ ap (λ (t : Bool). when t then u else lowest_from s (u + 1)) (sym told ∙ e)) ∙ h
 
   pub lowest_more : {x : Bool} {r : ℕ} → x ≡ (is s UNIT u && circles s u) → x ≡ false → lowest_from s u ≡ r → lowest_from s (u + 1) ≡ r
-  lowest_more told e h = sym (lowest_step ∙ ap (λ (t : Bool). if t then u else lowest_from s (u + 1)) (sym told ∙ e)) ∙ h
+  lowest_more told e h = sym (lowest_step ∙ ap (λ (t : Bool). when t then u else lowest_from s (u + 1)) (sym told ∙ e)) ∙ h
 
 pub lowest_none : (s : Sheet) (u r : ℕ) → rows s ≤ u → lowest_from s u ≡ r → 0 ≡ r
 lowest_none s u r l h = let e : rows s - u ≡ 0 = omega arith in sym (ap (λ (n : ℕ). first (circles s) 0 (filter (is s UNIT) (from u n))) e) ∙ h

@@ -1,6 +1,6 @@
 -- The program's own: the units that a search has found, and what ranks must be to spare one.
 use Rattle.std.specs.Prelude.{◌≡◌, List, [], ◌∷◌, ◌++◌, ℕ, ◌<◌, ◌≤◌, T, length, get_or}
-use Rattle.definition.specs.Basics.{if◌then◌else◌, ◌∈?◌}
+use Rattle.definition.specs.Basics.{when◌then◌else◌, ◌∈?◌}
 use Rattle.definition.specs.Kind.{IMPORT}
 use Rattle.definition.specs.Sheet.{Sheet, a, is}
 use Rattle.definition.proofs.Lists.Members.{Nodup}
@@ -10,11 +10,11 @@ use Rattle.start_units.specs.Starting.{marked}
 -- the units found, and after them those of a list that are not among them
 unfoldable pub added : List ℕ → List ℕ → List ℕ
 added found [] = found
-added found (v ∷ vs) = added (if v ∈? found then found else found ++ v ∷ []) vs
+added found (v ∷ vs) = added (when v ∈? found then found else found ++ v ∷ []) vs
 
 -- the same for row k of a child list: if it is an import, with its unit
 unfoldable pub added_at : Sheet → ℕ → List ℕ → List ℕ
-added_at s k found = if is s IMPORT k then added found (a s k ∷ []) else found
+added_at s k found = when is s IMPORT k then added found (a s k ∷ []) else found
 
 -- n units are found: they have marks, and stand first in the queue
 pub record Holds (m q : List ℕ) (n : ℕ) (found : List ℕ) : Type 0 where

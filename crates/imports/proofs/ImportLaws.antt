@@ -6,7 +6,7 @@ use Prim.Native.Nat.{ℕ, zero, suc, ◌+◌}
 use native.Mathlib.Omega.{arith}
 use lib.Dec.{eqb}
 use borrow.Author.Tests.{eq-eqb, ne_eqb, eqb-true}
-use Rattle.definition.specs.Basics.{if◌then◌else◌, filter, first, concat_map}
+use Rattle.definition.specs.Basics.{when◌then◌else◌, filter, first, concat_map}
 use Rattle.definition.specs.Sheet.{Sheet, kind, next, child, a, b, rows, chain, is, kids, kids_of}
 use Rattle.definition.specs.Outside.{Outside}
 use Rattle.definition.specs.Meaning.{Meaning, Named, named, nothing, function, class, global, is_declared}
@@ -92,13 +92,13 @@ brought_listed s u i k = bring i (a s k) (first (λ y. eqb y.name (a s k)) (name
 
 -- The events of row k of a child list: as an export of kind j, as a listed name, as an import.
 abbrev pub of_kind : Sheet → ℕ → ℕ → ℕ → List Event
-of_kind s j i k = if is s j k then brought_row s i k ∷ [] else []
+of_kind s j i k = when is s j k then brought_row s i k ∷ [] else []
 
 abbrev pub of_listed : Sheet → ℕ → ℕ → ℕ → List Event
 of_listed s u i k = brought_listed s u i k ∷ []
 
 abbrev pub of_import : Sheet → ℕ → ℕ → List Event
-of_import s u k = if is s 3 k then imports s u k else []
+of_import s u k = when is s 3 k then imports s u k else []
 
 -- the row by its kind h
 module _ (O : Outside) (s : Sheet) (k : ℕ) (x : State) {h : ℕ} (e : h ≡ kind s k) where
@@ -110,7 +110,7 @@ module _ (O : Outside) (s : Sheet) (k : ℕ) (x : State) {h : ℕ} (e : h ≡ ki
     pub kind_yes : {m : ℕ} {y : State} → h ≡ j → m ≡ a s k → y ≡ step_state O s (bring i m (export_of s k)) x → y ≡ run_state O s (of_kind s j i k) x
     kind_yes f g l =
         run_one O s (brought_row s i k) x (l ∙ ap (λ (n : ℕ). step_state O s (bring i n (export_of s k)) x) g)
-        ∙ ap (λ (t : Bool). run_state O s (if t then brought_row s i k ∷ [] else []) x) (sym (eq-eqb (kind s k) j (sym e ∙ f)))
+        ∙ ap (λ (t : Bool). run_state O s (when t then brought_row s i k ∷ [] else []) x) (sym (eq-eqb (kind s k) j (sym e ∙ f)))
 
   module _ (u : ℕ) where
     pub import_no : (h ≡ 3 → ⊥) → x ≡ run_state O s (of_import s u k) x
@@ -158,7 +158,7 @@ module _ (O : Outside) (s : Sheet) (i : ℕ) where
     kind_chain (suc n) (suc k) = go (is s j (suc k)) refl (filter (is s j) (chain n s (next s (suc k)))) (kind_chain n (next s (suc k)))
       where
         go : (t : Bool) → is s j (suc k) ≡ t → (ks : List ℕ) → map (brought_row s i) ks ≡ map (brought i) (map (λ r. named (a s r) (g r)) ks)
-            → map (brought_row s i) (if t then suc k ∷ ks else ks) ≡ map (brought i) (map (λ r. named (a s r) (g r)) (if t then suc k ∷ ks else ks))
+            → map (brought_row s i) (when t then suc k ∷ ks else ks) ≡ map (brought i) (map (λ r. named (a s r) (g r)) (when t then suc k ∷ ks else ks))
         go true e ks h = rw (same (suc k) (λ z. omega arith) (eqb-true (kind s (suc k)) j e), h)
         go false e ks h = h
 
@@ -191,7 +191,7 @@ module _ (O : Outside) (s : Sheet) (i : ℕ) where
 
 -- An import of unit u: what it sees, if it says so, then what it lists.
 abbrev of_seen : Sheet → ℕ → ℕ → List Event
-of_seen s u i = if eqb (b s i) 1 then map (brought i) (seen s u i) else []
+of_seen s u i = when eqb (b s i) 1 then map (brought i) (seen s u i) else []
 
 pub seen_listed : (O : Outside) (s : Sheet) (u i : ℕ) (x : State) {y z : State} → y ≡ run_state O s (of_seen s u i) x
     → z ≡ run_state O s (map (brought_listed s u i) (kids s i)) y → z ≡ run_state O s (imports s u i) x

@@ -2,7 +2,7 @@
 #![tactic(auto)]
 
 ghost use Rattle.std.specs.Prelude.{◌≡◌, List, [], ◌∷◌, map, ℕ, ◌≤◌, eqb, length};
-ghost use Rattle.definition.specs.Basics.{if◌then◌else◌, first as firstWith, concat_map};
+ghost use Rattle.definition.specs.Basics.{when◌then◌else◌, first as firstWith, concat_map};
 ghost use Rattle.definition.specs.Sheet.{a, b, is, kids, kids_of};
 ghost use Rattle.definition.specs.Meaning.{named, nothing};
 ghost use Rattle.definition.specs.Walk.{bring as brings, exports, seen, imports};
@@ -81,7 +81,7 @@ fn bring_if(sheet: &[u32], k: u32, kind: u32, i: u32, walk: Walk, entries: &mut 
     requires { length sheet.now ≤ 16384 }
     ensures { (O : Outside) (results nodes : List ℕ) → state_of result entries.new results nodes
         ≡ run_state O sheet.now
-        (if is sheet.now kind k then brings i (a sheet.now k) (export_of sheet.now k) ∷ [] else [])
+        (when is sheet.now kind k then brings i (a sheet.now k) (export_of sheet.now k) ∷ [] else [])
         (state_of walk entries.old results nodes) }
 {
     if word(sheet, k, column::KIND) != kind {
@@ -166,7 +166,7 @@ fn import_seen(sheet: &[u32], u: u32, i: u32, walk: Walk, entries: &mut [u32]) -
     requires { length sheet.now ≤ 16384 }
     ensures { (O : Outside) (results nodes : List ℕ) → state_of result entries.new results nodes
         ≡ run_state O sheet.now
-        (if eqb (b sheet.now i) 1 then map (λ y. brings i y.name y.means) (seen sheet.now u i) else [])
+        (when eqb (b sheet.now i) 1 then map (λ y. brings i y.name y.means) (seen sheet.now u i) else [])
         (state_of walk entries.old results nodes) }
 {
     if word(sheet, i, column::B) != flag::IMPORT_ALL {
@@ -193,7 +193,7 @@ fn import_one(sheet: &[u32], u: u32, i: u32, walk: Walk, entries: &mut [u32]) ->
 fn import_if(sheet: &[u32], u: u32, k: u32, walk: Walk, entries: &mut [u32]) -> Walk
     requires { length sheet.now ≤ 16384 }
     ensures { (O : Outside) (results nodes : List ℕ) → state_of result entries.new results nodes
-        ≡ run_state O sheet.now (if is sheet.now 3 k then imports sheet.now u k else [])
+        ≡ run_state O sheet.now (when is sheet.now 3 k then imports sheet.now u k else [])
         (state_of walk entries.old results nodes) }
 {
     if word(sheet, k, column::KIND) != kind::IMPORT {

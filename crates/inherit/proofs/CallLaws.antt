@@ -7,7 +7,7 @@ use native.Mathlib.Omega.{arith}
 use lib.Dec.{eqb}
 use lib.ListN.{length}
 use borrow.Author.Tests.{eq-eqb, ne_eqb}
-use Rattle.definition.specs.Basics.{if◌then◌else◌, first}
+use Rattle.definition.specs.Basics.{when◌then◌else◌, first}
 use Rattle.definition.specs.Sheet.{Sheet, child, next, rows, chain}
 use Rattle.definition.specs.Classes.{class_name, method_of}
 use Rattle.definition.specs.Question.{Refusal, none, ask, first_no, arguments}
@@ -37,7 +37,7 @@ module _ (O : Outside) (s : Sheet) (o : Store) (y : Node) {f w i m : ℕ} (e : f
   same_no k = ap (λ (j : ℕ). no k j m) p ∙ ap (no k (child s y.key)) q
 
   abbrev asked : Bool → Bool → Refusal
-  asked t u = if t then no 20 (child s y.key) (class_name O s y.one) else ask 21 (child s y.key) (class_name O s y.one) u
+  asked t u = when t then no 20 (child s y.key) (class_name O s y.one) else ask 21 (child s y.key) (class_name O s y.one) u
 
   pub call_without : f ≡ 0 → no 20 i m ≡ check_call_in O s o y
   call_without z = same_no 20 ∙ sym (ap (λ (t : Bool). asked t (eqb (arguments s y.key + 1) (method_of 23 (methods_in O s o (rows s) y.one)).params)) (eq-eqb _ 0 (sym e ∙ z)))
@@ -60,7 +60,7 @@ is_no x = not (eqb x.number 0)
 
 first_append : (d : Refusal) (xs ys : List Refusal) → first is_no d (xs ++ ys) ≡ first is_no (first is_no d ys) xs
 first_append d [] ys = refl
-first_append d (x ∷ xs) ys = ap (λ (z : Refusal). if is_no x then x else z) (first_append d xs ys)
+first_append d (x ∷ xs) ys = ap (λ (z : Refusal). when is_no x then x else z) (first_append d xs ys)
 
 -- The calls from the last back: f is the answer on a call, x the first no of the calls passed.
 module _ (q : List ℕ) (f : Node → Refusal) where
@@ -81,39 +81,39 @@ module _ (q : List ℕ) (f : Node → Refusal) where
       e ∙ ap (λ (n : ℕ). f (record { key = n; one = c; two = node_word q i 3 })) d ∙ ap (λ (n : ℕ). f (record { key = node_word q i 1; one = n; two = node_word q i 3 })) g
 
   module _ (i : ℕ) (x : Refusal) (l : 0 < i) {y : Refusal} (e : y ≡ f (node_at q (i - 1))) {j : ℕ} (b : j ≡ previous q (i - 1)) where
-    step : calls_to i x ≡ calls_to j (if is_no y then y else x)
+    step : calls_to i x ≡ calls_to j (when is_no y then y else x)
     unfolding calls_to
     step =
         ap (λ (n : ℕ). first is_no x (map f (chain_to q n))) below
         ∙ ap (λ (ys : List Node). first is_no x (map f ys)) (list_more q (i - 1))
         ∙ ap (first is_no x) (map_append f (chain_to q (previous q (i - 1))) (node_at q (i - 1) ∷ []))
         ∙ first_append x (map f (chain_to q (previous q (i - 1)))) (f (node_at q (i - 1)) ∷ [])
-        ∙ sym (ap (λ (n : ℕ). first is_no (if is_no y then y else x) (map f (chain_to q n))) b
-        ∙ ap (λ (z : Refusal). first is_no (if is_no z then z else x) (map f (chain_to q (previous q (i - 1))))) e)
+        ∙ sym (ap (λ (n : ℕ). first is_no (when is_no y then y else x) (map f (chain_to q n))) b
+        ∙ ap (λ (z : Refusal). first is_no (when is_no z then z else x) (map f (chain_to q (previous q (i - 1))))) e)
       where
         below : i ≡ suc (i - 1)
         below = omega arith
 
     pub calls_no : (y.number ≡ 0 → ⊥) → calls_to j y ≡ calls_to i x
-    calls_no g = sym (step ∙ ap (λ (t : Bool). calls_to j (if not t then y else x)) (ne_eqb y.number 0 g))
+    calls_no g = sym (step ∙ ap (λ (t : Bool). calls_to j (when not t then y else x)) (ne_eqb y.number 0 g))
 
     pub calls_yes : y.number ≡ 0 → calls_to j x ≡ calls_to i x
-    calls_yes z = sym (step ∙ ap (λ (t : Bool). calls_to j (if not t then y else x)) (eq-eqb y.number 0 z))
+    calls_yes z = sym (step ∙ ap (λ (t : Bool). calls_to j (when not t then y else x)) (eq-eqb y.number 0 z))
 
 -- The first of two: x on classes, and then the first no of a list.
 pub later_classes : (z : Refusal) {x y : Refusal} → x ≡ y → (x.number ≡ 0 → ⊥) → x ≡ first_no (y ∷ z ∷ [])
-later_classes z {x} {y} e g = e ∙ sym (ap (λ (t : Bool). if not t then y else if is_no z then z else none) (ne_eqb y.number 0 (λ h. g (ap (λ (r : Refusal). r.number) e ∙ h))))
+later_classes z {x} {y} e g = e ∙ sym (ap (λ (t : Bool). when not t then y else when is_no z then z else none) (ne_eqb y.number 0 (λ h. g (ap (λ (r : Refusal). r.number) e ∙ h))))
 
-first_again : (xs : List Refusal) → first_no xs ≡ (if is_no (first_no xs) then first_no xs else none)
+first_again : (xs : List Refusal) → first_no xs ≡ (when is_no (first_no xs) then first_no xs else none)
 first_again [] = refl
 first_again (x ∷ xs) = go (is_no x) refl (first_again xs)
   where
-    go : (t : Bool) → is_no x ≡ t → first_no xs ≡ (if is_no (first_no xs) then first_no xs else none)
-        → (if t then x else first_no xs) ≡ (if is_no (if t then x else first_no xs) then (if t then x else first_no xs) else none)
-    go true e h = sym (ap (λ (b : Bool). if b then x else none) e)
+    go : (t : Bool) → is_no x ≡ t → first_no xs ≡ (when is_no (first_no xs) then first_no xs else none)
+        → (when t then x else first_no xs) ≡ (when is_no (when t then x else first_no xs) then (when t then x else first_no xs) else none)
+    go true e h = sym (ap (λ (b : Bool). when b then x else none) e)
     go false e h = h
 
 pub later_calls : {x y z : Refusal} (xs : List Refusal) → x ≡ y → x.number ≡ 0 → z ≡ first_no xs → z ≡ first_no (y ∷ first_no xs ∷ [])
 later_calls {x} {y} {z} xs e g h =
     h ∙ first_again xs
-    ∙ sym (ap (λ (t : Bool). if not t then y else if is_no (first_no xs) then first_no xs else none) (eq-eqb y.number 0 (sym (ap (λ (r : Refusal). r.number) e) ∙ g)))
+    ∙ sym (ap (λ (t : Bool). when not t then y else when is_no (first_no xs) then first_no xs else none) (eq-eqb y.number 0 (sym (ap (λ (r : Refusal). r.number) e) ∙ g)))

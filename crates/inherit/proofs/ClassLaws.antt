@@ -4,7 +4,7 @@ use mathlib.Core.Bool.{Bool, true, false, not, ◌&&◌}
 use Prim.Native.Nat.{ℕ, ◌-◌}
 use lib.Dec.{leb}
 use borrow.Author.Tests.{eq-eqb, ne_eqb, eqb-true}
-use Rattle.definition.specs.Basics.{if◌then◌else◌}
+use Rattle.definition.specs.Basics.{when◌then◌else◌}
 use Rattle.definition.specs.Sheet.{Sheet, kind, is}
 use Rattle.definition.specs.Outside.{Outside}
 use Rattle.definition.specs.Classes.{of_sheet, has_record}
@@ -20,11 +20,11 @@ module _ (s : Sheet) (c : ℕ) where
 module _ (s : Sheet) (o : Store) (c : ℕ) where
   pub parent_stored : {w : ℕ} → w ≡ cell o.table (c - 256) 1 → of_sheet s c ≡ true → w ≡ parent_in s o c
   unfolding parent_in
-  parent_stored e h = e ∙ sym (ap (λ (t : Bool). if t then cell o.table (c - 256) 1 else 0) h)
+  parent_stored e h = e ∙ sym (ap (λ (t : Bool). when t then cell o.table (c - 256) 1 else 0) h)
 
   pub parent_none : of_sheet s c ≡ false → 0 ≡ parent_in s o c
   unfolding parent_in
-  parent_none h = sym (ap (λ (t : Bool). if t then cell o.table (c - 256) 1 else 0) h)
+  parent_none h = sym (ap (λ (t : Bool). when t then cell o.table (c - 256) 1 else 0) h)
 
 -- parents without a record
 pub lacks_some : (O : Outside) (s : Sheet) (c : ℕ) {h : Bool} → h ≡ has_record O s c → (c ≡ 0 → ⊥) → not h ≡ lacks_record O s c

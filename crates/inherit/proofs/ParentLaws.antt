@@ -8,7 +8,7 @@ use lib.Dec.{eqb, ltb}
 use lib.ListN.{length, get_or, set, take, replicate, length-map, length-replicate}
 use lib.Seq.{get_or-set_same, get_or-set_other, ext_get_or, length-take-le}
 use borrow.Author.Tests.{eq-eqb, ne_eqb, eqb-true, eqb-false, lt-ltb, le-ltb, le-leb}
-use Rattle.definition.specs.Basics.{if◌then◌else◌, filter, first, from, ◌∈?◌}
+use Rattle.definition.specs.Basics.{when◌then◌else◌, filter, first, from, ◌∈?◌}
 use Rattle.definition.specs.Sheet.{Sheet, a, rows, is}
 use Rattle.definition.specs.Outside.{Outside, is_recorded}
 use Rattle.definition.specs.Question.{Refusal, none, ask, first_no}
@@ -30,17 +30,17 @@ use Rattle.inherit.proofs.ClassLaws.{row_kind, parent_none}
 -- how a parent is told
 module _ (O : Outside) (s : Sheet) (c : ℕ) where
   pub number_row : of_sheet s c ≡ true → c - 256 ≡ parent_number O s c
-  number_row h = sym (ap (λ (t : Bool). if t then c - 256 else if lacks_record O s c then NO_RECORD else ENDS) h)
+  number_row h = sym (ap (λ (t : Bool). when t then c - 256 else when lacks_record O s c then NO_RECORD else ENDS) h)
 
   pub number_lacking : of_sheet s c ≡ false → lacks_record O s c ≡ true → NO_RECORD ≡ parent_number O s c
   number_lacking h g =
-      sym (ap (λ (t : Bool). if t then c - 256 else if lacks_record O s c then NO_RECORD else ENDS) h
-      ∙ ap (λ (t : Bool). if t then NO_RECORD else ENDS) g)
+      sym (ap (λ (t : Bool). when t then c - 256 else when lacks_record O s c then NO_RECORD else ENDS) h
+      ∙ ap (λ (t : Bool). when t then NO_RECORD else ENDS) g)
 
   pub number_ends : of_sheet s c ≡ false → lacks_record O s c ≡ false → ENDS ≡ parent_number O s c
   number_ends h g =
-      sym (ap (λ (t : Bool). if t then c - 256 else if lacks_record O s c then NO_RECORD else ENDS) h
-      ∙ ap (λ (t : Bool). if t then NO_RECORD else ENDS) g)
+      sym (ap (λ (t : Bool). when t then c - 256 else when lacks_record O s c then NO_RECORD else ENDS) h
+      ∙ ap (λ (t : Bool). when t then NO_RECORD else ENDS) g)
 
   row_recorded : of_sheet s c ≡ true → lacks_record O s c ≡ false
   row_recorded h = ap (λ (t : Bool). not (eqb c 0) && not (t || is_recorded O c)) h ∙ never (eqb c 0)
@@ -190,7 +190,7 @@ module _ (O : Outside) (s : Sheet) (o : Store) (w : 8 * rows s ≡ length s) (f 
 
   -- the first climb that does not end at the top, as the first no
   first_answer : (x y : Ending)
-      → refusal_at s (if not (is_top x) then x else y) ≡ (if not (eqb (refusal_at s x).number 0) then refusal_at s x else refusal_at s y)
+      → refusal_at s (when not (is_top x) then x else y) ≡ (when not (eqb (refusal_at s x).number 0) then refusal_at s x else refusal_at s y)
   first_answer Top y = refl
   first_answer (Circle c) y = refl
   first_answer (NoRecord c) y = refl
@@ -211,16 +211,16 @@ module _ (O : Outside) (s : Sheet) (o : Store) (w : 8 * rows s ≡ length s) (f 
       later = filter (is s 4) (from (suc r) n)
 
       go : (t : Bool) → is s 4 r ≡ t → refusal_at s rest ≡ first_no (map answer later)
-          → refusal_at s (if not (is_top (from_row r)) then from_row r else rest) ≡ first_no (map answer (if is s 4 r then r ∷ later else later))
+          → refusal_at s (when not (is_top (from_row r)) then from_row r else rest) ≡ first_no (map answer (when is s 4 r then r ∷ later else later))
       go true d i =
           first_answer (from_row r) rest
-          ∙ ap (λ (x : Refusal). if not (eqb x.number 0) then x else refusal_at s rest) (class_answer r d)
-          ∙ ap (λ (x : Refusal). if not (eqb (answer r).number 0) then answer r else x) i
-          ∙ sym (ap (λ (t : Bool). first_no (map answer (if t then r ∷ later else later))) d)
+          ∙ ap (λ (x : Refusal). when not (eqb x.number 0) then x else refusal_at s rest) (class_answer r d)
+          ∙ ap (λ (x : Refusal). when not (eqb (answer r).number 0) then answer r else x) i
+          ∙ sym (ap (λ (t : Bool). first_no (map answer (when t then r ∷ later else later))) d)
       go false d i =
-          ap (λ (x : Ending). refusal_at s (if not (is_top x) then x else rest)) (other_answer r (omega arith) d)
+          ap (λ (x : Ending). refusal_at s (when not (is_top x) then x else rest)) (other_answer r (omega arith) d)
           ∙ i
-          ∙ sym (ap (λ (t : Bool). first_no (map answer (if t then r ∷ later else later))) d)
+          ∙ sym (ap (λ (t : Bool). first_no (map answer (when t then r ∷ later else later))) d)
 
   -- the questions 18 and 19 of all classes, by the climbs over the run of parents
   pub classes_answer : {parents m m₂ : List ℕ} {x : Ending} → parents ≡ parent_numbers O s o → leaving x m₂ ≡ climbed_all parents m → Marked 0 m → length s ≤ 8 * length m

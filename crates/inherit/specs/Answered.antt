@@ -1,6 +1,6 @@
 -- The program's refusal as the definition's, and the run of parents that the climb goes over.
 use Rattle.std.specs.Prelude.{false, List, map, ℕ, ◌+◌, ◌-◌, ◌≤◌, get_or}
-use Rattle.definition.specs.Basics.{if◌then◌else◌, from}
+use Rattle.definition.specs.Basics.{when◌then◌else◌, from}
 use Rattle.definition.specs.Sheet.{Sheet, a, rows}
 use Rattle.definition.specs.Outside.{Outside}
 use Rattle.definition.specs.Classes.{of_sheet}
@@ -29,7 +29,7 @@ refusal_at s (NoRecord r) = ask 19 r (a s r) false
 
 -- how a run of parents tells parent c: by its row, or as one without a record, or as one that ends the climb
 abbrev pub parent_number : Outside → Sheet → ℕ → ℕ
-parent_number O s c = if of_sheet s c then c - 256 else if lacks_record O s c then NO_RECORD else ENDS
+parent_number O s c = when of_sheet s c then c - 256 else when lacks_record O s c then NO_RECORD else ENDS
 
 -- the run of parents of the classes of all rows, as stored
 abbrev pub parent_numbers : Outside → Sheet → Store → List ℕ

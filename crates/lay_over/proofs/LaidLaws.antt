@@ -8,7 +8,7 @@ use lib.ListN.{length, length-append}
 use lib.Seq.{sets, length-sets}
 use lib.Dec.{eqb, leb}
 use borrow.Author.Tests.{eq-eqb, ne_eqb, le-leb, lt-leb}
-use Rattle.definition.specs.Basics.{if◌then◌else◌, bit, concat_map}
+use Rattle.definition.specs.Basics.{when◌then◌else◌, bit, concat_map}
 use Rattle.definition.specs.Sheet.{Sheet, b}
 use Rattle.definition.specs.Meaning.{Meaning, Named, named, nothing, function, class, global, toplevel, variable}
 use Rattle.definition.specs.Answer.{raised_function, raised_class}
@@ -78,7 +78,7 @@ pub record Laying (w₀ : List ℕ) (place : ℕ) (s : Sheet) (v : List ℕ) (fi
 left_short : (s : Sheet) (n : ℕ) (v : List ℕ) (i : ℕ) → length (concat_map laid_words (left_in s n v i)) ≤ 4
 left_short s n v i = by (leb (entry_word v i 0) 1)
   where
-    by : (t : Bool) → length (concat_map laid_words (if t then [] else named (entry_word v i 1) (left_by s n (entry_word v i 0) (entry_word v i 2) (entry_word v i 3)) ∷ [])) ≤ 4
+    by : (t : Bool) → length (concat_map laid_words (when t then [] else named (entry_word v i 1) (left_by s n (entry_word v i 0) (entry_word v i 2) (entry_word v i 3)) ∷ [])) ≤ 4
     by true = omega arith
     by false = four (left_by s n (entry_word v i 0) (entry_word v i 2) (entry_word v i 3))
       where
@@ -132,7 +132,7 @@ pub record Counting (v : List ℕ) (first end i c : ℕ) : Type 0 where
 left_one : (s : Sheet) (n : ℕ) (v : List ℕ) (i : ℕ) → length (left_in s n v i) ≤ 1
 left_one s n v i = by (leb (entry_word v i 0) 1)
   where
-    by : (t : Bool) → length (if t then [] else named (entry_word v i 1) (left_by s n (entry_word v i 0) (entry_word v i 2) (entry_word v i 3)) ∷ []) ≤ 1
+    by : (t : Bool) → length (when t then [] else named (entry_word v i 1) (left_by s n (entry_word v i 0) (entry_word v i 2) (entry_word v i 3)) ∷ []) ≤ 1
     by true = omega arith
     by false = omega arith
 

@@ -5,7 +5,7 @@ use Prim.Native.Nat.{ℕ, zero, suc, ◌+◌, ◌*◌, ◌<◌, ◌≤◌}
 use native.Mathlib.Omega.{arith}
 use lib.Dec.{eqb, ltb, T}
 use lib.ListN.{length, get_or, set, length-set}
-use Rattle.definition.specs.Basics.{all, from, if◌then◌else◌, bit, count, concat_map}
+use Rattle.definition.specs.Basics.{all, from, when◌then◌else◌, bit, count, concat_map}
 use Rattle.definition.specs.Sheet.{Sheet, next, child, rows}
 use Rattle.definition.specs.Format.{links_rise, link_rises, linked_once, links}
 use Rattle.definition.proofs.Lists.Tests.{T_true, true_of, T_and, ℕ-trichotomy}
@@ -77,17 +77,17 @@ link_below s n size e r l =
 abbrev pub more : List ℕ → ℕ → List ℕ
 more seen x = set seen x (get_or seen x 0 + 1)
 
-more_at : (seen : List ℕ) (x k : ℕ) → x < length seen → get_or (more seen x) k 0 ≡ (if eqb k x then suc (get_or seen k 0) else get_or seen k 0)
+more_at : (seen : List ℕ) (x k : ℕ) → x < length seen → get_or (more seen x) k 0 ≡ (when eqb k x then suc (get_or seen k 0) else get_or seen k 0)
 more_at seen x k l = go (ℕ-trichotomy k x)
   where
-    other : (k ≡ x → ⊥) → get_or (more seen x) k 0 ≡ (if eqb k x then suc (get_or seen k 0) else get_or seen k 0)
-    other f = get_or-set_other seen x k (get_or seen x 0 + 1) 0 f ∙ ap (λ (t : Bool). if t then suc (get_or seen k 0) else get_or seen k 0) (sym (ne_eqb k x f))
+    other : (k ≡ x → ⊥) → get_or (more seen x) k 0 ≡ (when eqb k x then suc (get_or seen k 0) else get_or seen k 0)
+    other f = get_or-set_other seen x k (get_or seen x 0 + 1) 0 f ∙ ap (λ (t : Bool). when t then suc (get_or seen k 0) else get_or seen k 0) (sym (ne_eqb k x f))
 
-    go : (k < x) ⊎ ((k ≡ x) ⊎ (x < k)) → get_or (more seen x) k 0 ≡ (if eqb k x then suc (get_or seen k 0) else get_or seen k 0)
+    go : (k < x) ⊎ ((k ≡ x) ⊎ (x < k)) → get_or (more seen x) k 0 ≡ (when eqb k x then suc (get_or seen k 0) else get_or seen k 0)
     go (inl h) = other (λ e. omega arith)
     go (inr (inl e)) =
         ap (λ (j : ℕ). get_or (more seen x) j 0) e ∙ get_or-set_same seen x (get_or seen x 0 + 1) 0 l
-        ∙ omega (arith, ap (λ (j : ℕ). get_or seen j 0) e) ∙ ap (λ (t : Bool). if t then suc (get_or seen k 0) else get_or seen k 0) (sym (eq-eqb k x e))
+        ∙ omega (arith, ap (λ (j : ℕ). get_or seen j 0) e) ∙ ap (λ (t : Bool). when t then suc (get_or seen k 0) else get_or seen k 0) (sym (eq-eqb k x e))
     go (inr (inr h)) = other (λ e. omega arith)
 
 pub counted_more : (s : Sheet) (n r : ℕ) (seen : List ℕ) → Counted s n r seen → next s r < n → child s r < n → Counted s n (suc r) (more (more seen (next s r)) (child s r))
@@ -101,8 +101,8 @@ counted_more s n r seen c ln lc =
           ∙ sym (linked_suc s r k);
     }
   where
-    go : (t u : Bool) (g h m : ℕ) → g ≡ m → h ≡ (if t then suc g else g)
-        → (if u then suc h else h) ≡ m + (bit t + (bit u + 0))
+    go : (t u : Bool) (g h m : ℕ) → g ≡ m → h ≡ (when t then suc g else g)
+        → (when u then suc h else h) ≡ m + (bit t + (bit u + 0))
     go true true g h m e w = omega arith
     go true false g h m e w = omega arith
     go false true g h m e w = omega arith
@@ -114,7 +114,7 @@ counted_next s n r seen c ln lc = subst (λ (m : ℕ). Counted s n m (more (more
 pub more_le : (seen : List ℕ) (x k : ℕ) → x < length seen → get_or (more seen x) k 0 ≤ get_or seen k 0 + 1
 more_le seen x k l = omega (arith, more_at seen x k l, go (eqb k x))
   where
-    go : (t : Bool) → (if t then suc (get_or seen k 0) else get_or seen k 0) ≤ get_or seen k 0 + 1
+    go : (t : Bool) → (when t then suc (get_or seen k 0) else get_or seen k 0) ≤ get_or seen k 0 + 1
     go true = omega arith
     go false = omega arith
 

@@ -5,7 +5,7 @@ use mathlib.Core.Bool.{Bool, true, false, not}
 use Prim.Native.Nat.{suc}
 use lib.Dec.{eqb}
 use borrow.Author.Tests.{eq-eqb, ne_eqb}
-use Rattle.definition.specs.Basics.{if◌then◌else◌, filter}
+use Rattle.definition.specs.Basics.{when◌then◌else◌, filter}
 use Rattle.definition.specs.Sheet.{Sheet, rows}
 use Rattle.definition.specs.Outside.{Outside}
 use Rattle.definition.specs.Scope.{Moment, visited, visits, history}
@@ -24,9 +24,9 @@ calls_asked O s h (m ∷ ms) = go (eqb (constructed s (visited m.event) (open_on
     rest = filter (λ m. not (eqb (constructed s (visited m.event) (open_on s m.stack)) 0)) ms
 
     go : (t : Bool) → first_no (map (ask_constructor O s h) ms) ≡ first_no (map (check_call O s h) (map (call_node s) rest))
-        → first_no ((if t then none else check_call O s h (call_node s m)) ∷ map (ask_constructor O s h) ms) ≡ first_no (map (check_call O s h) (map (call_node s) (if not t then m ∷ rest else rest)))
+        → first_no ((when t then none else check_call O s h (call_node s m)) ∷ map (ask_constructor O s h) ms) ≡ first_no (map (check_call O s h) (map (call_node s) (when not t then m ∷ rest else rest)))
     go true i = i
-    go false i = ap (λ (x : Refusal). if not (eqb (check_call O s h (call_node s m)).number 0) then check_call O s h (call_node s m) else x) i
+    go false i = ap (λ (x : Refusal). when not (eqb (check_call O s h (call_node s m)).number 0) then check_call O s h (call_node s m) else x) i
 
 pub refused_in_walk : (O : Outside) (s : Sheet) → ((walk_refusal O s).number ≡ 0 → ⊥) → refusal O s (history O s) ≡ walk_refusal O s
 refused_in_walk O s e = rw (ne_eqb (walk_refusal O s).number 0 e)

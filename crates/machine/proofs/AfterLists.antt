@@ -8,7 +8,7 @@ use native.Mathlib.Omega.{arith}
 use lib.ListN.{length, get_or}
 use lib.Dec.{eqb, leb}
 use borrow.Author.Tests.{leb-true}
-use Rattle.definition.specs.Basics.{if◌then◌else◌, filter, any, distinct, concat_map, from}
+use Rattle.definition.specs.Basics.{when◌then◌else◌, filter, any, distinct, concat_map, from}
 use Rattle.definition.specs.Sheet.{Sheet, kind, is, a, child, kids_of, rows}
 use Rattle.definition.specs.Meaning.{Meaning, nothing, function, class, global, toplevel, variable, is_variable, row_of, owner_of}
 use Rattle.definition.specs.Outside.{Outside, record_of}
@@ -53,7 +53,7 @@ module _ {A : Type 0} where
   all_less p q al_none = al_none
   all_less p q (al_one {x} {xs} e h) = by (q x) (all_less p q h)
     where
-      by : (t : Bool) → All p (filter q xs) → All p (if t then x ∷ filter q xs else filter q xs)
+      by : (t : Bool) → All p (filter q xs) → All p (when t then x ∷ filter q xs else filter q xs)
       by true i = al_one e i
       by false i = i
 
@@ -100,7 +100,7 @@ module _ (O : Outside) (s : Sheet) (h : List Moment) (o : Store) (k : StoreAgree
   -- the own fields of class c, by slot
   pub fields_nodes : (c : ℕ) → c < length o.table / 8 → (c ≡ 0 → ⊥) → is s 4 c ≡ true → own_fields O s h (256 + c) ≡ distinct eqb (listed_fields s c) ++ map (λ y. y.key) (list_at o (8 * c + 7))
   fields_nodes c l nz e =
-      ap (λ (t : Bool). if t then distinct eqb (map (a s) (kids_of s 10 ((256 + c) - 256)) ++ registered s h ((256 + c) - 256)) else (record_of O (256 + c)).fields) (of_sheet_lem s c e)
+      ap (λ (t : Bool). when t then distinct eqb (map (a s) (kids_of s 10 ((256 + c) - 256)) ++ registered s h ((256 + c) - 256)) else (record_of O (256 + c)).fields) (of_sheet_lem s c e)
       ∙ ap (λ (j : ℕ). distinct eqb (map (a s) (kids_of s 10 j) ++ registered s h j)) (omega arith)
       ∙ k.fields_is c l nz
 
@@ -108,8 +108,8 @@ module _ (O : Outside) (s : Sheet) (h : List Moment) (o : Store) (k : StoreAgree
 range_same : (p q : ℕ → Bool) (i n : ℕ) → ((l : ℕ) → l < i + n → p l ≡ q l) → filter p (from i n) ≡ filter q (from i n)
 range_same p q i zero h = refl
 range_same p q i (suc n) h =
-    ap (λ (t : Bool). if t then i ∷ filter p (from (suc i) n) else filter p (from (suc i) n)) (h i (omega arith))
-    ∙ ap (λ (l : List ℕ). if q i then i ∷ l else l) (range_same p q (suc i) n (λ l g. h l (omega arith)))
+    ap (λ (t : Bool). when t then i ∷ filter p (from (suc i) n) else filter p (from (suc i) n)) (h i (omega arith))
+    ∙ ap (λ (l : List ℕ). when q i then i ∷ l else l) (range_same p q (suc i) n (λ l g. h l (omega arith)))
 
 any_all : {A : Type 0} (p f g : A → Bool) {xs : List A} → ((x : A) → p x ≡ true → f x ≡ g x) → All p xs → any f xs ≡ any g xs
 any_all p f g e al_none = refl
@@ -168,7 +168,7 @@ module _ (O : Outside) (s : Sheet) (hd : kind s 0 ≡ 0) (h : List Moment) (o : 
 
   filter_same' : (p q : ℕ → Bool) (xs : List ℕ) → ((x : ℕ) → p x ≡ q x) → filter p xs ≡ filter q xs
   filter_same' p q [] e = refl
-  filter_same' p q (x ∷ xs) e = ap (λ (t : Bool). if t then x ∷ filter p xs else filter p xs) (e x) ∙ ap (λ (l : List ℕ). if q x then x ∷ l else l) (filter_same' p q xs e)
+  filter_same' p q (x ∷ xs) e = ap (λ (t : Bool). when t then x ∷ filter p xs else filter p xs) (e x) ∙ ap (λ (l : List ℕ). when q x then x ∷ l else l) (filter_same' p q xs e)
 
   -- the escaping slots of function f, rising
   pub escaping_nodes : (f : ℕ) → f < length o.table / 8 → All (λ g. leb (suc g) (length o.table / 8)) (literals_in s o.table f)

@@ -8,7 +8,7 @@ use native.Mathlib.Omega.{arith}
 use lib.ListN.{length, get_or, take}
 use lib.Dec.{eqb}
 use borrow.Author.Tests.{ne_eqb, eqb-true, eqb-false}
-use Rattle.definition.specs.Basics.{if◌then◌else◌, filter, final, largest}
+use Rattle.definition.specs.Basics.{when◌then◌else◌, filter, final, largest}
 use Rattle.definition.specs.Sheet.{Sheet, kind, is, a, b, child}
 use Rattle.definition.specs.Outside.{Outside}
 use Rattle.definition.specs.Meaning.{class_number}
@@ -30,15 +30,15 @@ module _ {A : Type 0} where
   filter_same : (p q : A → Bool) (xs : List A) → ((x : A) → p x ≡ q x) → filter p xs ≡ filter q xs
   filter_same p q [] h = refl
   filter_same p q (x ∷ xs) h =
-      ap (λ (t : Bool). if t then x ∷ filter p xs else filter p xs) (h x)
-      ∙ ap (λ (l : List A). if q x then x ∷ l else l) (filter_same p q xs h)
+      ap (λ (t : Bool). when t then x ∷ filter p xs else filter p xs) (h x)
+      ∙ ap (λ (l : List A). when q x then x ∷ l else l) (filter_same p q xs h)
 
   filter_filter : (p q : A → Bool) (xs : List A) → filter p (filter q xs) ≡ filter (λ x. q x && p x) xs
   filter_filter p q [] = refl
   filter_filter p q (x ∷ xs) = go (q x) (p x) refl (filter_filter p q xs)
     where
       go : (t u : Bool) → p x ≡ u → filter p (filter q xs) ≡ filter (λ x. q x && p x) xs
-          → filter p (if t then x ∷ filter q xs else filter q xs) ≡ (if t && u then x ∷ filter (λ x. q x && p x) xs else filter (λ x. q x && p x) xs)
+          → filter p (when t then x ∷ filter q xs else filter q xs) ≡ (when t && u then x ∷ filter (λ x. q x && p x) xs else filter (λ x. q x && p x) xs)
       go true true e i = rw e (ap (λ (l : List A). x ∷ l) i)
       go true false e i = rw e i
       go false u e i = i
@@ -51,7 +51,7 @@ module _ {A : Type 0} where
   all_filter p [] = al_none
   all_filter p (x ∷ xs) = go (p x) refl (all_filter p xs)
     where
-      go : (t : Bool) → p x ≡ t → All p (filter p xs) → All p (if t then x ∷ filter p xs else filter p xs)
+      go : (t : Bool) → p x ≡ t → All p (filter p xs) → All p (when t then x ∷ filter p xs else filter p xs)
       go true e i = al_one e i
       go false e i = i
 
@@ -102,7 +102,7 @@ zero_apart : (r : ℕ) → (r ≡ 0 → ⊥) → eqb 0 r ≡ false
 zero_apart r nz = ne_eqb 0 r (λ e. nz (sym e))
 
 -- a call with a receiver has a member as its callee
-receiver_member : (t u : Bool) (c : ℕ) → not (eqb (if t && u then c else 0) 0) ≡ true → t ≡ true
+receiver_member : (t u : Bool) (c : ℕ) → not (eqb (when t && u then c else 0) 0) ≡ true → t ≡ true
 receiver_member true u c h = refl
 receiver_member false u c h = absurd (true≢false (sym h))
 
@@ -111,7 +111,7 @@ abbrev own_row_kind : Sheet → ℕ → Bool
 own_row_kind s k = is s 50 k || is s 51 k || is s 52 k || is s 55 k
 
 -- the row that a visit of k writes, compared with row r
-shape : (v c m : Bool) (k x y r : ℕ) → eqb (if v then k else if c then x else if m then y else 0) r ≡ (if v then eqb k r else if c then eqb x r else if m then eqb y r else eqb 0 r)
+shape : (v c m : Bool) (k x y r : ℕ) → eqb (when v then k else when c then x else when m then y else 0) r ≡ (when v then eqb k r else when c then eqb x r else when m then eqb y r else eqb 0 r)
 shape true c m k x y r = refl
 shape false true m k x y r = refl
 shape false false true k x y r = refl
@@ -131,7 +131,7 @@ module _ (s : Sheet) (r K : ℕ) (hr : is s K r ≡ true) (nz : r ≡ 0 → ⊥)
 
   -- a row that is no class and no member is written by no class declaration and no call
   rest_false : (k : ℕ) (st : Stack) → eqb 4 K ≡ false → eqb 54 K ≡ false → (c m : Bool) → (is s 30 k && is s 4 (a s k)) ≡ c → (is s 59 k && not (eqb (receiver s k (open_on s st)) 0)) ≡ m
-      → (if c then eqb (a s k) r else if m then eqb (child s k) r else eqb 0 r) ≡ false
+      → (when c then eqb (a s k) r else when m then eqb (child s k) r else eqb 0 r) ≡ false
   rest_false k st n₄ n₅₄ true m ec em = kinds_apart s (a s k) r 4 K (and_right (is s 30 k) (is s 4 (a s k)) ec) hr n₄
     where
       and_right : (x y : Bool) → (x && y) ≡ true → y ≡ true
@@ -155,16 +155,16 @@ module _ (s : Sheet) (r K : ℕ) (hr : is s K r ≡ true) (nz : r ≡ 0 → ⊥)
   target_visit n₂₉ n₄ n₅₄ f loop st = refl
   target_visit n₂₉ n₄ n₅₄ f (declare k) st = go (is s 29 k) refl
     where
-      go : (t : Bool) → is s 29 k ≡ t → eqb (if t || false || false || false || false then k else 0) r ≡ eqb 0 r
+      go : (t : Bool) → is s 29 k ≡ t → eqb (when t || false || false || false || false then k else 0) r ≡ eqb 0 r
       go true e = kinds_apart s k r 29 K e hr n₂₉ ∙ sym (zero_apart r nz)
       go false e = refl
   target_visit n₂₉ n₄ n₅₄ f (bring k n d) st = refl
   target_visit n₂₉ n₄ n₅₄ f (visit k) st =
       shape (own_row_kind s k) (is s 30 k && is s 4 (a s k)) (is s 59 k && not (eqb (receiver s k (open_on s st)) 0)) k (a s k) (child s k) r
-      ∙ ap (λ (t : Bool). if own_row_kind s k then eqb k r else t) (rest_false k st n₄ n₅₄ (is s 30 k && is s 4 (a s k)) (is s 59 k && not (eqb (receiver s k (open_on s st)) 0)) refl refl)
+      ∙ ap (λ (t : Bool). when own_row_kind s k then eqb k r else t) (rest_false k st n₄ n₅₄ (is s 30 k && is s 4 (a s k)) (is s 59 k && not (eqb (receiver s k (open_on s st)) 0)) refl refl)
       ∙ go (own_row_kind s k) refl
     where
-      go : (v : Bool) → own_row_kind s k ≡ v → (if v then eqb k r else false) ≡ eqb k r
+      go : (v : Bool) → own_row_kind s k ≡ v → (when v then eqb k r else false) ≡ eqb k r
       go true e = refl
       go false e = sym (when_false (own_row_kind s k) (eqb k r) (λ q. f k (same_row k 0 q)) e)
 
@@ -176,7 +176,7 @@ module _ (s : Sheet) (r K : ℕ) (hr : is s K r ≡ true) (nz : r ≡ 0 → ⊥)
   target_let is₂₉ n₄ n₅₄ f loop st = refl
   target_let is₂₉ n₄ n₅₄ f (declare k) st = go (is s 29 k) refl
     where
-      go : (t : Bool) → is s 29 k ≡ t → eqb (if t || false || false || false || false then k else 0) r ≡ eqb k r
+      go : (t : Bool) → is s 29 k ≡ t → eqb (when t || false || false || false || false then k else 0) r ≡ eqb k r
       go true e = refl
       go false e =
           zero_apart r nz
@@ -184,10 +184,10 @@ module _ (s : Sheet) (r K : ℕ) (hr : is s K r ≡ true) (nz : r ≡ 0 → ⊥)
   target_let is₂₉ n₄ n₅₄ f (bring k n d) st = refl
   target_let is₂₉ n₄ n₅₄ f (visit k) st =
       shape (own_row_kind s k) (is s 30 k && is s 4 (a s k)) (is s 59 k && not (eqb (receiver s k (open_on s st)) 0)) k (a s k) (child s k) r
-      ∙ ap (λ (t : Bool). if own_row_kind s k then eqb k r else t) (rest_false k st n₄ n₅₄ (is s 30 k && is s 4 (a s k)) (is s 59 k && not (eqb (receiver s k (open_on s st)) 0)) refl refl)
+      ∙ ap (λ (t : Bool). when own_row_kind s k then eqb k r else t) (rest_false k st n₄ n₅₄ (is s 30 k && is s 4 (a s k)) (is s 59 k && not (eqb (receiver s k (open_on s st)) 0)) refl refl)
       ∙ go (own_row_kind s k) refl (eqb k r) refl ∙ sym (zero_apart r nz)
     where
-      go : (v : Bool) → own_row_kind s k ≡ v → (t : Bool) → eqb k r ≡ t → (if v then t else false) ≡ false
+      go : (v : Bool) → own_row_kind s k ≡ v → (t : Bool) → eqb k r ≡ t → (when v then t else false) ≡ false
       go true e true q = sym e ∙ f k (same_row k 0 q)
       go true e false q = refl
       go false e t q = refl
@@ -225,9 +225,9 @@ module _ (O : Outside) (s : Sheet) (h : List Moment) (o : Store) (k : StoreAgree
   identifier_words hr = visit_row 50 (λ m. with_distance (distance (use_at s m)) (seen_from s h (within s m) (use_at s m))) hr refl refl refl (λ k q. rw q) (λ z. rw hr)
 
   -- a host constant, an instanceof: the definition's row
-  pub host_words : is s 51 r ≡ true → map (λ m. four_words ((if eqb (within s m) (b s 0) then 7 else 8) ∷ [])) (visit_of h r) ≡ map (λ m. row_words o.table r) (visit_of h r)
+  pub host_words : is s 51 r ≡ true → map (λ m. four_words ((when eqb (within s m) (b s 0) then 7 else 8) ∷ [])) (visit_of h r) ≡ map (λ m. row_words o.table r) (visit_of h r)
   host_words hr =
-      visit_row 51 (λ m. (if eqb (within s m) (b s 0) then 7 else 8) ∷ []) hr refl refl refl (λ k q. rw (other_kind s k 51 50 q refl, q)) (λ z. rw (other_kind s r 51 50 hr refl, hr))
+      visit_row 51 (λ m. (when eqb (within s m) (b s 0) then 7 else 8) ∷ []) hr refl refl refl (λ k q. rw (other_kind s k 51 50 q refl, q)) (λ z. rw (other_kind s r 51 50 hr refl, hr))
 
   pub instance_words : is s 55 r ≡ true → map (λ m. four_words (2 ∷ class_number (lookup (a s r) m.stack) ∷ [])) (visit_of h r) ≡ map (λ m. row_words o.table r) (visit_of h r)
   instance_words hr =
@@ -275,10 +275,10 @@ module _ (s : Sheet) (hd : kind s 0 ≡ 0) (r K : ℕ) (hr : is s K r ≡ true) 
   none_visited : (J : ℕ) → eqb 0 J ≡ false → is s J 0 ≡ false
   none_visited J n = ap (λ (j : ℕ). eqb j J) hd ∙ n
 
-  declare_apart : (k : ℕ) → eqb 29 K ≡ false → eqb (if is s 29 k || false || false || false || false then k else 0) r ≡ false
+  declare_apart : (k : ℕ) → eqb 29 K ≡ false → eqb (when is s 29 k || false || false || false || false then k else 0) r ≡ false
   declare_apart k n = go (is s 29 k) refl
     where
-      go : (t : Bool) → is s 29 k ≡ t → eqb (if t || false || false || false || false then k else 0) r ≡ false
+      go : (t : Bool) → is s 29 k ≡ t → eqb (when t || false || false || false || false then k else 0) r ≡ false
       go true e = kinds_apart s k r 29 K e hr n
       go false e = zero_apart r nz
 
@@ -303,7 +303,7 @@ target_class s hd r hr nz (visit k) st =
     ∙ go (own_row_kind s k) refl (is s 30 k) refl (is s 4 (a s k)) refl (is s 59 k && not (eqb (receiver s k (open_on s st)) 0)) refl
   where
     go : (v : Bool) → own_row_kind s k ≡ v → (c : Bool) → is s 30 k ≡ c → (d : Bool) → is s 4 (a s k) ≡ d → (m : Bool) → (is s 59 k && not (eqb (receiver s k (open_on s st)) 0)) ≡ m
-        → (if v then eqb k r else if c && d then eqb (a s k) r else if m then eqb (child s k) r else eqb 0 r) ≡ (c && eqb (a s k) r)
+        → (when v then eqb k r else when c && d then eqb (a s k) r else when m then eqb (child s k) r else eqb 0 r) ≡ (c && eqb (a s k) r)
     go true ev true ec d ed m em = absurd (true≢false (sym ev ∙ four_false s k 30 ec refl refl refl refl))
     go true ev false ec d ed m em = own_row_apart s hd r 4 hr nz k (λ j q. four_false s j 4 q refl refl refl refl) true ev refl
     go false ev true ec true ed m em = refl
@@ -343,7 +343,7 @@ target_member s hd r hr nz (visit k) st =
     right false y e = absurd (true≢false (sym e))
 
     go : (v : Bool) → own_row_kind s k ≡ v → (c : Bool) → (is s 30 k && is s 4 (a s k)) ≡ c → (t : Bool) → is s 59 k ≡ t → (u : Bool)
-        → (if v then eqb k r else if c then eqb (a s k) r else if t && u then eqb (child s k) r else eqb 0 r) ≡ (t && u && eqb (child s k) r)
+        → (when v then eqb k r else when c then eqb (a s k) r else when t && u then eqb (child s k) r else eqb 0 r) ≡ (t && u && eqb (child s k) r)
     go true ev c ec true et u = absurd (true≢false (sym ev ∙ four_false s k 59 et refl refl refl refl))
     go true ev c ec false et u = own_row_apart s hd r 54 hr nz k (λ j q. four_false s j 54 q refl refl refl refl) true ev refl
     go false ev true ec true et u = absurd (true≢false (sym (left (is s 30 k) (is s 4 (a s k)) ec) ∙ other_kind s k 59 30 et refl))
@@ -392,7 +392,7 @@ module _ (O : Outside) (s : Sheet) (hd : kind s 0 ≡ 0) (h : List Moment) (o : 
   unfolding row_words
   parent_word hr =
       out (final_short (filter P h))
-      ∙ sym (ap (λ (t : Bool). if t then largest (final (map g (filter (λ m. eqb (a s (visited m.event)) ((256 + r) - 256)) (visits s h 30)))) else 0) (of_sheet_lem s r hr)
+      ∙ sym (ap (λ (t : Bool). when t then largest (final (map g (filter (λ m. eqb (a s (visited m.event)) ((256 + r) - 256)) (visits s h 30)))) else 0) (of_sheet_lem s r hr)
       ∙ ap (λ (j : ℕ). largest (final (map (λ m. class_number (lookup (b s j) m.stack)) (filter (λ m. eqb (a s (visited m.event)) j) (visits s h 30))))) (omega arith)
       ∙ ap largest (final_map (λ m. class_number (lookup (b s r) m.stack)) (filter (λ m. eqb (a s (visited m.event)) r) (visits s h 30))
       ∙ ap (λ (ms : List Moment). map (λ m. class_number (lookup (b s r) m.stack)) (final ms)) (filter_filter (λ m. eqb (a s (visited m.event)) r) (λ m. is s 30 (visited m.event)) h)))

@@ -7,7 +7,7 @@ use native.Mathlib.Omega.{arith}
 use lib.ListN.{length, get_or, take}
 use lib.Dec.{eqb, leb}
 use borrow.Author.Tests.{leb-true}
-use Rattle.definition.specs.Basics.{if◌then◌else◌, filter, place, concat_map, from, bit, head}
+use Rattle.definition.specs.Basics.{when◌then◌else◌, filter, place, concat_map, from, bit, head}
 use Rattle.definition.specs.Sheet.{Sheet, kind, is, a, b, child, kids_of, rows}
 use Rattle.definition.specs.Outside.{Outside}
 use Rattle.definition.specs.Meaning.{Meaning, nothing, function, class, global, toplevel, variable, is_variable, owner_of, class_number, is_class}
@@ -36,11 +36,11 @@ eight_full r (x ∷ y ∷ z ∷ w ∷ v ∷ vs) h = let l : length (x ∷ y ∷ 
 own_distance : (u : Use) → (is_variable u.means && not (eqb (owner_of u.means) (head u.funs))) ≡ false → distance u ≡ 0
 own_distance u = go (is_variable u.means) u.funs
   where
-    go : (v : Bool) (fs : List ℕ) → (v && not (eqb (owner_of u.means) (head fs))) ≡ false → (if v then place (eqb (owner_of u.means)) fs else 0) ≡ 0
+    go : (v : Bool) (fs : List ℕ) → (v && not (eqb (owner_of u.means) (head fs))) ≡ false → (when v then place (eqb (owner_of u.means)) fs else 0) ≡ 0
     go true [] q = refl
     go true (f ∷ fs) q = here (eqb (owner_of u.means) f) q
       where
-        here : (t : Bool) → not t ≡ false → (if t then 0 else suc (place (eqb (owner_of u.means)) fs)) ≡ 0
+        here : (t : Bool) → not t ≡ false → (when t then 0 else suc (place (eqb (owner_of u.means)) fs)) ≡ 0
         here true q = refl
         here false q = absurd (true≢false q)
     go false fs q = refl
@@ -55,7 +55,7 @@ code_own s h (toplevel r) k = (refl, refl)
 code_own s h (variable r f) k = go (is s 11 r)
   where
     own_code : Bool → List ℕ
-    own_code t = if t then 4 ∷ place (eqb r) (kids_of s 11 f) ∷ f ∷ [] else 5 ∷ k ∷ f ∷ bit (eqb (b s r) 1) ∷ []
+    own_code t = when t then 4 ∷ place (eqb r) (kids_of s 11 f) ∷ f ∷ [] else 5 ∷ k ∷ f ∷ bit (eqb (b s r) 1) ∷ []
 
     go : (t : Bool) → (eqb (get_or (own_code t) 0 0) 6 ≡ false) × (eqb (get_or (four_words (own_code t)) 0 0) 6 ≡ false)
     go true = (refl, refl)
@@ -71,7 +71,7 @@ identifier_full s h r u = go (is_variable u.means && not (eqb (owner_of u.means)
     own = code s h u.means u.slot
 
     seen : Bool → List ℕ
-    seen t = if t then 6 ∷ place (same u) (captures s h (head u.funs)) ∷ 0 ∷ bit (is_mutable s u.means) ∷ [] else own
+    seen t = when t then 6 ∷ place (same u) (captures s h (head u.funs)) ∷ 0 ∷ bit (is_mutable s u.means) ∷ [] else own
 
     go : (t : Bool) → (t ≡ false → distance u ≡ 0) → eight (r ∷ with_fourth (distance u) (seen t)) ≡ identifier_answer r (four_words (with_distance (distance u) (seen t)))
     go true z = refl
@@ -102,7 +102,7 @@ module _ (O : Outside) (s : Sheet) (h : List Moment) (o : Store) (k : StoreAgree
 
   -- an identifier, if the machine hides it where the definition does
   pub identifier_written : is s 50 r ≡ true → (m : Moment) → visit_of h r ≡ m ∷ [] → is_hidden s h r ≡ (is_callee_base s r && is_class (use_at s m).means)
-      → map (λ vs. eight (r ∷ vs)) (identifier_row s h r) ≡ (if eqb (cell o.table r 4) 0 then identifier_answer r (row_words o.table r) ∷ [] else [])
+      → map (λ vs. eight (r ∷ vs)) (identifier_row s h r) ≡ (when eqb (cell o.table r 4) 0 then identifier_answer r (row_words o.table r) ∷ [] else [])
   identifier_written hr m e eh =
       ap (λ (ms : List Moment). map (λ vs. eight (r ∷ vs)) (map seen (filter (λ m. not (is_callee_base s r && is_class (use_at s m).means)) ms))) e
       ∙ go (is_callee_base s r && is_class (use_at s m).means) (k.hidden_is r l ∙ ap bit eh)
@@ -120,15 +120,15 @@ module _ (O : Outside) (s : Sheet) (h : List Moment) (o : Store) (k : StoreAgree
       one = ap (λ (x : List ℕ). x ∷ []) (identifier_full s h r (use_at s m)) ∙ ap (map (identifier_answer r)) words
 
       go : (t : Bool) → cell o.table r 4 ≡ bit t
-          → map (λ vs. eight (r ∷ vs)) (map seen (if not t then m ∷ [] else []))
-          ≡ (if eqb (cell o.table r 4) 0 then identifier_answer r (row_words o.table r) ∷ [] else [])
+          → map (λ vs. eight (r ∷ vs)) (map seen (when not t then m ∷ [] else []))
+          ≡ (when eqb (cell o.table r 4) 0 then identifier_answer r (row_words o.table r) ∷ [] else [])
       go true c = rw c
       go false c = rw c one
 
   pub host_written : is s 51 r ≡ true → (m : Moment) → visit_of h r ≡ m ∷ [] → map (λ vs. eight (r ∷ vs)) (host_row s h r) ≡ answer_row r (row_words o.table r) ∷ []
   host_written hr m e =
-      whole r (all_map (λ m. (if eqb (within s m) (b s 0) then 7 else 8) ∷ []) (λ m. refl) (visit_of h r))
-      ∙ ap (map (answer_row r)) (once (λ m. (if eqb (within s m) (b s 0) then 7 else 8) ∷ []) (row_words o.table r) (visit_of h r) m e (host_words O s h o k r nz l hr))
+      whole r (all_map (λ m. (when eqb (within s m) (b s 0) then 7 else 8) ∷ []) (λ m. refl) (visit_of h r))
+      ∙ ap (map (answer_row r)) (once (λ m. (when eqb (within s m) (b s 0) then 7 else 8) ∷ []) (row_words o.table r) (visit_of h r) m e (host_words O s h o k r nz l hr))
 
   pub instance_written : is s 55 r ≡ true → (m : Moment) → visit_of h r ≡ m ∷ [] → map (λ vs. eight (r ∷ vs)) (instance_row s h r) ≡ answer_row r (row_words o.table r) ∷ []
   instance_written hr m e =

@@ -6,7 +6,7 @@ use Prim.Native.Nat.{ℕ, suc, ◌+◌, ◌*◌}
 use native.Mathlib.Omega.{arith}
 use lib.Dec.{eqb}
 use borrow.Author.Tests.{ne_eqb, eq-eqb}
-use Rattle.definition.specs.Basics.{if◌then◌else◌, ◌∈?◌}
+use Rattle.definition.specs.Basics.{when◌then◌else◌, ◌∈?◌}
 use Rattle.definition.specs.Sheet.{Sheet, kind, is, a, b, child, kids_of}
 use Rattle.definition.specs.Outside.{Outside}
 use Rattle.definition.specs.Meaning.{Meaning, row_of, owner_of, class_number}
@@ -43,7 +43,7 @@ module _ (O : Outside) (s : Sheet) (p : Scopes) (o : Store) where
   pub store_let : (r : ℕ) → kind s r ≡ 29
       → step_store O s (declare r) p o
       ≡ write_row_at r (code_of s (new_meaning s r p) p.slot p.next_global)
-      (if is_local s (new_meaning s r p) then raise_locals (current_function p) (one_more p.slot) o else o)
+      (when is_local s (new_meaning s r p) then raise_locals (current_function p) (one_more p.slot) o else o)
   unfolding step_store store_row store_hidden store_local store_capture store_field store_call
   store_let r e = rw e
 
@@ -56,7 +56,7 @@ module _ (O : Outside) (s : Sheet) (p : Scopes) (o : Store) where
   pub store_identifier : (r : ℕ) → kind s r ≡ 50
       → (x : Store)
       → x
-      ≡ (if is_outer_variable (lookup_meaning p (a s r)) (current_function p)
+      ≡ (when is_outer_variable (lookup_meaning p (a s r)) (current_function p)
       then add_capture (open_functions s p) (record {
         key = row_of (lookup_meaning p (a s r));
         one = owner_of (lookup_meaning p (a s r));
@@ -70,7 +70,7 @@ module _ (O : Outside) (s : Sheet) (p : Scopes) (o : Store) where
   store_identifier r e x q = rw (e, q)
 
   -- a host constant, a literal, an instanceof
-  pub store_host : (r : ℕ) → kind s r ≡ 51 → step_store O s (visit r) p o ≡ write_row_at r ((if eqb (current_function p) (b s 0) then 7 else 8) ∷ []) o
+  pub store_host : (r : ℕ) → kind s r ≡ 51 → step_store O s (visit r) p o ≡ write_row_at r ((when eqb (current_function p) (b s 0) then 7 else 8) ∷ []) o
   unfolding step_store store_row store_hidden store_local store_capture store_field store_call
   store_host r e = rw e
 
@@ -85,25 +85,25 @@ module _ (O : Outside) (s : Sheet) (p : Scopes) (o : Store) where
   -- an assignment
   pub store_assign : (r : ℕ) → kind s r ≡ 21
       → step_store O s (visit r) p o
-      ≡ (if is s 54 (child s r) && not (eqb (class_of s (current_function p)) 0) && not (a s (child s r) ∈? map (a s) (kids_of s 10 (class_of s (current_function p))))
+      ≡ (when is s 54 (child s r) && not (eqb (class_of s (current_function p)) 0) && not (a s (child s r) ∈? map (a s) (kids_of s 10 (class_of s (current_function p))))
       then add_new (8 * class_of s (current_function p) + 7) (field_node (a s (child s r))) o else o)
   unfolding step_store store_row store_hidden store_local store_capture store_field store_call
   store_assign r e = rw e
 
   -- a class declaration
-  pub store_class : (r : ℕ) → kind s r ≡ 30 → step_store O s (visit r) p o ≡ (if is s 4 (a s r) then write_row_at (a s r) (2 ∷ class_number (lookup_meaning p (b s (a s r))) ∷ []) o else o)
+  pub store_class : (r : ℕ) → kind s r ≡ 30 → step_store O s (visit r) p o ≡ (when is s 4 (a s r) then write_row_at (a s r) (2 ∷ class_number (lookup_meaning p (b s (a s r))) ∷ []) o else o)
   unfolding step_store store_row store_hidden store_local store_capture store_field store_call
   store_class r e = rw e (go (is s 4 (a s r)))
     where
-      go : (t : Bool) → (if eqb (if t then a s r else 0) 0 then o else write_row (if t then a s r else 0) (2 ∷ class_number (lookup_meaning p (b s (a s r))) ∷ []) o)
-          ≡ (if t then write_row_at (a s r) (2 ∷ class_number (lookup_meaning p (b s (a s r))) ∷ []) o else o)
+      go : (t : Bool) → (when eqb (when t then a s r else 0) 0 then o else write_row (when t then a s r else 0) (2 ∷ class_number (lookup_meaning p (b s (a s r))) ∷ []) o)
+          ≡ (when t then write_row_at (a s r) (2 ∷ class_number (lookup_meaning p (b s (a s r))) ∷ []) o else o)
       go true = refl
       go false = refl
 
   -- a call: of a class, as its constructor; of a method on a class; any other
   pub store_construct : (r : ℕ) → kind s r ≡ 59 → kind s (child s r) ≡ 50
       → step_store O s (visit r) p o
-      ≡ (if not (eqb (class_number (lookup_meaning p (a s (child s r)))) 0)
+      ≡ (when not (eqb (class_number (lookup_meaning p (a s (child s r)))) 0)
       then append_call (record { key = r; one = class_number (lookup_meaning p (a s (child s r))); two = 0 }) o
       else o)
   unfolding step_store store_row store_hidden store_local store_capture store_field store_call
@@ -111,18 +111,18 @@ module _ (O : Outside) (s : Sheet) (p : Scopes) (o : Store) where
 
   pub store_method : (r : ℕ) → kind s r ≡ 59 → kind s (child s r) ≡ 54
       → step_store O s (visit r) p o
-      ≡ (if not (eqb (receiver_class s r p) 0)
+      ≡ (when not (eqb (receiver_class s r p) 0)
       then write_row_at (child s r) (1 ∷ method_named (a s (child s r)) (own_methods O s (receiver_class s r p)) ∷ []) (mark_hidden (child s (child s r)) o) else o)
   unfolding step_store store_row store_hidden store_local store_capture store_field store_call
-  store_method r e f = rw (e, f) (go (not (eqb (if is s 50 (child s (child s r)) then class_number (lookup_meaning p (a s (child s (child s r)))) else 0) 0)))
+  store_method r e f = rw (e, f) (go (not (eqb (when is s 50 (child s (child s r)) then class_number (lookup_meaning p (a s (child s (child s r)))) else 0) 0)))
     where
       vs : List ℕ
-      vs = 1 ∷ method_named (a s (child s r)) (own_methods O s (if is s 50 (child s (child s r)) then class_number (lookup_meaning p (a s (child s (child s r)))) else 0)) ∷ []
+      vs = 1 ∷ method_named (a s (child s r)) (own_methods O s (when is s 50 (child s (child s r)) then class_number (lookup_meaning p (a s (child s (child s r)))) else 0)) ∷ []
 
       go : (t : Bool)
-          → (if eqb (if t then child s r else 0) 0 then (if t then mark_hidden (child s (child s r)) o else o)
-          else write_row (if t then child s r else 0) vs (if t then mark_hidden (child s (child s r)) o else o))
-          ≡ (if t then write_row_at (child s r) vs (mark_hidden (child s (child s r)) o) else o)
+          → (when eqb (when t then child s r else 0) 0 then (when t then mark_hidden (child s (child s r)) o else o)
+          else write_row (when t then child s r else 0) vs (when t then mark_hidden (child s (child s r)) o else o))
+          ≡ (when t then write_row_at (child s r) vs (mark_hidden (child s (child s r)) o) else o)
       go true = refl
       go false = refl
 

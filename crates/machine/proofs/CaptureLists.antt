@@ -7,7 +7,7 @@ use native.Mathlib.Omega.{arith}
 use lib.ListN.{length, get_or}
 use lib.Dec.{eqb}
 use borrow.Author.Tests.{ne_eqb, eqb-true, eqb-false}
-use Rattle.definition.specs.Basics.{if◌then◌else◌, ◌∈?◌}
+use Rattle.definition.specs.Basics.{when◌then◌else◌, ◌∈?◌}
 use Rattle.definition.specs.Capture.{beyond}
 use Rattle.machine.specs.Machine.{node_room, Node, Store, list_at, has_key, append_node, add_capture}
 use Rattle.machine.proofs.Lists.{eqb_same, eqb_self}
@@ -19,7 +19,7 @@ before_in : (w f : ℕ) (gs : List ℕ) → is_before w gs f ≡ true → (f ∈
 before_in w f [] h = h
 before_in w f (g ∷ gs) h = go (eqb g w) (eqb g f) refl h (before_in w f gs)
   where
-    go : (t u : Bool) → eqb g f ≡ u → (if t then false else (u || is_before w gs f)) ≡ true → (is_before w gs f ≡ true → (f ∈? gs) ≡ true) → (eqb f g || f ∈? gs) ≡ true
+    go : (t u : Bool) → eqb g f ≡ u → (when t then false else (u || is_before w gs f)) ≡ true → (is_before w gs f ≡ true → (f ∈? gs) ≡ true) → (eqb f g || f ∈? gs) ≡ true
     go true u e k i = absurd (true≢false (sym k))
     go false true e k i = rw (eqb_same f g ∙ e)
     go false false e k i = or_right (eqb f g) (i k)
@@ -54,10 +54,10 @@ module _ (g : ℕ) (gs : List ℕ) (x : Node) (o : Store) (f : ℕ) (out : (g �
       ∙ k j (or_right (eqb j g) i) (rw (ne_eqb g j nj) b) (rw (e, ne_eqb g f nf) l) (sym (ap (has_key x.key) (append_other g x o low j nj)) ∙ q)
 
   stopped : eqb g x.one ≡ false → eqb g f ≡ false → has_key x.key (list_at o (8 * g + 6)) ≡ true → HasFurther (g ∷ gs) x o f
-      → list_at o (8 * f + 6) ≡ (if is_before x.one gs f then add_key x (list_at o (8 * f + 6)) else list_at o (8 * f + 6))
+      → list_at o (8 * f + 6) ≡ (when is_before x.one gs f then add_key x (list_at o (8 * f + 6)) else list_at o (8 * f + 6))
   stopped e d h k = by (is_before x.one gs f) refl
     where
-      by : (t : Bool) → is_before x.one gs f ≡ t → list_at o (8 * f + 6) ≡ (if t then add_key x (list_at o (8 * f + 6)) else list_at o (8 * f + 6))
+      by : (t : Bool) → is_before x.one gs f ≡ t → list_at o (8 * f + 6) ≡ (when t then add_key x (list_at o (8 * f + 6)) else list_at o (8 * f + 6))
       by true l = sym (add_there x (list_at o (8 * f + 6)) (k g (rw (eqb_self g)) (rw (eqb_self g) (before_in x.one f gs l)) (rw (e, d) l) h))
       by false l = refl
 
@@ -71,7 +71,7 @@ module _ (g : ℕ) (gs : List ℕ) (x : Node) (o : Store) (f : ℕ) (out : (g �
 -- the list of function f
 pub add_capture_list : (fs : List ℕ) (x : Node) (o : Store) (f : ℕ) → Distinct fs → o.used + length fs ≤ node_room o.nodes → f < length o.table / 8
     → ((g : ℕ) → get_or o.table (8 * g + 6) 0 ≤ o.used) → HasFurther fs x o f
-    → list_at (add_capture fs x o) (8 * f + 6) ≡ (if is_before x.one fs f then add_key x (list_at o (8 * f + 6)) else list_at o (8 * f + 6))
+    → list_at (add_capture fs x o) (8 * f + 6) ≡ (when is_before x.one fs f then add_key x (list_at o (8 * f + 6)) else list_at o (8 * f + 6))
 unfolding add_capture
 add_capture_list [] x o f d room h low k = refl
 add_capture_list (g ∷ gs) x o f (a_one out d) room h low k =
@@ -86,11 +86,11 @@ add_capture_list (g ∷ gs) x o f (a_one out d) room h low k =
     go : (t u v : Bool) → eqb g x.one ≡ t → has_key x.key (list_at o (8 * g + 6)) ≡ u → eqb g f ≡ v
         → (HasFurther gs x (append_node (8 * g + 6) x o) f
         → list_at (add_capture gs x (append_node (8 * g + 6) x o)) (8 * f + 6)
-        ≡ (if is_before x.one gs f then add_key x (list_at (append_node (8 * g + 6) x o) (8 * f + 6))
+        ≡ (when is_before x.one gs f then add_key x (list_at (append_node (8 * g + 6) x o) (8 * f + 6))
         else list_at (append_node (8 * g + 6) x o) (8 * f + 6)))
         → o.used < node_room o.nodes
-        → list_at (if t || u then o else add_capture gs x (append_node (8 * g + 6) x o)) (8 * f + 6)
-        ≡ (if (if t then false else (v || is_before x.one gs f)) then add_key x (list_at o (8 * f + 6)) else list_at o (8 * f + 6))
+        → list_at (when t || u then o else add_capture gs x (append_node (8 * g + 6) x o)) (8 * f + 6)
+        ≡ (when (when t then false else (v || is_before x.one gs f)) then add_key x (list_at o (8 * f + 6)) else list_at o (8 * f + 6))
     go true u v e q w i r = refl
     go false true true e q w i r = sym (add_there x (list_at o (8 * f + 6)) (ap (λ (j : ℕ). has_key x.key (list_at o (8 * j + 6))) (sym (eqb-true g f w)) ∙ q))
     go false true false e q w i r = stopped g gs x o f out e w q k
@@ -102,4 +102,4 @@ add_capture_list (g ∷ gs) x o f (a_one out d) room h low k =
         ∙ sym (add_absent x (list_at o (8 * f + 6)) (ap (λ (j : ℕ). has_key x.key (list_at o (8 * j + 6))) (sym y) ∙ q)))
     go false false false e q w i r =
         i (further_rest g gs x o f out low e k)
-        ∙ ap (λ (l : List Node). if is_before x.one gs f then add_key x l else l) (append_other g x o low f (eqb-false g f w))
+        ∙ ap (λ (l : List Node). when is_before x.one gs f then add_key x l else l) (append_other g x o low f (eqb-false g f w))

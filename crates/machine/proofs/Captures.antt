@@ -4,7 +4,7 @@ use mathlib.Core.List.{List, [], ◌∷◌, ◌++◌, map, append-nil}
 use mathlib.Core.Bool.{Bool, true, false, not, ◌&&◌}
 use Prim.Native.Nat.{ℕ}
 use lib.Dec.{eqb, T}
-use Rattle.definition.specs.Basics.{if◌then◌else◌, filter, any, distinct, ◌∈?◌}
+use Rattle.definition.specs.Basics.{when◌then◌else◌, filter, any, distinct, ◌∈?◌}
 use Rattle.definition.specs.Sheet.{Sheet, is, a}
 use Rattle.definition.specs.Meaning.{is_variable, row_of, owner_of}
 use Rattle.definition.specs.Scope.{Moment, around, visited, visits}
@@ -39,13 +39,13 @@ module _ (s : Sheet) (h : List Moment) (m : Moment) where
 
   pub captures_snoc : (f : ℕ)
       → captures s (h ++ m ∷ []) f
-      ≡ (if is s 50 (visited m.event) && is_outer f (use_at s m)
+      ≡ (when is s 50 (visited m.event) && is_outer f (use_at s m)
       then captures s h f ++ only (not (any (λ v. same v (use_at s m)) (captures s h f))) (use_at s m)
       else captures s h f)
   captures_snoc f = ap (distinct same) (outer_snoc f) ∙ go (is s 50 (visited m.event) && is_outer f (use_at s m))
     where
       go : (t : Bool) → distinct same (filter (is_outer f) (uses s h) ++ only t (use_at s m))
-          ≡ (if t then captures s h f ++ only (not (any (λ v. same v (use_at s m)) (captures s h f))) (use_at s m) else captures s h f)
+          ≡ (when t then captures s h f ++ only (not (any (λ v. same v (use_at s m)) (captures s h f))) (use_at s m) else captures s h f)
       go true = distinct_key (λ (u : Use). row_of u.means) (filter (is_outer f) (uses s h)) (use_at s m)
       go false = ap (distinct same) (append-nil (filter (is_outer f) (uses s h)))
 
@@ -63,26 +63,26 @@ module _ (s : Sheet) (h : List Moment) (m : Moment) where
   -- what the captures of f are after one moment more
   pub keys_snoc : WellFormed s m.stack → (f : ℕ)
       → map node_of (captures s (h ++ m ∷ []) f)
-      ≡ (if is s 50 (visited m.event) && is_variable (use_at s m).means
-      then (if is_before (owner_of (use_at s m).means) (around s m.stack) f then add_key (node_of (use_at s m)) (map node_of (captures s h f)) else map node_of (captures s h f))
+      ≡ (when is s 50 (visited m.event) && is_variable (use_at s m).means
+      then (when is_before (owner_of (use_at s m).means) (around s m.stack) f then add_key (node_of (use_at s m)) (map node_of (captures s h f)) else map node_of (captures s h f))
       else map node_of (captures s h f))
   keys_snoc o f = ap (map node_of) (captures_snoc f) ∙ go (is s 50 (visited m.event)) (is_variable (use_at s m).means) refl
     where
       by : (t : Bool)
-          → map node_of (if t then captures s h f ++ only (not (any (λ v. same v (use_at s m)) (captures s h f))) (use_at s m) else captures s h f)
-          ≡ (if t then add_key (node_of (use_at s m)) (map node_of (captures s h f)) else map node_of (captures s h f))
+          → map node_of (when t then captures s h f ++ only (not (any (λ v. same v (use_at s m)) (captures s h f))) (use_at s m) else captures s h f)
+          ≡ (when t then add_key (node_of (use_at s m)) (map node_of (captures s h f)) else map node_of (captures s h f))
       by true = keys_add f
       by false = refl
 
       go : (t u : Bool) → is_variable (use_at s m).means ≡ u
-          → map node_of (if t && (u && owner_of (use_at s m).means ∈? beyond f (around s m.stack))
+          → map node_of (when t && (u && owner_of (use_at s m).means ∈? beyond f (around s m.stack))
           then captures s h f ++ only (not (any (λ v. same v (use_at s m)) (captures s h f))) (use_at s m) else captures s h f)
-          ≡ (if t && u
-          then (if is_before (owner_of (use_at s m).means) (around s m.stack) f then add_key (node_of (use_at s m)) (map node_of (captures s h f)) else map node_of (captures s h f))
+          ≡ (when t && u
+          then (when is_before (owner_of (use_at s m).means) (around s m.stack) f then add_key (node_of (use_at s m)) (map node_of (captures s h f)) else map node_of (captures s h f))
           else map node_of (captures s h f))
       go true true e =
           by (owner_of (use_at s m).means ∈? beyond f (around s m.stack))
-          ∙ ap (λ (t : Bool). if t then add_key (node_of (use_at s m)) (map node_of (captures s h f)) else map node_of (captures s h f))
+          ∙ ap (λ (t : Bool). when t then add_key (node_of (use_at s m)) (map node_of (captures s h f)) else map node_of (captures s h f))
           (beyond_early f (owner_of (use_at s m).means) o.apart (owned_find s (a s (visited m.event)) o.owned e))
       go true false e = refl
       go false u e = refl

@@ -9,7 +9,7 @@ use lib.ListN.{length, set, length-append}
 use lib.Seq.{sets}
 use lib.Dec.{eqb, leb}
 use borrow.Author.Tests.{eq-eqb, ne_eqb}
-use Rattle.definition.specs.Basics.{if◌then◌else◌, any, place}
+use Rattle.definition.specs.Basics.{when◌then◌else◌, any, place}
 use Rattle.definition.specs.Sheet.{Sheet, is}
 use Rattle.machine.specs.Machine.{entry_word, node_word, Node, previous, chain_back, reversed, function_marks, Store, list_at, has_key, append_node, add_capture}
 use Rattle.machine.proofs.Lists.{any_append, place_append}
@@ -36,7 +36,7 @@ module _ (s : Sheet) (v : List ℕ) (n : ℕ) (x : Node) (o : Store) where
     where
       by : (t u : Bool) → (t || not u) ≡ true
           → add_capture
-          (if t then function_marks s v n else if u then entry_word v n 1 ∷ function_marks s v n else function_marks s v n)
+          (when t then function_marks s v n else when u then entry_word v n 1 ∷ function_marks s v n else function_marks s v n)
           x o
           ≡ add_capture (function_marks s v n) x o
       by true u g = refl
@@ -60,7 +60,7 @@ module _ (s : Sheet) (v : List ℕ) (n : ℕ) (x : Node) (o : Store) where
 -- The index of a key in a list of nodes, counted while the list is walked from the last node back: 0 at the key, else one more.
 abbrev pub since : ℕ → List Node → ℕ → ℕ
 since k [] c = c
-since k (y ∷ ys) c = since k ys (if eqb k y.key then 0 else suc c)
+since k (y ∷ ys) c = since k ys (when eqb k y.key then 0 else suc c)
 
 abbrev hit : ℕ → List Node → Bool
 hit k xs = any (λ y. eqb k y.key) xs
@@ -69,7 +69,7 @@ since_none : (k : ℕ) (xs : List Node) (c : ℕ) → hit k xs ≡ false → sin
 since_none k [] c h = omega arith
 since_none k (y ∷ ys) c h = by (eqb k y.key) h (λ d g. since_none k ys d g)
   where
-    by : (t : Bool) → (t || hit k ys) ≡ false → ((d : ℕ) → hit k ys ≡ false → since k ys d ≡ d + length ys) → since k ys (if t then 0 else suc c) ≡ c + suc (length ys)
+    by : (t : Bool) → (t || hit k ys) ≡ false → ((d : ℕ) → hit k ys ≡ false → since k ys d ≡ d + length ys) → since k ys (when t then 0 else suc c) ≡ c + suc (length ys)
     by true g i = absurd (true≢false g)
     by false g i = omega (arith, i (suc c) g)
 
@@ -77,7 +77,7 @@ place_none : {A : Type 0} (p : A → Bool) (xs ys : List A) → any p xs ≡ fal
 place_none p [] ys h = omega arith
 place_none p (x ∷ xs) ys h = by (p x) h (λ g. place_none p xs ys g)
   where
-    by : (t : Bool) → (t || any p xs) ≡ false → (any p xs ≡ false → place p (xs ++ ys) ≡ length xs + place p ys) → (if t then 0 else suc (place p (xs ++ ys))) ≡ suc (length xs) + place p ys
+    by : (t : Bool) → (t || any p xs) ≡ false → (any p xs ≡ false → place p (xs ++ ys) ≡ length xs + place p ys) → (when t then 0 else suc (place p (xs ++ ys))) ≡ suc (length xs) + place p ys
     by true g i = absurd (true≢false g)
     by false g i = omega (arith, i g)
 
@@ -104,22 +104,22 @@ place_since k (y ∷ ys) c h = by (hit k ys) refl (eqb k y.key) refl h (λ d g. 
   where
     by : (t : Bool) → hit k ys ≡ t → (u : Bool) → eqb k y.key ≡ u → (u || t) ≡ true
         → ((d : ℕ) → hit k ys ≡ true → place (λ y. eqb k y.key) (reversed ys) ≡ since k ys d)
-        → place (λ y. eqb k y.key) (reversed ys ++ y ∷ []) ≡ since k ys (if u then 0 else suc c)
-    by true e u f g i = place_append (λ y. eqb k y.key) (reversed ys) (y ∷ []) (turn_hit k ys ∙ e) ∙ i (if u then 0 else suc c) e
+        → place (λ y. eqb k y.key) (reversed ys ++ y ∷ []) ≡ since k ys (when u then 0 else suc c)
+    by true e u f g i = place_append (λ y. eqb k y.key) (reversed ys) (y ∷ []) (turn_hit k ys ∙ e) ∙ i (when u then 0 else suc c) e
     by false e true f g i =
         place_none (λ y. eqb k y.key) (reversed ys) (y ∷ []) (turn_hit k ys ∙ e)
-        ∙ ap (λ (t : Bool). length (reversed ys) + (if t then 0 else 1)) f ∙ omega (arith, turn_length ys, since_none k ys 0 e)
+        ∙ ap (λ (t : Bool). length (reversed ys) + (when t then 0 else 1)) f ∙ omega (arith, turn_length ys, since_none k ys 0 e)
     by false e false f g i = absurd (true≢false (sym g))
 
 -- the count, one node back
-pub since_back : (q : List ℕ) (i k c : ℕ) → since k (chain_back q (suc i) (suc i)) c ≡ since k (chain_back q (previous q i) (previous q i)) (if eqb k (node_word q i 1) then 0 else suc c)
+pub since_back : (q : List ℕ) (i k c : ℕ) → since k (chain_back q (suc i) (suc i)) c ≡ since k (chain_back q (previous q i) (previous q i)) (when eqb k (node_word q i 1) then 0 else suc c)
 since_back q i k c =
     ap (λ (l : List Node). since k l c) (chain_back_hit q i)
-    ∙ ap (λ (l : List Node). since k l (if eqb k (node_word q i 1) then 0 else suc c))
+    ∙ ap (λ (l : List Node). since k l (when eqb k (node_word q i 1) then 0 else suc c))
     (chain_back_down q i (previous q i) (omega arith))
 
 -- one turn of the loop: from i > 0 to i', with the count c'
-pub since_reversed : (q : List ℕ) (i k c x : ℕ) {c' i' : ℕ} → 0 < i → x ≡ node_word q (i - 1) 1 → c' ≡ (if eqb k x then 0 else suc c) → i' ≡ previous q (i - 1)
+pub since_reversed : (q : List ℕ) (i k c x : ℕ) {c' i' : ℕ} → 0 < i → x ≡ node_word q (i - 1) 1 → c' ≡ (when eqb k x then 0 else suc c) → i' ≡ previous q (i - 1)
     → since k (chain_back q i' i') c' ≡ since k (chain_back q i i) c
 since_reversed q zero k c x h ex ec ei = absurd (omega arith)
 since_reversed q (suc i) k c x {c'} {i'} h ex ec ei =
@@ -127,10 +127,10 @@ since_reversed q (suc i) k c x {c'} {i'} h ex ec ei =
     let e₂ : i' ≡ previous q i = rw sub-one at ei in
     rw (e₂, ec, e₁) (sym (since_back q i k c))
 
-pub count_le : (k x c : ℕ) {c' : ℕ} → c' ≡ (if eqb k x then 0 else suc c) → c' ≤ suc c
+pub count_le : (k x c : ℕ) {c' : ℕ} → c' ≡ (when eqb k x then 0 else suc c) → c' ≤ suc c
 count_le k x c {c'} e = by (eqb k x) e
   where
-    by : (t : Bool) → c' ≡ (if t then 0 else suc c) → c' ≤ suc c
+    by : (t : Bool) → c' ≡ (when t then 0 else suc c) → c' ≤ suc c
     by true e = omega arith
     by false e = omega arith
 

@@ -9,7 +9,7 @@ use lib.ListN.{length, get_or, length-set, length-take, length-append}
 use lib.Seq.{sets, get_or-set_other, length-sets}
 use lib.Dec.{eqb, leb, ltb}
 use borrow.Author.Tests.{lt-ltb, eqb-false, ltb-true, ltb-false, leb-true, not-true}
-use Rattle.definition.specs.Basics.{if◌then◌else◌}
+use Rattle.definition.specs.Basics.{when◌then◌else◌}
 use Rattle.definition.specs.Sheet.{Sheet, a, child}
 use Rattle.definition.specs.Outside.{Outside}
 use Rattle.definition.specs.Walk.{Event}
@@ -33,7 +33,7 @@ pub record Unchanged (spared : ℕ → Bool) (o o' : Store) : Type 0 where
 pub unchanged_refl : (sp : ℕ → Bool) (o : Store) → Unchanged sp o o
 unchanged_refl sp o = record { grows = extends_refl o; words = λ r d l e. refl }
 
-unchanged_if : (sp : ℕ → Bool) (t : Bool) (o x : Store) → Unchanged sp o x → Unchanged sp o (if t then x else o)
+unchanged_if : (sp : ℕ → Bool) (t : Bool) (o x : Store) → Unchanged sp o x → Unchanged sp o (when t then x else o)
 unchanged_if sp true o x p = p
 unchanged_if sp false o x p = unchanged_refl sp o
 
@@ -73,7 +73,7 @@ pub write_row_other : (r : ℕ) (vs : List ℕ) (o : Store) (q : ℕ) → (q ≡
 unfolding write_row row_words
 write_row_other r vs o q h = go (ltb r (length o.table / 8))
   where
-    go : (t : Bool) → row_words (if t then with_table (sets o.table (8 * r) (four_words vs)) o else o).table q ≡ row_words o.table q
+    go : (t : Bool) → row_words (when t then with_table (sets o.table (8 * r) (four_words vs)) o else o).table q ≡ row_words o.table q
     go true =
         let w : (d : ℕ) → d < 8 → cell (sets o.table (8 * r) (four_words vs)) q d ≡ cell o.table q d =
         λ d l. sets_out (four_words vs) o.table (8 * r) (8 * q + d) (aside r q d (length (four_words vs)) l (four_words_length vs) (inr h)) in
@@ -123,7 +123,7 @@ call_table : (x : Node) (o : Store) → (append_call x o).table ≡ o.table
 unfolding append_call
 call_table x o = go (ltb o.used (node_room o.nodes))
   where
-    go : (t : Bool) → (if t then appended_call x o else o).table ≡ o.table
+    go : (t : Bool) → (when t then appended_call x o else o).table ≡ o.table
     go true = refl
     go false = refl
 
@@ -158,6 +158,6 @@ module _ (O : Outside) (s : Sheet) (e : Event) (p : Scopes) (o : Store) where
   unfolding store_row
   store_row_unchanged = go (eqb (written_row s e p) 0)
     where
-      go : (t : Bool) → Unchanged (λ d. leb 4 d) o (if t then o else write_row (written_row s e p) (written_words O s e p o) o)
+      go : (t : Bool) → Unchanged (λ d. leb 4 d) o (when t then o else write_row (written_row s e p) (written_words O s e p o) o)
       go true = unchanged_refl (λ d. leb 4 d) o
       go false = write_row_unchanged (written_row s e p) (written_words O s e p o) o

@@ -9,7 +9,7 @@ use Prim.Native.Nat.{ℕ, zero, suc, ◌+◌, ◌*◌, ◌<◌, ◌≤◌}
 use native.Mathlib.Omega.{arith}
 use lib.ListN.{length, get_or}
 use lib.Dec.{eqb, leb, T, T_not, not_T, leb→le, eqb→eq}
-use Rattle.definition.specs.Basics.{if◌then◌else◌, ◌⇒◌, bit, all, head}
+use Rattle.definition.specs.Basics.{when◌then◌else◌, ◌⇒◌, bit, all, head}
 use Rattle.definition.specs.Sheet.{Sheet, kind, rows, is, a, b, kids, holder, functions_of, function_of}
 use Rattle.definition.specs.Outside.{Outside}
 use Rattle.definition.specs.Format.{tables, at, depths_fit}
@@ -35,13 +35,13 @@ all_at p (x ∷ xs) (suc i) z h = all_at p xs i z (and_right (p x) (all p xs) h)
 inner_length : (s : Sheet) (w : ℕ) → length (inner s w) ≡ bit (is s 6 w) + length (functions_of s w)
 inner_length s w = go (is s 6 w)
   where
-    go : (t : Bool) → length (if t then w ∷ functions_of s w else functions_of s w) ≡ bit t + length (functions_of s w)
+    go : (t : Bool) → length (when t then w ∷ functions_of s w else functions_of s w) ≡ bit t + length (functions_of s w)
     go true = omega arith
     go false = omega arith
 
 -- how many levels a function, a statement and another row may lack
 abbrev slack : Bool → Bool → ℕ
-slack t u = if t then 0 else if u then 2 else 1
+slack t u = when t then 0 else when u then 2 else 1
 
 slack_none : (t u : Bool) → T t → slack t u ≡ 0
 slack_none true u h = refl
@@ -74,11 +74,11 @@ module _ {O : Outside} {s : Sheet} (ok : Fits O s) where
   -- a part of a row that is no class declaration is its child; of one that is, its class's
   part_kid : (w x : ℕ) → T (not (is s 30 w)) → Mem x (parts s w) → Mem x (kids s w)
   part_kid w x h m =
-      subst (λ (p : ℕ). Mem x (kids s p)) (if_false (is s 30 w) (a s w) w h) (filter_mem (λ k. is s 2 k || is s 6 k || leb 20 (kind s k)) x (kids s (if is s 30 w then a s w else w)) m).0
+      subst (λ (p : ℕ). Mem x (kids s p)) (if_false (is s 30 w) (a s w) w h) (filter_mem (λ k. is s 2 k || is s 6 k || leb 20 (kind s k)) x (kids s (when is s 30 w then a s w else w)) m).0
 
   part_method : (w x : ℕ) → T (is s 30 w) → Mem x (parts s w) → Mem x (kids s (a s w))
   part_method w x h m =
-      subst (λ (p : ℕ). Mem x (kids s p)) (if_true (is s 30 w) (a s w) w h) (filter_mem (λ k. is s 2 k || is s 6 k || leb 20 (kind s k)) x (kids s (if is s 30 w then a s w else w)) m).0
+      subst (λ (p : ℕ). Mem x (kids s p)) (if_true (is s 30 w) (a s w) w h) (filter_mem (λ k. is s 2 k || is s 6 k || leb 20 (kind s k)) x (kids s (when is s 30 w then a s w else w)) m).0
 
   -- none lies around a unit, nor around its function
   unit_bare : (u : ℕ) → Walks s u → T (is s 2 u) → functions_of s u ≡ []

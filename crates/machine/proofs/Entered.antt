@@ -10,7 +10,7 @@ use native.Mathlib.Omega.{arith}
 use lib.ListN.{length}
 use lib.Dec.{eqb, ltb, T, T_not, eqb_refl, eqb→eq}
 use borrow.Author.Tests.{ltb-false}
-use Rattle.definition.specs.Basics.{if◌then◌else◌, filter, concat_map, bit, count, ◌∈?◌, total}
+use Rattle.definition.specs.Basics.{when◌then◌else◌, filter, concat_map, bit, count, ◌∈?◌, total}
 use Rattle.definition.specs.Sheet.{Sheet, rows, is, kids, kids_of, child}
 use Rattle.definition.specs.Outside.{Outside}
 use Rattle.definition.specs.Walk.{Event, enter, leave, loop, declare, bring, visit, imports, literal_let, before, after, after_part, parts, each, walk}
@@ -46,7 +46,7 @@ is_loop (visit r) = false
 
 -- at a row at most its own scope opens
 enter_before : (x r : ℕ) (t2 t6 t25 t27 t30 : Bool) (e2 e6 e25 : List Event) → count (enters_of x) e2 ≡ 0 → count (enters_of x) e6 ≡ 0 → count (enters_of x) e25 ≡ 0
-    → count (enters_of x) (if t2 then enter r ∷ e2 else if t6 then enter r ∷ e6 else if t25 then enter r ∷ e25 else if t27 then enter r ∷ [] else if t30 then visit r ∷ [] else []) ≤ bit (eqb r x)
+    → count (enters_of x) (when t2 then enter r ∷ e2 else when t6 then enter r ∷ e6 else when t25 then enter r ∷ e25 else when t27 then enter r ∷ [] else when t30 then visit r ∷ [] else []) ≤ bit (eqb r x)
 enter_before x r true t6 t25 t27 t30 e2 e6 e25 f g h = omega arith
 enter_before x r false true t25 t27 t30 e2 e6 e25 f g h = omega arith
 enter_before x r false false true t27 t30 e2 e6 e25 f g h = omega arith
@@ -54,7 +54,7 @@ enter_before x r false false false true t30 e2 e6 e25 f g h = omega arith
 enter_before x r false false false false true e2 e6 e25 f g h = omega arith
 enter_before x r false false false false false e2 e6 e25 f g h = omega arith
 
-enter_part : (x r : ℕ) (t59 t27 : Bool) → count (enters_of x) (if t59 then visit r ∷ [] else if t27 then loop ∷ [] else []) ≡ 0
+enter_part : (x r : ℕ) (t59 t27 : Bool) → count (enters_of x) (when t59 then visit r ∷ [] else when t27 then loop ∷ [] else []) ≡ 0
 enter_part x r true t27 = refl
 enter_part x r false true = refl
 enter_part x r false false = refl
@@ -64,7 +64,7 @@ enter_parts x s r i [] = refl
 enter_parts x s r i (k ∷ ks) =
     omega (arith, count_append (enters_of x) (after_part s r i) (each (λ k. []) s r (suc i) ks), enter_parts x s r (suc i) ks, enter_part x r (is s 59 r && eqb i 0) (is s 27 r && eqb i 1))
 
-enter_after : (x r : ℕ) (tl t29 t52 tv : Bool) → count (enters_of x) (if tl then leave ∷ [] else if t29 then (if t52 then [] else declare r ∷ []) else if tv then visit r ∷ [] else []) ≡ 0
+enter_after : (x r : ℕ) (tl t29 t52 tv : Bool) → count (enters_of x) (when tl then leave ∷ [] else when t29 then (when t52 then [] else declare r ∷ []) else when tv then visit r ∷ [] else []) ≡ 0
 enter_after x r true t29 t52 tv = refl
 enter_after x r false true true tv = refl
 enter_after x r false true false tv = refl
@@ -90,7 +90,7 @@ enter_own x s r =
 
 -- at a row at most one loop begins
 loop_before : (r : ℕ) (t2 t6 t25 t27 t30 : Bool) (e2 e6 e25 : List Event) → count is_loop e2 ≡ 0 → count is_loop e6 ≡ 0 → count is_loop e25 ≡ 0
-    → count is_loop (if t2 then enter r ∷ e2 else if t6 then enter r ∷ e6 else if t25 then enter r ∷ e25 else if t27 then enter r ∷ [] else if t30 then visit r ∷ [] else []) ≡ 0
+    → count is_loop (when t2 then enter r ∷ e2 else when t6 then enter r ∷ e6 else when t25 then enter r ∷ e25 else when t27 then enter r ∷ [] else when t30 then visit r ∷ [] else []) ≡ 0
 loop_before r true t6 t25 t27 t30 e2 e6 e25 f g h = omega arith
 loop_before r false true t25 t27 t30 e2 e6 e25 f g h = omega arith
 loop_before r false false true t27 t30 e2 e6 e25 f g h = omega arith
@@ -98,7 +98,7 @@ loop_before r false false false true t30 e2 e6 e25 f g h = omega arith
 loop_before r false false false false true e2 e6 e25 f g h = omega arith
 loop_before r false false false false false e2 e6 e25 f g h = omega arith
 
-loop_part : (r : ℕ) (t59 t27 t1 : Bool) → count is_loop (if t59 then visit r ∷ [] else if t27 && t1 then loop ∷ [] else []) ≤ bit t1
+loop_part : (r : ℕ) (t59 t27 t1 : Bool) → count is_loop (when t59 then visit r ∷ [] else when t27 && t1 then loop ∷ [] else []) ≤ bit t1
 loop_part r true t27 t1 = omega arith
 loop_part r false true true = omega arith
 loop_part r false true false = omega arith
@@ -138,7 +138,7 @@ loop_parts s r (k ∷ ks) =
       loop_part r (is s 59 r && eqb 0 0) (is s 27 r) (eqb 0 1),
     )
 
-loop_after : (r : ℕ) (tl t29 t52 tv : Bool) → count is_loop (if tl then leave ∷ [] else if t29 then (if t52 then [] else declare r ∷ []) else if tv then visit r ∷ [] else []) ≡ 0
+loop_after : (r : ℕ) (tl t29 t52 tv : Bool) → count is_loop (when tl then leave ∷ [] else when t29 then (when t52 then [] else declare r ∷ []) else when tv then visit r ∷ [] else []) ≡ 0
 loop_after r true t29 t52 tv = refl
 loop_after r false true true tv = refl
 loop_after r false true false tv = refl
@@ -192,7 +192,7 @@ entered_count s x [] = omega arith
 entered_count s x (enter r ∷ es) = go (is s 6 r) (entered_count s x es)
   where
     go : (t : Bool) → count (λ y. eqb y x) (functions_entered s es) ≤ count (enters_of x) es
-        → count (λ y. eqb y x) (if t then r ∷ functions_entered s es else functions_entered s es)
+        → count (λ y. eqb y x) (when t then r ∷ functions_entered s es else functions_entered s es)
         ≤ bit (eqb r x) + count (enters_of x) es
     go true i = omega arith
     go false i = omega arith

@@ -7,7 +7,7 @@ use native.Mathlib.Omega.{arith}
 use lib.ListN.{length}
 use lib.Dec.{eqb, ltb, T}
 use borrow.Author.Tests.{eqb-true, eqb-false, ltb-true, lt-ltb}
-use Rattle.definition.specs.Basics.{if◌then◌else◌, filter, ◌∈?◌, any, unlike}
+use Rattle.definition.specs.Basics.{when◌then◌else◌, filter, ◌∈?◌, any, unlike}
 use Rattle.definition.specs.Sheet.{Sheet, is, a}
 use Rattle.definition.specs.Outside.{Outside, OutsideFits}
 use Rattle.definition.specs.Meaning.{Meaning, is_declared, Named}
@@ -28,7 +28,7 @@ without_in : (k y : ℕ) (xs : List ℕ) → (y ∈? xs) ≡ false → (y ∈? w
 without_in k y [] h = refl
 without_in k y (x ∷ xs) h = go (eqb k x) (eqb y x) refl (λ q. without_in k y xs q)
   where
-    go : (t u : Bool) → eqb y x ≡ u → ((y ∈? xs) ≡ false → (y ∈? without k xs) ≡ false) → (y ∈? (if not t then x ∷ without k xs else without k xs)) ≡ false
+    go : (t u : Bool) → eqb y x ≡ u → ((y ∈? xs) ≡ false → (y ∈? without k xs) ≡ false) → (y ∈? (when not t then x ∷ without k xs else without k xs)) ≡ false
     go t true e i = absurd (true≢false (sym (ap (λ (b : Bool). b || y ∈? xs) e) ∙ h))
     go true false e i = i (rw e at h)
     go false false e i = rw e (i (rw e at h))
@@ -37,7 +37,7 @@ without_apart : (k : ℕ) {xs : List ℕ} → Distinct xs → Distinct (without 
 without_apart k a_none = a_none
 without_apart k (a_one {g = x} {gs = xs} n p) = go (eqb k x) (without_apart k p)
   where
-    go : (t : Bool) → Distinct (without k xs) → Distinct (if not t then x ∷ without k xs else without k xs)
+    go : (t : Bool) → Distinct (without k xs) → Distinct (when not t then x ∷ without k xs else without k xs)
     go true i = i
     go false i = a_one (without_in k x xs n) i
 
@@ -45,7 +45,7 @@ without_same : (k : ℕ) (xs : List ℕ) → (k ∈? xs) ≡ false → length (w
 without_same k [] h = refl
 without_same k (x ∷ xs) h = go (eqb k x) refl (λ q. without_same k xs q)
   where
-    go : (t : Bool) → eqb k x ≡ t → ((k ∈? xs) ≡ false → length (without k xs) ≡ length xs) → length (if not t then x ∷ without k xs else without k xs) ≡ suc (length xs)
+    go : (t : Bool) → eqb k x ≡ t → ((k ∈? xs) ≡ false → length (without k xs) ≡ length xs) → length (when not t then x ∷ without k xs else without k xs) ≡ suc (length xs)
     go true e i = absurd (true≢false (sym (ap (λ (b : Bool). b || k ∈? xs) e) ∙ h))
     go false e i = ap suc (i (rw e at h))
 
@@ -53,7 +53,7 @@ without_length : (k : ℕ) {xs : List ℕ} → Distinct xs → length xs ≤ suc
 without_length k a_none = omega arith
 without_length k (a_one {g = x} {gs = xs} n p) = go (eqb k x) refl (without_length k p)
   where
-    go : (t : Bool) → eqb k x ≡ t → length xs ≤ suc (length (without k xs)) → suc (length xs) ≤ suc (length (if not t then x ∷ without k xs else without k xs))
+    go : (t : Bool) → eqb k x ≡ t → length xs ≤ suc (length (without k xs)) → suc (length xs) ≤ suc (length (when not t then x ∷ without k xs else without k xs))
     go true e i = omega (arith, without_same k xs (ap (λ (j : ℕ). j ∈? xs) (eqb-true k x e) ∙ n))
     go false e i = omega arith
 
@@ -61,7 +61,7 @@ without_below : (n : ℕ) {xs : List ℕ} → All (λ x. ltb x (suc n)) xs → A
 without_below n al_none = al_none
 without_below n (al_one {x} {xs} h p) = go (eqb n x) refl (without_below n p)
   where
-    go : (t : Bool) → eqb n x ≡ t → All (λ x. ltb x n) (without n xs) → All (λ x. ltb x n) (if not t then x ∷ without n xs else without n xs)
+    go : (t : Bool) → eqb n x ≡ t → All (λ x. ltb x n) (without n xs) → All (λ x. ltb x n) (when not t then x ∷ without n xs else without n xs)
     go true e i = i
     go false e i = let ne : n ≡ x → ⊥ = eqb-false n x e in let l : x < suc n = ltb-true x (suc n) h in al_one (lt-ltb x n (omega arith)) i
 
@@ -115,16 +115,16 @@ names_step O s z (enter r) q p = n_scope p
 names_step O s z leave q p = names_closed p
 names_step O s z loop q p = n_loop p
 names_step O s z (declare r) q p =
-    n_name (not_taken (taken (a s r) z) (asked (if is s 29 r && not (literal_let s r) then 7 else 16) r (a s r)
+    n_name (not_taken (taken (a s r) z) (asked (when is s 29 r && not (literal_let s r) then 7 else 16) r (a s r)
     (not (taken (a s r) z)) (by (is s 29 r && not (literal_let s r))) q))
     p
   where
-    by : (t : Bool) → ◌≡◌ {A = ℕ} (if t then 7 else 16) 0 → ⊥
+    by : (t : Bool) → ◌≡◌ {A = ℕ} (when t then 7 else 16) 0 → ⊥
     by true e = omega arith
     by false e = omega arith
 names_step O s z (bring r n d) q p = n_name (by (is_declared d) q) p
   where
-    by : (t : Bool) → (if t then ask 16 r n (not (taken n z)) else ask 15 r n false).number ≡ 0 → taken n z ≡ false
+    by : (t : Bool) → (when t then ask 16 r n (not (taken n z)) else ask 15 r n false).number ≡ 0 → taken n z ≡ false
     by true e = not_taken (taken n z) (asked 16 r n (not (taken n z)) (λ k. omega arith) e)
     by false e = absurd (omega arith)
 names_step O s z (visit r) q p = p

@@ -9,7 +9,7 @@ use native.Mathlib.Omega.{arith}
 use lib.ListN.{length, length-map}
 use lib.Dec.{T, leb}
 use borrow.Author.Tests.{leb-true}
-use Rattle.definition.specs.Basics.{if◌then◌else◌, filter, count, bit}
+use Rattle.definition.specs.Basics.{when◌then◌else◌, filter, count, bit}
 use Rattle.definition.specs.Sheet.{Sheet, kind, rows, is, a}
 use Rattle.definition.specs.Outside.{Outside}
 use Rattle.definition.specs.Meaning.{is_toplevel}
@@ -43,7 +43,7 @@ filter_length : (p : Moment → Bool) (xs : List Moment) → length (filter p xs
 filter_length p [] = omega arith
 filter_length p (x ∷ xs) = by (p x) (filter_length p xs)
   where
-    by : (t : Bool) → length (filter p xs) ≤ length xs → length (if t then x ∷ filter p xs else filter p xs) ≤ suc (length xs)
+    by : (t : Bool) → length (filter p xs) ≤ length xs → length (when t then x ∷ filter p xs else filter p xs) ≤ suc (length xs)
     by true h = omega arith
     by false h = omega arith
 

@@ -6,7 +6,7 @@ use Prim.Native.Nat.{ℕ, zero, suc, ◌+◌, ◌-◌, ◌<◌, ◌≤◌}
 use native.Mathlib.Omega.{arith}
 use lib.ListN.{length, length-append}
 use lib.Dec.{eqb, leb}
-use Rattle.definition.specs.Basics.{if◌then◌else◌, filter, any, bit, place}
+use Rattle.definition.specs.Basics.{when◌then◌else◌, filter, any, bit, place}
 use Rattle.definition.specs.Sheet.{Sheet, kind, is, a, b, child}
 use Rattle.definition.specs.Meaning.{Meaning, nothing, function, class, global, toplevel, variable, is_toplevel}
 use Rattle.definition.specs.Walk.{Event, enter, leave, loop, declare, bring, visit, literal_let}
@@ -148,8 +148,8 @@ numbers_push s h v n t m x y w room f g (suc i) l =
 
 -- What a let declares as a global of its own is itself.
 top_one : (t4 tc tg tf : Bool) (c k f r o : ℕ)
-    → is_toplevel (if t4 then class c else if tc then global k 0 else if tg then toplevel r else if tf then function f else variable r o) ≡ true
-    → (tg ≡ true) × ((if t4 then class c else if tc then global k 0 else if tg then toplevel r else if tf then function f else variable r o) ≡ toplevel r)
+    → is_toplevel (when t4 then class c else when tc then global k 0 else when tg then toplevel r else when tf then function f else variable r o) ≡ true
+    → (tg ≡ true) × ((when t4 then class c else when tc then global k 0 else when tg then toplevel r else when tf then function f else variable r o) ≡ toplevel r)
 top_one true tc tg tf c k f r o e = absurd (true≢false (sym e))
 top_one false true tg tf c k f r o e = absurd (true≢false (sym e))
 top_one false false true tf c k f r o e = (refl, refl)
@@ -170,7 +170,7 @@ place_last : (r : ℕ) (xs : List ℕ) → any (eqb r) xs ≡ false → place (e
 place_last r [] h = rw (eqb_self r)
 place_last r (x ∷ xs) h = go (eqb r x) refl (λ k. place_last r xs k)
   where
-    go : (t : Bool) → eqb r x ≡ t → (any (eqb r) xs ≡ false → place (eqb r) (xs ++ r ∷ []) ≡ length xs) → (if t then 0 else suc (place (eqb r) (xs ++ r ∷ []))) ≡ suc (length xs)
+    go : (t : Bool) → eqb r x ≡ t → (any (eqb r) xs ≡ false → place (eqb r) (xs ++ r ∷ []) ≡ length xs) → (when t then 0 else suc (place (eqb r) (xs ++ r ∷ []))) ≡ suc (length xs)
     go true e i = absurd (true≢false (sym (rw e) ∙ h))
     go false e i = ap suc (i (rw e at h))
 
@@ -224,7 +224,7 @@ module _ (s : Sheet) (hd : kind s 0 ≡ 0) (h : List Moment) (z : Stack) (p : Sc
 
   next_declare : (r : ℕ) (t : Bool) → is_toplevel (declared s r (inside s z)) ≡ t
       → p.next_global < 4294967295
-      → (if t then one_more p.next_global else p.next_global) ≡ final_globals s (h ++ record { event = declare r; stack = z } ∷ [])
+      → (when t then one_more p.next_global else p.next_global) ≡ final_globals s (h ++ record { event = declare r; stack = z } ∷ [])
   next_declare r true e few =
       one_more_is p.next_global few ∙ ap suc nm.next_is ∙ omega (arith, length-append (global_lets s h) (r ∷ [])) ∙ ap (λ (l : List ℕ). a s 0 + length l) (sym (globals_declare r true e))
   next_declare r false e few =
@@ -274,7 +274,7 @@ module _ (s : Sheet) (hd : kind s 0 ≡ 0) (h : List Moment) (z : Stack) (p : Sc
   numbered_step (declare r) room few u pr =
       record {
         next_is =
-            ap (λ (d : Meaning). if is_toplevel d then one_more p.next_global else p.next_global)
+            ap (λ (d : Meaning). when is_toplevel d then one_more p.next_global else p.next_global)
             (sym (new_meaning_is s z p op r))
             ∙ next_declare r (is_toplevel (declared s r (inside s z))) refl few;
         numbers =
@@ -284,7 +284,7 @@ module _ (s : Sheet) (hd : kind s 0 ≡ 0) (h : List Moment) (z : Stack) (p : Sc
       }
   numbered_step (bring r n d) room few u (p_bring v t) =
       record {
-        next_is = ap (λ (x : Bool). if x then one_more p.next_global else p.next_global) t ∙ next_same (bring r n d) refl;
+        next_is = ap (λ (x : Bool). when x then one_more p.next_global else p.next_global) t ∙ next_same (bring r n d) refl;
         numbers =
             numbers_push s _ p.env p.count (tag_of d) n (first_of d) (second_of d p.next_global) p.slot
             (space room) (numbers_on (bring r n d)) (known_stored s _ d p.next_global (unnumbered t));

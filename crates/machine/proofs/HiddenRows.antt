@@ -10,7 +10,7 @@ use Prim.Native.Nat.{ℕ, zero, suc, ◌<◌, ◌≤◌}
 use native.Mathlib.Omega.{arith}
 use lib.ListN.{get_or}
 use lib.Dec.{eqb, T, eqb_refl, eqb→eq}
-use Rattle.definition.specs.Basics.{if◌then◌else◌, count, total}
+use Rattle.definition.specs.Basics.{when◌then◌else◌, count, total}
 use Rattle.definition.specs.Sheet.{Sheet, kind, rows, is, a, child, next, kids, chain, holder}
 use Rattle.definition.specs.Outside.{Outside}
 use Rattle.definition.specs.Shape.{expression}
@@ -61,11 +61,11 @@ pub nonzero : (x : ℕ) → (x ≡ 0 → ⊥) → 0 < x
 nonzero zero h = absurd (h refl)
 nonzero (suc x) h = omega arith
 
-chosen : (t : Bool) (k : ℕ) → T (not (eqb (if t then k else 0) 0)) → T t × T (not (eqb k 0))
+chosen : (t : Bool) (k : ℕ) → T (not (eqb (when t then k else 0) 0)) → T t × T (not (eqb k 0))
 chosen true k h = (tt, h)
 chosen false k h = absurd h
 
-choose : (t : Bool) (k : ℕ) → T t → T (not (eqb k 0)) → T (not (eqb (if t then k else 0) 0))
+choose : (t : Bool) (k : ℕ) → T t → T (not (eqb k 0)) → T (not (eqb (when t then k else 0) 0))
 choose true k h g = g
 choose false k h g = absurd h
 
@@ -179,8 +179,8 @@ module _ (n : ℕ) {O : Outside} {s : Sheet} (ok : Fits O s) (fa : SheetFacts n 
         let w : record { event = visit r; stack = m'.stack } ≡ m = same_moment c e r y m m' one mm.1 v in
         let cls : T (is_class (lookup (a s r) m'.stack)) = subst (λ (j : Moment). T (is_class (use_at s j).means)) (sym w) (and_right (is_callee_base s r) (is_class (use_at s m).means) h) in
         let rec : T (not (eqb (receiver s c (open_on s m'.stack)) 0)) =
-        subst (λ (j : ℕ). T (not (eqb (if is s 54 j && is s 50 (child s j) then class_number (lookup (a s (child s j)) m'.stack) else 0) 0))) (sym qe)
-        (subst (λ (j : ℕ). T (not (eqb (if is s 54 e && is s 50 j then class_number (lookup (a s j) m'.stack) else 0) 0))) (sym qr)
+        subst (λ (j : ℕ). T (not (eqb (when is s 54 j && is s 50 (child s j) then class_number (lookup (a s (child s j)) m'.stack) else 0) 0))) (sym qe)
+        (subst (λ (j : ℕ). T (not (eqb (when is s 54 e && is s 50 j then class_number (lookup (a s j) m'.stack) else 0) 0))) (sym qr)
         (choose (is s 54 e && is s 50 r) (class_number (lookup (a s r) m'.stack)) (and_both (is s 54 e) (is s 50 r) te tr) cls)) in
         mem_any (λ m. eqb (child s (child s (visited m.event))) r) m' (class_calls s (history O s))
         (eqb_of (child s (child s (visited m'.event))) r (ap (λ (j : ℕ). child s (child s j)) vc ∙ ap (child s) qe ∙ qr))

@@ -10,7 +10,7 @@ use native.Mathlib.Omega.{arith}
 use lib.ListN.{length}
 use lib.Dec.{eqb, leb, ltb, T, not_T, leb→le, ltb→lt}
 use borrow.Author.Tests.{lt-ltb}
-use Rattle.definition.specs.Basics.{if◌then◌else◌, ◌⇒◌, filter, concat_map, bit, count}
+use Rattle.definition.specs.Basics.{when◌then◌else◌, ◌⇒◌, filter, concat_map, bit, count}
 use Rattle.definition.specs.Sheet.{Sheet, kind, rows, is, a, b, child, kids, kids_of}
 use Rattle.definition.specs.Outside.{Outside}
 use Rattle.definition.specs.Meaning.{Meaning}
@@ -66,7 +66,7 @@ below_append : {n : ℕ} {xs ys : List Event} → Below n xs → Below n ys → 
 below_append b_none g = g
 below_append (b_bring h f) g = b_bring h (below_append f g)
 
-below_if : {n : ℕ} (t : Bool) {xs : List Event} → Below n xs → Below n (if t then xs else [])
+below_if : {n : ℕ} (t : Bool) {xs : List Event} → Below n xs → Below n (when t then xs else [])
 below_if true f = f
 below_if false f = b_none
 
@@ -129,7 +129,7 @@ scope_back s u es f z = run_append s (step s z (enter u)) es (leave ∷ []) ∙ 
 
 -- a row that is no unit imports nothing
 bring_before : (r : ℕ) (t2 t6 t25 t27 t30 : Bool) (e2 e6 e25 : List Event) → T (not t2) → count is_bring e6 ≡ 0 → count is_bring e25 ≡ 0
-    → count is_bring (if t2 then enter r ∷ e2 else if t6 then enter r ∷ e6 else if t25 then enter r ∷ e25 else if t27 then enter r ∷ [] else if t30 then visit r ∷ [] else []) ≡ 0
+    → count is_bring (when t2 then enter r ∷ e2 else when t6 then enter r ∷ e6 else when t25 then enter r ∷ e25 else when t27 then enter r ∷ [] else when t30 then visit r ∷ [] else []) ≡ 0
 bring_before r true t6 t25 t27 t30 e2 e6 e25 n g h = absurd n
 bring_before r false true t25 t27 t30 e2 e6 e25 n g h = omega arith
 bring_before r false false true t27 t30 e2 e6 e25 n g h = omega arith
@@ -137,7 +137,7 @@ bring_before r false false false true t30 e2 e6 e25 n g h = omega arith
 bring_before r false false false false true e2 e6 e25 n g h = omega arith
 bring_before r false false false false false e2 e6 e25 n g h = omega arith
 
-bring_part : (r : ℕ) (t59 t27 : Bool) → count is_bring (if t59 then visit r ∷ [] else if t27 then loop ∷ [] else []) ≡ 0
+bring_part : (r : ℕ) (t59 t27 : Bool) → count is_bring (when t59 then visit r ∷ [] else when t27 then loop ∷ [] else []) ≡ 0
 bring_part r true t27 = refl
 bring_part r false true = refl
 bring_part r false false = refl
@@ -154,7 +154,7 @@ bring_each s go r i (k ∷ ks) f =
       bring_each s go r (suc i) ks (λ j m. f j (there m)),
     )
 
-bring_after : (r : ℕ) (tl t29 t52 tv : Bool) → count is_bring (if tl then leave ∷ [] else if t29 then (if t52 then [] else declare r ∷ []) else if tv then visit r ∷ [] else []) ≡ 0
+bring_after : (r : ℕ) (tl t29 t52 tv : Bool) → count is_bring (when tl then leave ∷ [] else when t29 then (when t52 then [] else declare r ∷ []) else when tv then visit r ∷ [] else []) ≡ 0
 bring_after r true t29 t52 tv = refl
 bring_after r false true true tv = refl
 bring_after r false true false tv = refl
@@ -166,7 +166,7 @@ module _ {O : Outside} {s : Sheet} (ok : Fits O s) where
   not_unit r k w z m = not_T (is s 2 k) (λ t. go t (decide (is s 30 r)))
     where
       p : ℕ
-      p = if is s 30 r then a s r else r
+      p = when is s 30 r then a s r else r
 
       kid : Mem k (kids s p)
       kid = (filter_mem (λ k. is s 2 k || is s 6 k || leb 20 (kind s k)) k (kids s p) m).0
@@ -213,7 +213,7 @@ module _ (n : ℕ) {O : Outside} {s : Sheet} (ok : Fits O s) (fa : SheetFacts n 
   seen_named : (u i : ℕ) → a s i < rows s → Every (λ e. ltb e.name (suc n) ≡ true) (seen s u i)
   seen_named u i l = go (eqb (a s i) u)
     where
-      go : (t : Bool) → Every (λ e. ltb e.name (suc n) ≡ true) (if t then [] else exports s (a s i))
+      go : (t : Bool) → Every (λ e. ltb e.name (suc n) ≡ true) (when t then [] else exports s (a s i))
       go true = every_none
       go false = exports_named (a s i) l
 
@@ -282,7 +282,7 @@ module _ (n : ℕ) {O : Outside} {s : Sheet} (ok : Fits O s) (fa : SheetFacts n 
 
   header_unit : (k : ℕ) → Mem k (parts s 0) → Reached s 1 k × (k ≡ 0 → ⊥) × T (is s 2 k)
   header_unit k m =
-      let p : ℕ = if is s 30 0 then a s 0 else 0 in
+      let p : ℕ = when is s 30 0 then a s 0 else 0 in
       let e : p ≡ 0 = if_false (is s 30 0) (a s 0) 0 (subst (λ (j : ℕ). T (not (eqb j 30))) (sym ok.header) tt) in
       let q = filter_mem (λ k. is s 2 k || is s 6 k || leb 20 (kind s k)) k (kids s p) m in (
         reached_part ok k (reached_root ok) m,

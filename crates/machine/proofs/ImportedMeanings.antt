@@ -4,7 +4,7 @@ use mathlib.Core.List.{List, [], ◌∷◌, map}
 use mathlib.Core.Bool.{Bool, true, false, ◌||◌, ◌&&◌}
 use Prim.Native.Nat.{ℕ, zero, suc}
 use lib.Dec.{eqb}
-use Rattle.definition.specs.Basics.{if◌then◌else◌, filter, first, concat_map}
+use Rattle.definition.specs.Basics.{when◌then◌else◌, filter, first, concat_map}
 use Rattle.definition.specs.Sheet.{Sheet, is, a, b, child, kids, kids_of}
 use Rattle.definition.specs.Meaning.{Named, named, nothing, is_toplevel}
 use Rattle.definition.specs.Walk.{Event, enter, leave, loop, declare, bring, visit, seen, imports, literal_let, before, after, after_part, parts, each, trace}
@@ -26,7 +26,7 @@ abbrev Fixed : Named → Type 0
 Fixed x = is_toplevel x.means ≡ false
 
 module _ {A : Type 0} where
-  every_if : {P : A → Type 0} (t : Bool) {xs ys : List A} → Every P xs → Every P ys → Every P (if t then xs else ys)
+  every_if : {P : A → Type 0} (t : Bool) {xs ys : List A} → Every P xs → Every P ys → Every P (when t then xs else ys)
   every_if true f g = f
   every_if false f g = g
 
@@ -42,7 +42,7 @@ first_fixed : (p : Named → Bool) (d : Named) {xs : List Named} → Fixed d →
 first_fixed p d h every_none = h
 first_fixed p d h (every_one {x = x} {xs = xs} q r) = by (p x) (first_fixed p d h r)
   where
-    by : (t : Bool) → Fixed (first p d xs) → Fixed (if t then x else first p d xs)
+    by : (t : Bool) → Fixed (first p d xs) → Fixed (when t then x else first p d xs)
     by true i = q
     by false i = i
 

@@ -6,7 +6,7 @@ use Prim.Native.Nat.{ℕ, suc, max}
 use native.Mathlib.Omega.{arith}
 use lib.Dec.{eqb}
 use borrow.Author.Tests.{eqb-true, eqb-false, eq-eqb, ne_eqb}
-use Rattle.definition.specs.Basics.{if◌then◌else◌, filter, any, final, distinct, place, largest}
+use Rattle.definition.specs.Basics.{when◌then◌else◌, filter, any, final, distinct, place, largest}
 use Rattle.definition.proofs.Lists.Members.{filter_append}
 
 pub eqb_same : (x y : ℕ) → eqb x y ≡ eqb y x
@@ -21,7 +21,7 @@ eqb_self x = eq-eqb x x refl
 
 -- one element or none
 abbrev pub only {ℓ} : {A : Type ℓ} → Bool → A → List A
-only t x = if t then x ∷ [] else []
+only t x = when t then x ∷ [] else []
 
 module _ {A : Type 0} where
   pub any_append : (p : A → Bool) (xs ys : List A) → any p (xs ++ ys) ≡ (any p xs || any p ys)
@@ -39,10 +39,10 @@ module _ {A : Type 0} where
 
   -- the place of an element that is there stays
   pub place_append : (p : A → Bool) (xs ys : List A) → any p xs ≡ true → place p (xs ++ ys) ≡ place p xs
-  place_append p [] ys h = absurd (eqb-false 0 1 refl (ap (λ (t : Bool). if t then 0 else 1) (sym h)))
+  place_append p [] ys h = absurd (eqb-false 0 1 refl (ap (λ (t : Bool). when t then 0 else 1) (sym h)))
   place_append p (x ∷ xs) ys h = go (p x) refl (λ g. place_append p xs ys g)
     where
-      go : (t : Bool) → p x ≡ t → (any p xs ≡ true → place p (xs ++ ys) ≡ place p xs) → (if t then 0 else suc (place p (xs ++ ys))) ≡ (if t then 0 else suc (place p xs))
+      go : (t : Bool) → p x ≡ t → (any p xs ≡ true → place p (xs ++ ys) ≡ place p xs) → (when t then 0 else suc (place p (xs ++ ys))) ≡ (when t then 0 else suc (place p xs))
       go true e i = refl
       go false e i = ap suc (i (rw e at h))
 
@@ -69,7 +69,7 @@ module _ {A : Type 0} {B : Type 0} where
 
   pub place_map : (p : B → Bool) (f : A → B) (xs : List A) → place p (map f xs) ≡ place (λ x. p (f x)) xs
   place_map p f [] = refl
-  place_map p f (x ∷ xs) = ap (λ (t : ℕ). if p (f x) then 0 else suc t) (place_map p f xs)
+  place_map p f (x ∷ xs) = ap (λ (t : ℕ). when p (f x) then 0 else suc t) (place_map p f xs)
 
 -- a test by key finds in the distinct what it finds in all
 module _ {A : Type 0} (key : A → ℕ) where
@@ -78,7 +78,7 @@ module _ {A : Type 0} (key : A → ℕ) where
   any_filter k n (x ∷ xs) h = go (eqb k (key x)) refl (any_filter k n xs h)
     where
       go : (t : Bool) → eqb k (key x) ≡ t → any (λ y. eqb (key y) n) (filter (λ y. not (eqb k (key y))) xs) ≡ any (λ y. eqb (key y) n) xs
-          → any (λ y. eqb (key y) n) (if not t then x ∷ filter (λ y. not (eqb k (key y))) xs else filter (λ y. not (eqb k (key y))) xs) ≡ (eqb (key x) n || any (λ y. eqb (key y) n) xs)
+          → any (λ y. eqb (key y) n) (when not t then x ∷ filter (λ y. not (eqb k (key y))) xs else filter (λ y. not (eqb k (key y))) xs) ≡ (eqb (key x) n || any (λ y. eqb (key y) n) xs)
       go true e i =
           i ∙ sym (ap (λ (t : Bool). t || any (λ y. eqb (key y) n) xs) (ap (λ (j : ℕ). eqb j n) (sym (eqb-true k (key x) e)) ∙ h))
       go false e i = ap (λ (t : Bool). eqb (key x) n || t) i

@@ -9,7 +9,7 @@ use Prim.Native.Nat.{ℕ, zero, suc, ◌+◌, ◌*◌, ◌<◌, ◌≤◌}
 use native.Mathlib.Omega.{arith}
 use lib.ListN.{length}
 use lib.Dec.{eqb, T, T_not, not_T, eqb→eq}
-use Rattle.definition.specs.Basics.{if◌then◌else◌, filter, bit, count, total, from, head, ◌∈?◌}
+use Rattle.definition.specs.Basics.{when◌then◌else◌, filter, bit, count, total, from, head, ◌∈?◌}
 use Rattle.definition.specs.Sheet.{Sheet, kind, rows, is, functions_of}
 use Rattle.definition.specs.Outside.{Outside}
 use Rattle.definition.specs.Meaning.{Meaning, class, is_variable, owner_of}
@@ -36,7 +36,7 @@ pub reached_mem : {O : Outside} {s : Sheet} {z : Stack} {es : List Event} {m : M
 reached_mem r_here = here refl
 reached_mem (r_later q w) = there (reached_mem w)
 
-not_class : (t : Bool) (c : ℕ) (d : Meaning) → T t → is_variable (if t then class c else d) ≡ true → ⊥
+not_class : (t : Bool) (c : ℕ) (d : Meaning) → T t → is_variable (when t then class c else d) ≡ true → ⊥
 not_class true c d h v = true≢false (sym v)
 not_class false c d h v = h
 
@@ -70,7 +70,7 @@ abbrev visits_other : Sheet → Event → Bool
 visits_other s e = visits_kind s 59 e || visits_kind s 21 e
 
 three : (t u v : Bool) (k : ℕ) → (T t → T u → ⊥) → (T v → k ≤ 21)
-    → (if t then 1 else 0) + (if u then 1 else 0) + (if v then k else 0) ≤ 21 * bit v + bit (t || u)
+    → (when t then 1 else 0) + (when u then 1 else 0) + (when v then k else 0) ≤ 21 * bit v + bit (t || u)
 three true true v k f j = absurd (f tt tt)
 three true false true k f j = omega (arith, j tt)
 three true false false k f j = omega arith
@@ -79,7 +79,7 @@ three false true false k f j = omega arith
 three false false true k f j = omega (arith, j tt)
 three false false false k f j = omega arith
 
-no_cost : (s : Sheet) (k : ℕ) → kind s 0 ≡ 0 → (if is s 59 0 then 1 else 0) + (if is s 21 0 then 1 else 0) + (if is s 50 0 then k else 0) ≡ 0
+no_cost : (s : Sheet) (k : ℕ) → kind s 0 ≡ 0 → (when is s 59 0 then 1 else 0) + (when is s 21 0 then 1 else 0) + (when is s 50 0 then k else 0) ≡ 0
 no_cost s k hd = rw hd
 
 node_cost_bound : (s : Sheet) → kind s 0 ≡ 0 → (z : Stack) (e : Event) → (T (visits_kind s 50 e) → length (around s z) ≤ 21)
@@ -107,7 +107,7 @@ kinds_split : (s : Sheet) (xs : List ℕ) → total (nodes_of s) xs ≡ 21 * cou
 kinds_split s [] = refl
 kinds_split s (x ∷ xs) = omega (arith, kinds_split s xs, one (is s 50 x) (is s 59 x) (is s 21 x) (kind_apart (kind s x) 50 59 tt) (kind_apart (kind s x) 50 21 tt))
   where
-    one : (v t u : Bool) → (T v → T t → ⊥) → (T v → T u → ⊥) → ◌≡◌ {A = ℕ} (if v then 21 else if t || u then 1 else 0) (21 * bit v + bit (t || u))
+    one : (v t u : Bool) → (T v → T t → ⊥) → (T v → T u → ⊥) → ◌≡◌ {A = ℕ} (when v then 21 else when t || u then 1 else 0) (21 * bit v + bit (t || u))
     one true true u f g = absurd (f tt tt)
     one true false true f g = absurd (g tt tt)
     one true false false f g = refl
@@ -124,7 +124,7 @@ without p n (nodup_one {x = x} {xs = xs} h k) = go (eqb x n) (λ t. t) (without 
     other t y m = not_T (eqb y n) (λ q. h (Memᴰ.cast (eqb→eq x n t ∙ sym (eqb→eq y n q)) m))
 
     go : (t : Bool) → (T t → T (eqb x n)) → count p xs ≤ bit (p n) + count p (filter (λ y. not (eqb y n)) xs)
-        → bit (p x) + count p xs ≤ bit (p n) + count p (if not t then x ∷ filter (λ y. not (eqb y n)) xs else filter (λ y. not (eqb y n)) xs)
+        → bit (p x) + count p xs ≤ bit (p n) + count p (when not t then x ∷ filter (λ y. not (eqb y n)) xs else filter (λ y. not (eqb y n)) xs)
     go true t b = rw (all_pass (λ y. not (eqb y n)) xs (other (t tt))) (omega (arith, ap (λ (y : ℕ). bit (p y)) (eqb→eq x n (t tt))))
     go false t b = omega arith
 
@@ -186,7 +186,7 @@ of_few : (s : Sheet) (xs : List ℕ) → total (nodes_of s) xs ≤ 21 * length x
 of_few s [] = omega arith
 of_few s (x ∷ xs) = omega (arith, of_few s xs, one (is s 50 x) (is_other s x))
   where
-    one : (v t : Bool) → (if v then 21 else if t then 1 else 0) ≤ 21
+    one : (v t : Bool) → (when v then 21 else when t then 1 else 0) ≤ 21
     one true t = omega arith
     one false true = omega arith
     one false false = omega arith

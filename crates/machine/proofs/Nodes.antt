@@ -9,7 +9,7 @@ use lib.ListN.{length, get_or, set, length-set}
 use lib.Seq.{sets, get_or-set_same, get_or-set_other, length-sets}
 use lib.Dec.{eqb, ltb}
 use borrow.Author.Tests.{lt-ltb, ne_eqb, eqb-true, eqb-false, ltb-true}
-use Rattle.definition.specs.Basics.{if◌then◌else◌}
+use Rattle.definition.specs.Basics.{when◌then◌else◌}
 use Rattle.machine.specs.Machine.{node_room, node_word, Node, node_at, previous, chain_back, reversed, chain_to, Store}
 use Rattle.machine.specs.Machine.{list_at, has_key, appended, appended_call, append_node, append_call, add_new}
 use Rattle.machine.specs.Machine.{add_capture}
@@ -94,7 +94,7 @@ extends_trans {x} {y} {z} g h =
       table_length = h.table_length ∙ g.table_length;
     }
 
-extends_if : (t : Bool) (o x : Store) → Extends o x → Extends o (if t then x else o)
+extends_if : (t : Bool) (o x : Store) → Extends o x → Extends o (when t then x else o)
 extends_if true o x g = g
 extends_if false o x g = extends_refl o
 
@@ -103,7 +103,7 @@ unfolding append_node
 append_extends j x o = go (ltb o.used (node_room o.nodes)) refl
   where
     go : (t : Bool) → ltb o.used (node_room o.nodes) ≡ t
-        → Extends o (if t then appended j x o else o)
+        → Extends o (when t then appended j x o else o)
     go true e =
         record {
           used_le = omega arith;
@@ -118,7 +118,7 @@ unfolding append_call
 call_extends x o = go (ltb o.used (node_room o.nodes)) refl
   where
     go : (t : Bool) → ltb o.used (node_room o.nodes) ≡ t
-        → Extends o (if t then appended_call x o else o)
+        → Extends o (when t then appended_call x o else o)
     go true e =
         record {
           used_le = omega arith;
@@ -150,7 +150,7 @@ pub append_word : (j : ℕ) (x : Node) (o : Store) (i : ℕ) → (i ≡ j → �
 unfolding append_node
 append_word j x o i h = go (ltb o.used (node_room o.nodes))
   where
-    go : (t : Bool) → get_or (if t then appended j x o else o).table i 0 ≡ get_or o.table i 0
+    go : (t : Bool) → get_or (when t then appended j x o else o).table i 0 ≡ get_or o.table i 0
     go true = get_or-set_other o.table j i (suc o.used) 0 h
     go false = refl
 
@@ -158,19 +158,19 @@ append_calls : (j : ℕ) (x : Node) (o : Store) → (append_node j x o).calls �
 unfolding append_node
 append_calls j x o = go (ltb o.used (node_room o.nodes))
   where
-    go : (t : Bool) → (if t then appended j x o else o).calls ≡ o.calls
+    go : (t : Bool) → (when t then appended j x o else o).calls ≡ o.calls
     go true = refl
     go false = refl
 
 -- A node appended unless its key is there.
 abbrev pub add_key : Node → List Node → List Node
-add_key x xs = if has_key x.key xs then xs else xs ++ x ∷ []
+add_key x xs = when has_key x.key xs then xs else xs ++ x ∷ []
 
 pub add_new_extends : (j : ℕ) (x : Node) (o : Store) → Extends o (add_new j x o)
 unfolding add_new
 add_new_extends j x o = go (has_key x.key (list_at o j))
   where
-    go : (t : Bool) → Extends o (if t then o else append_node j x o)
+    go : (t : Bool) → Extends o (when t then o else append_node j x o)
     go true = extends_refl o
     go false = append_extends j x o
 
@@ -178,7 +178,7 @@ pub add_new_word : (j : ℕ) (x : Node) (o : Store) (i : ℕ) → (i ≡ j → �
 unfolding add_new
 add_new_word j x o i h = go (has_key x.key (list_at o j))
   where
-    go : (t : Bool) → get_or (if t then o else append_node j x o).table i 0 ≡ get_or o.table i 0
+    go : (t : Bool) → get_or (when t then o else append_node j x o).table i 0 ≡ get_or o.table i 0
     go true = refl
     go false = append_word j x o i h
 
@@ -186,7 +186,7 @@ pub add_new_calls : (j : ℕ) (x : Node) (o : Store) → (add_new j x o).calls �
 unfolding add_new
 add_new_calls j x o = go (has_key x.key (list_at o j))
   where
-    go : (t : Bool) → (if t then o else append_node j x o).calls ≡ o.calls
+    go : (t : Bool) → (when t then o else append_node j x o).calls ≡ o.calls
     go true = refl
     go false = append_calls j x o
 
@@ -195,7 +195,7 @@ module _ (j : ℕ) (x : Node) (o : Store) (room : o.used < node_room o.nodes) wh
   unfolding add_new
   add_new_used = go (has_key x.key (list_at o j))
     where
-      go : (t : Bool) → (if t then o else append_node j x o).used ≤ suc o.used
+      go : (t : Bool) → (when t then o else append_node j x o).used ≤ suc o.used
       go true = omega arith
       go false = omega (arith, append_used j x o room)
 
@@ -203,7 +203,7 @@ module _ (j : ℕ) (x : Node) (o : Store) (room : o.used < node_room o.nodes) wh
   unfolding add_new
   add_new_list h l = go (has_key x.key (list_at o j))
     where
-      go : (t : Bool) → list_at (if t then o else append_node j x o) j ≡ (if t then list_at o j else list_at o j ++ x ∷ [])
+      go : (t : Bool) → list_at (when t then o else append_node j x o) j ≡ (when t then list_at o j else list_at o j ++ x ∷ [])
       go true = refl
       go false = append_list j x o room h l
 
@@ -224,7 +224,7 @@ pub append_low : (j : ℕ) (x : Node) (o : Store) (i : ℕ) → get_or o.table i
 unfolding append_node
 append_low j x o i l = go (ltb o.used (node_room o.nodes))
   where
-    go : (t : Bool) → get_or (if t then appended j x o else o).table i 0 ≤ (if t then appended j x o else o).used
+    go : (t : Bool) → get_or (when t then appended j x o else o).table i 0 ≤ (when t then appended j x o else o).used
     go true = set_le o.table j (suc o.used) i (suc o.used) (omega arith) (omega arith)
     go false = l
 
@@ -232,7 +232,7 @@ pub add_new_low : (j : ℕ) (x : Node) (o : Store) (i : ℕ) → get_or o.table 
 unfolding add_new
 add_new_low j x o i l = go (has_key x.key (list_at o j))
   where
-    go : (t : Bool) → get_or (if t then o else append_node j x o).table i 0 ≤ (if t then o else append_node j x o).used
+    go : (t : Bool) → get_or (when t then o else append_node j x o).table i 0 ≤ (when t then o else append_node j x o).used
     go true = l
     go false = append_low j x o i l
 
@@ -241,14 +241,14 @@ add_new_low j x o i l = go (has_key x.key (list_at o j))
 -- does f stand in the list before w?
 abbrev pub is_before : ℕ → List ℕ → ℕ → Bool
 is_before w [] f = false
-is_before w (g ∷ gs) f = if eqb g w then false else (eqb g f || is_before w gs f)
+is_before w (g ∷ gs) f = when eqb g w then false else (eqb g f || is_before w gs f)
 
 pub add_capture_extends : (fs : List ℕ) (x : Node) (o : Store) → Extends o (add_capture fs x o)
 unfolding add_capture
 add_capture_extends [] x o = extends_refl o
 add_capture_extends (g ∷ gs) x o = go (eqb g x.one || has_key x.key (list_at o (8 * g + 6))) (add_capture_extends gs x (append_node (8 * g + 6) x o))
   where
-    go : (t : Bool) → Extends (append_node (8 * g + 6) x o) (add_capture gs x (append_node (8 * g + 6) x o)) → Extends o (if t then o else add_capture gs x (append_node (8 * g + 6) x o))
+    go : (t : Bool) → Extends (append_node (8 * g + 6) x o) (add_capture gs x (append_node (8 * g + 6) x o)) → Extends o (when t then o else add_capture gs x (append_node (8 * g + 6) x o))
     go true i = extends_refl o
     go false i = extends_trans (append_extends (8 * g + 6) x o) i
 
@@ -257,7 +257,7 @@ unfolding add_capture
 add_capture_calls [] x o = refl
 add_capture_calls (g ∷ gs) x o = go (eqb g x.one || has_key x.key (list_at o (8 * g + 6))) (add_capture_calls gs x (append_node (8 * g + 6) x o))
   where
-    go : (t : Bool) → (add_capture gs x (append_node (8 * g + 6) x o)).calls ≡ (append_node (8 * g + 6) x o).calls → (if t then o else add_capture gs x (append_node (8 * g + 6) x o)).calls ≡ o.calls
+    go : (t : Bool) → (add_capture gs x (append_node (8 * g + 6) x o)).calls ≡ (append_node (8 * g + 6) x o).calls → (when t then o else add_capture gs x (append_node (8 * g + 6) x o)).calls ≡ o.calls
     go true i = refl
     go false i = i ∙ append_calls (8 * g + 6) x o
 
@@ -268,7 +268,7 @@ add_capture_word [] x o r c l h = refl
 add_capture_word (g ∷ gs) x o r c l h = go (eqb g x.one || has_key x.key (list_at o (8 * g + 6))) (add_capture_word gs x (append_node (8 * g + 6) x o) r c l h)
   where
     go : (t : Bool) → get_or (add_capture gs x (append_node (8 * g + 6) x o)).table (8 * r + c) 0 ≡ get_or (append_node (8 * g + 6) x o).table (8 * r + c) 0
-        → get_or (if t then o else add_capture gs x (append_node (8 * g + 6) x o)).table (8 * r + c) 0 ≡ get_or o.table (8 * r + c) 0
+        → get_or (when t then o else add_capture gs x (append_node (8 * g + 6) x o)).table (8 * r + c) 0 ≡ get_or o.table (8 * r + c) 0
     go true i = refl
     go false i = i ∙ append_word (8 * g + 6) x o (8 * r + c) (λ e. omega arith)
 
@@ -278,7 +278,7 @@ add_capture_low [] x o i l = l
 add_capture_low (g ∷ gs) x o i l = go (eqb g x.one || has_key x.key (list_at o (8 * g + 6))) (add_capture_low gs x (append_node (8 * g + 6) x o) i (append_low (8 * g + 6) x o i l))
   where
     go : (t : Bool) → get_or (add_capture gs x (append_node (8 * g + 6) x o)).table i 0 ≤ (add_capture gs x (append_node (8 * g + 6) x o)).used
-        → get_or (if t then o else add_capture gs x (append_node (8 * g + 6) x o)).table i 0 ≤ (if t then o else add_capture gs x (append_node (8 * g + 6) x o)).used
+        → get_or (when t then o else add_capture gs x (append_node (8 * g + 6) x o)).table i 0 ≤ (when t then o else add_capture gs x (append_node (8 * g + 6) x o)).used
     go true i = l
     go false i = i
 
@@ -293,6 +293,6 @@ add_capture_used (g ∷ gs) x o room =
     go (eqb g x.one || has_key x.key (list_at o (8 * g + 6))) (add_capture_used gs x o' (omega (arith, u, ap (λ (k : ℕ). min (k / 4) 4294967295) n))) u
   where
     go : (t : Bool) → (add_capture gs x (append_node (8 * g + 6) x o)).used ≤ (append_node (8 * g + 6) x o).used + length gs → (append_node (8 * g + 6) x o).used ≡ suc o.used
-        → (if t then o else add_capture gs x (append_node (8 * g + 6) x o)).used ≤ o.used + suc (length gs)
+        → (when t then o else add_capture gs x (append_node (8 * g + 6) x o)).used ≤ o.used + suc (length gs)
     go true i u = omega arith
     go false i u = omega arith

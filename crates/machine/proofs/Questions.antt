@@ -6,7 +6,7 @@ use Prim.Native.Nat.{ℕ, zero, suc, ◌-◌, ◌<◌, ◌≤◌}
 use native.Mathlib.Omega.{arith}
 use lib.ListN.{length}
 use lib.Dec.{eqb, leb}
-use Rattle.definition.specs.Basics.{if◌then◌else◌, place}
+use Rattle.definition.specs.Basics.{when◌then◌else◌, place}
 use Rattle.definition.specs.Sheet.{Sheet}
 use Rattle.definition.specs.Outside.{Outside}
 use Rattle.definition.specs.Meaning.{is_variable, owner_of}
@@ -21,7 +21,7 @@ use Rattle.machine.proofs.ScopesAgree.{ScopesAgree, searched_is, lookup_is}
 use Rattle.machine.proofs.Stacks.{WellFormed, owned_far}
 
 -- the slot of what a name means
-if_le : (b : Bool) (x y n : ℕ) → x ≤ n → y ≤ n → (if b then x else y) ≤ n
+if_le : (b : Bool) (x y n : ℕ) → x ≤ n → y ≤ n → (when b then x else y) ≤ n
 if_le true x y n p q = p
 if_le false x y n p q = q
 
@@ -44,14 +44,14 @@ module _ (O : Outside) (s : Sheet) (z : Stack) (p : Scopes) (o : ScopesAgree s z
   slot_found m = rw (searched_is s z p o, ← o.stack_is, find_is) (slot_of s p.env p.count _ (find_le p.env m p.count) o.slots)
 
   -- how far out it is declared: the functions opened after it
-  pub distance_found : WellFormed s z → (m : ℕ) → (if is_variable (lookup m z) then place (eqb (owner_of (lookup m z))) (around s z) else 0) ≡ lookup_distance s p m
+  pub distance_found : WellFormed s z → (m : ℕ) → (when is_variable (lookup m z) then place (eqb (owner_of (lookup m z))) (around s z) else 0) ≡ lookup_distance s p m
   unfolding lookup_distance marks_after
   distance_found snd m =
       go (is_variable (lookup m z)) refl
       ∙ rw (searched_is s z p o, lookup_is s z p o m, ← o.stack_is, find_is, around_is s p.env p.count, around_is s p.env (find_name p.env m p.count))
     where
       go : (t : Bool) → is_variable (lookup m z) ≡ t
-          → (if t then place (eqb (owner_of (lookup m z))) (around s z) else 0) ≡ (if t then length (around s z) - length (around s (find m z)) else 0)
+          → (when t then place (eqb (owner_of (lookup m z))) (around s z) else 0) ≡ (when t then length (around s z) - length (around s (find m z)) else 0)
       go true v = omega (arith, owned_far s m snd.apart snd.owned v)
       go false v = refl
 

@@ -7,7 +7,7 @@ use native.Mathlib.Omega.{arith}
 use lib.ListN.{length}
 use lib.Dec.{eqb}
 use borrow.Author.Tests.{eqb-true}
-use Rattle.definition.specs.Basics.{if◌then◌else◌, any, bit, count, ◌∈?◌}
+use Rattle.definition.specs.Basics.{when◌then◌else◌, any, bit, count, ◌∈?◌}
 use Rattle.definition.specs.Sheet.{Sheet, is}
 use Rattle.definition.specs.Outside.{Outside}
 use Rattle.definition.specs.Walk.{Event, enter, leave, loop, declare, bring, visit, walk}
@@ -82,7 +82,7 @@ runs_reached O s room h z (e ∷ es) f out u g l =
 -- The rows of functions that events enter.
 abbrev pub functions_entered : Sheet → List Event → List ℕ
 functions_entered s [] = []
-functions_entered s (enter r ∷ es) = if is s 6 r then r ∷ functions_entered s es else functions_entered s es
+functions_entered s (enter r ∷ es) = when is s 6 r then r ∷ functions_entered s es else functions_entered s es
 functions_entered s (leave ∷ es) = functions_entered s es
 functions_entered s (loop ∷ es) = functions_entered s es
 functions_entered s (declare r ∷ es) = functions_entered s es
@@ -97,7 +97,7 @@ closed_less : (s : Sheet) (st : Stack) (r : ℕ) → (r ∈? around s st) ≡ fa
 closed_less s [] r h = h
 closed_less s (scope k ∷ st) r h = go (is s 6 k) h
   where
-    go : (t : Bool) → (r ∈? (if t then k ∷ around s st else around s st)) ≡ false → (r ∈? around s st) ≡ false
+    go : (t : Bool) → (r ∈? (when t then k ∷ around s st else around s st)) ≡ false → (r ∈? around s st) ≡ false
     go true q = or_right (eqb r k) q
       where
         or_right : (x : Bool) {y : Bool} → (x || y) ≡ false → y ≡ false
@@ -110,7 +110,7 @@ closed_less s (bound m d ∷ st) r h = closed_less s st r h
 apart_tail : (s : Sheet) (e : Event) (es : List Event) → Distinct (functions_entered s (e ∷ es)) → Distinct (functions_entered s es)
 apart_tail s (enter k) es p = go (is s 6 k) p
   where
-    go : (t : Bool) → Distinct (if t then k ∷ functions_entered s es else functions_entered s es) → Distinct (functions_entered s es)
+    go : (t : Bool) → Distinct (when t then k ∷ functions_entered s es else functions_entered s es) → Distinct (functions_entered s es)
     go true (a_one n q) = q
     go false q = q
 apart_tail s leave es p = p
@@ -127,8 +127,8 @@ ahead_step : (s : Sheet) (z : Stack) (e : Event) (es : List Event) → Distinct 
     → Ahead s ((step s z e)) (functions_entered s es)
 ahead_step s z (enter k) es p f = go (is s 6 k) p f
   where
-    go : (t : Bool) → Distinct (if t then k ∷ functions_entered s es else functions_entered s es) → Ahead s z (if t then k ∷ functions_entered s es else functions_entered s es)
-        → (r : ℕ) → (r ∈? functions_entered s es) ≡ true → (r ∈? (if t then k ∷ around s z else around s z)) ≡ false
+    go : (t : Bool) → Distinct (when t then k ∷ functions_entered s es else functions_entered s es) → Ahead s z (when t then k ∷ functions_entered s es else functions_entered s es)
+        → (r : ℕ) → (r ∈? functions_entered s es) ≡ true → (r ∈? (when t then k ∷ around s z else around s z)) ≡ false
     go true (a_one n q) g r h = by (eqb r k) refl
       where
         by : (u : Bool) → eqb r k ≡ u → (u || r ∈? around s z) ≡ false
@@ -146,7 +146,7 @@ pub enters_apart : (O : Outside) (s : Sheet) {z : Stack} {es : List Event} {m : 
     → (r : ℕ) → m.event ≡ enter r → is s 6 r ≡ true → (r ∈? around s m.stack) ≡ false
 enters_apart O s (r_here {z} {e} {es}) p f r q h =
     f r (ap (λ (x : Event). r ∈? functions_entered s (x ∷ es)) q
-    ∙ ap (λ (t : Bool). r ∈? (if t then r ∷ functions_entered s es else functions_entered s es)) h
+    ∙ ap (λ (t : Bool). r ∈? (when t then r ∷ functions_entered s es else functions_entered s es)) h
     ∙ ap (λ (t : Bool). t || r ∈? functions_entered s es) (eqb_self r))
 enters_apart O s (r_later {z} {e} {es} y w) p f r q h = enters_apart O s w (apart_tail s e es p) (ahead_step s z e es p f) r q h
 

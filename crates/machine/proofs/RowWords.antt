@@ -6,7 +6,7 @@ use Prim.Native.Nat.{ℕ, ◌+◌, ◌*◌, ◌/◌, ◌<◌}
 use lib.ListN.{length}
 use lib.Dec.{eqb}
 use borrow.Author.Tests.{ne_eqb, eqb-true, eqb-false}
-use Rattle.definition.specs.Basics.{if◌then◌else◌, filter, any, final, place, bit, ◌∈?◌, head}
+use Rattle.definition.specs.Basics.{when◌then◌else◌, filter, any, final, place, bit, ◌∈?◌, head}
 use Rattle.definition.specs.Sheet.{Sheet, is, a, b, child}
 use Rattle.definition.specs.Outside.{Outside}
 use Rattle.definition.specs.Meaning.{is_variable, row_of, owner_of, class_number}
@@ -33,20 +33,20 @@ use Rattle.machine.proofs.Columns.{write_row_same, write_row_other}
 -- the row that a moment writes, or 0
 abbrev pub row_written : Sheet → Event → Stack → ℕ
 row_written s e st =
-    if declares_let s e || visits_kind s 50 e || visits_kind s 51 e || visits_kind s 52 e || visits_kind s 55 e then event_row e
-    else if visits_kind s 30 e && is s 4 (a s (event_row e)) then a s (event_row e)
-    else if visits_kind s 59 e && not (eqb (receiver s (event_row e) (open_on s st)) 0) then child s (event_row e)
+    when declares_let s e || visits_kind s 50 e || visits_kind s 51 e || visits_kind s 52 e || visits_kind s 55 e then event_row e
+    else when visits_kind s 30 e && is s 4 (a s (event_row e)) then a s (event_row e)
+    else when visits_kind s 59 e && not (eqb (receiver s (event_row e) (open_on s st)) 0) then child s (event_row e)
     else 0
 
 -- what it writes: code and values; of a literal the function in which it stands, of a class its parent
 abbrev pub words_written : Outside → Sheet → List Moment → Moment → List ℕ
 words_written O s h m =
-    if declares_let s m.event then code s h (declared s (event_row m.event) (within s m)) (open_locals s m.stack)
-    else if visits_kind s 50 m.event then with_distance (distance (use_at s m)) (seen_from s h (within s m) (use_at s m))
-    else if visits_kind s 51 m.event then (if eqb (within s m) (b s 0) then 7 else 8) ∷ []
-    else if visits_kind s 52 m.event then 1 ∷ within s m ∷ []
-    else if visits_kind s 55 m.event then 2 ∷ class_number (lookup (a s (event_row m.event)) m.stack) ∷ []
-    else if visits_kind s 30 m.event then 2 ∷ class_number (lookup (b s (a s (event_row m.event))) m.stack) ∷ []
+    when declares_let s m.event then code s h (declared s (event_row m.event) (within s m)) (open_locals s m.stack)
+    else when visits_kind s 50 m.event then with_distance (distance (use_at s m)) (seen_from s h (within s m) (use_at s m))
+    else when visits_kind s 51 m.event then (when eqb (within s m) (b s 0) then 7 else 8) ∷ []
+    else when visits_kind s 52 m.event then 1 ∷ within s m ∷ []
+    else when visits_kind s 55 m.event then 2 ∷ class_number (lookup (a s (event_row m.event)) m.stack) ∷ []
+    else when visits_kind s 30 m.event then 2 ∷ class_number (lookup (b s (a s (event_row m.event))) m.stack) ∷ []
     else 1 ∷ method_named (a s (child s (event_row m.event))) (own_methods O s (receiver s (event_row m.event) (open_on s m.stack))) ∷ []
 
 -- does the identifier of a moment mean a local or argument of another function?
@@ -68,7 +68,7 @@ grown : (s : Sheet) (h : List Moment) (m : Moment) (f : ℕ) → (ys : List Use)
 grown s h m f = go (is s 50 (visited m.event) && is_outer f (use_at s m)) (captures_snoc s h m f)
   where
     go : (t : Bool)
-        → captures s (h ++ m ∷ []) f ≡ (if t then captures s h f ++ only (not (any (λ v. same v (use_at s m)) (captures s h f))) (use_at s m) else captures s h f)
+        → captures s (h ++ m ∷ []) f ≡ (when t then captures s h f ++ only (not (any (λ v. same v (use_at s m)) (captures s h f))) (use_at s m) else captures s h f)
         → (ys : List Use) × (captures s (h ++ m ∷ []) f ≡ captures s h f ++ ys)
     go true e = (only (not (any (λ v. same v (use_at s m)) (captures s h f))) (use_at s m), e)
     go false e = ([], e ∙ sym (append-nil (captures s h f)))
@@ -92,11 +92,11 @@ seen_on : (s : Sheet) (h : List Moment) (m' m : Moment) → (outside s m ≡ tru
 seen_on s h m' m q n = go (outside s m) q
   where
     go : (t : Bool) → (t ≡ true → any (same (use_at s m)) (captures s h (within s m)) ≡ true)
-        → (if t
+        → (when t
         then 6 ∷ place (same (use_at s m)) (captures s (h ++ m' ∷ []) (within s m)) ∷ 0
         ∷ bit (is_mutable s (use_at s m).means) ∷ []
         else code s (h ++ m' ∷ []) (use_at s m).means (use_at s m).slot)
-        ≡ (if t then 6 ∷ place (same (use_at s m)) (captures s h (within s m)) ∷ 0 ∷ bit (is_mutable s (use_at s m).means) ∷ [] else code s h (use_at s m).means (use_at s m).slot)
+        ≡ (when t then 6 ∷ place (same (use_at s m)) (captures s h (within s m)) ∷ 0 ∷ bit (is_mutable s (use_at s m).means) ∷ [] else code s h (use_at s m).means (use_at s m).slot)
     go true q =
         let g = grown s h m' (within s m) in
         ap (λ (k : ℕ). 6 ∷ k ∷ 0 ∷ bit (is_mutable s (use_at s m).means) ∷ [])
@@ -115,10 +115,10 @@ words_on O s h m' m q =
 
     rest : List ℕ
     rest =
-        if visits_kind s 51 m.event then (if eqb (within s m) (b s 0) then 7 else 8) ∷ []
-        else if visits_kind s 52 m.event then 1 ∷ within s m ∷ []
-        else if visits_kind s 55 m.event then 2 ∷ class_number (lookup (a s (event_row m.event)) m.stack) ∷ []
-        else if visits_kind s 30 m.event then 2 ∷ class_number (lookup (b s (a s (event_row m.event))) m.stack) ∷ []
+        when visits_kind s 51 m.event then (when eqb (within s m) (b s 0) then 7 else 8) ∷ []
+        else when visits_kind s 52 m.event then 1 ∷ within s m ∷ []
+        else when visits_kind s 55 m.event then 2 ∷ class_number (lookup (a s (event_row m.event)) m.stack) ∷ []
+        else when visits_kind s 30 m.event then 2 ∷ class_number (lookup (b s (a s (event_row m.event))) m.stack) ∷ []
         else 1 ∷ method_named (a s (child s (event_row m.event))) (own_methods O s (receiver s (event_row m.event) (open_on s m.stack))) ∷ []
 
     go : (t u : Bool)
@@ -126,8 +126,8 @@ words_on O s h m' m q =
         → code s (h ++ m' ∷ []) (declared s (event_row m.event) (within s m)) (open_locals s m.stack)
         ≡ code s h (declared s (event_row m.event) (within s m)) (open_locals s m.stack))
         → (u ≡ true → seen (h ++ m' ∷ []) ≡ seen h)
-        → (if t then code s (h ++ m' ∷ []) (declared s (event_row m.event) (within s m)) (open_locals s m.stack) else if u then seen (h ++ m' ∷ []) else rest)
-        ≡ (if t then code s h (declared s (event_row m.event) (within s m)) (open_locals s m.stack) else if u then seen h else rest)
+        → (when t then code s (h ++ m' ∷ []) (declared s (event_row m.event) (within s m)) (open_locals s m.stack) else when u then seen (h ++ m' ∷ []) else rest)
+        ≡ (when t then code s h (declared s (event_row m.event) (within s m)) (open_locals s m.stack) else when u then seen h else rest)
     go true u j i = j refl
     go false true j i = i refl
     go false false j i = refl
@@ -178,7 +178,7 @@ captured_new s h z (visit r) snd v o =
     now : captures s (h ++ m ∷ []) (within s m) ≡ captures s h (within s m) ++ only (not (any (λ v. same v u) (captures s h (within s m)))) u
     now =
         captures_snoc s h m (within s m)
-        ∙ ap (λ (t : Bool). if t then captures s h (within s m) ++ only (not (any (λ v. same v u) (captures s h (within s m)))) u else captures s h (within s m))
+        ∙ ap (λ (t : Bool). when t then captures s h (within s m) ++ only (not (any (λ v. same v u) (captures s h (within s m)))) u else captures s h (within s m))
         (pair (is s 50 r) (is_outer (within s m) u) v outer)
 
     fin : (t : Bool) → (t || any (same u) (only (not t) u)) ≡ true
@@ -219,15 +219,15 @@ pub seen_in_is : (s : Sheet) (h : List Moment) (u : Use) (g f : ℕ) (o : Store)
     → seen_in s u.means u.slot g f o ≡ seen_from s h f u
 unfolding seen_in
 seen_in_is s h u g f o e n =
-    ap (λ (l : List Node). if is_variable u.means && not (eqb (owner_of u.means) f)
+    ap (λ (l : List Node). when is_variable u.means && not (eqb (owner_of u.means) f)
     then 6 ∷ place (λ y. eqb (row_of u.means) y.key) l ∷ 0 ∷ bit (is_mutable s u.means) ∷ []
     else code_of s u.means u.slot g)
     e
-    ∙ ap (λ (k : ℕ). if is_variable u.means && not (eqb (owner_of u.means) f)
+    ∙ ap (λ (k : ℕ). when is_variable u.means && not (eqb (owner_of u.means) f)
     then 6 ∷ k ∷ 0 ∷ bit (is_mutable s u.means) ∷ []
     else code_of s u.means u.slot g)
     (place_map (λ y. eqb (row_of u.means) y.key) node_of (captures s h f))
-    ∙ ap (λ (l : List ℕ). if is_variable u.means && not (eqb (owner_of u.means) f)
+    ∙ ap (λ (l : List ℕ). when is_variable u.means && not (eqb (owner_of u.means) f)
     then 6 ∷ place (same u) (captures s h f) ∷ 0 ∷ bit (is_mutable s u.means) ∷ []
     else l)
     (code_is s h u.means u.slot g n)
@@ -254,17 +254,17 @@ module _ (O : Outside) (s : Sheet) (h : List Moment) (z : Stack) (p : Scopes) (o
       rest = 1 ∷ method_named (a s (child s r)) (own_methods O s (receiver_class s r p)) ∷ []
 
       go : (t : Bool) → (t ≡ true → Known s h p.next_global (new_meaning s r p))
-          → (if t then code_of s (new_meaning s r p) p.slot p.next_global else rest) ≡ (if t then code s h (new_meaning s r p) p.slot else rest)
+          → (when t then code_of s (new_meaning s r p) p.slot p.next_global else rest) ≡ (when t then code s h (new_meaning s r p) p.slot else rest)
       go true k = code_is s h (new_meaning s r p) p.slot p.next_global (k refl)
       go false k = refl
   written_is (bring r n d) o i kl ku = rw (lookup_is s z p op (a s (child s (child s 0))))
   written_is (visit r) o i kl ku =
       ap (λ (l : List ℕ).
-      if is s 50 r then l
-      else if is s 51 r then (if eqb (current_function p) (b s 0) then 7 else 8) ∷ []
-      else if is s 52 r then 1 ∷ current_function p ∷ []
-      else if is s 55 r then 2 ∷ class_number (lookup_meaning p (a s r)) ∷ []
-      else if is s 30 r then 2 ∷ class_number (lookup_meaning p (b s (a s r))) ∷ []
+      when is s 50 r then l
+      else when is s 51 r then (when eqb (current_function p) (b s 0) then 7 else 8) ∷ []
+      else when is s 52 r then 1 ∷ current_function p ∷ []
+      else when is s 55 r then 2 ∷ class_number (lookup_meaning p (a s r)) ∷ []
+      else when is s 30 r then 2 ∷ class_number (lookup_meaning p (b s (a s r))) ∷ []
       else 1 ∷ method_named (a s (child s r)) (own_methods O s (receiver_class s r p)) ∷ []) seen
       ∙ rw (← (current_is s z p op), ← (lookup_is s z p op (a s r)), ← (lookup_is s z p op (b s (a s r))), ← (lookup_is s z p op (a s (child s (child s r)))))
     where
@@ -294,22 +294,22 @@ row_part O s h z p op snd e o r kl ku l nz i t =
     old = filter (λ m. eqb (row_written s m.event m.stack) r) h
 
     at_row : eqb (row_written s e z) r ≡ true
-        → row_words (if eqb (row_written s e z) 0 then o else write_row (row_written s e z) (written_words O s e p o) o).table r
+        → row_words (when eqb (row_written s e z) 0 then o else write_row (row_written s e z) (written_words O s e p o) o).table r
         ≡ four_words (words_written O s (h ++ record { event = e; stack = z } ∷ []) (record { event = e; stack = z }))
     at_row q =
-        ap (λ (k : ℕ). row_words (if eqb k 0 then o else write_row k (written_words O s e p o) o).table r) (eqb-true (row_written s e z) r q)
-        ∙ ap (λ (t : Bool). row_words (if t then o else write_row r (written_words O s e p o) o).table r) (ne_eqb r 0 nz)
+        ap (λ (k : ℕ). row_words (when eqb k 0 then o else write_row k (written_words O s e p o) o).table r) (eqb-true (row_written s e z) r q)
+        ∙ ap (λ (t : Bool). row_words (when t then o else write_row r (written_words O s e p o) o).table r) (ne_eqb r 0 nz)
         ∙ write_row_same r (written_words O s e p o) o l
         ∙ ap four_words (written_is O s (h ++ record { event = e; stack = z } ∷ []) z p op snd e o i kl ku)
 
     there : (t : Bool) → eqb (row_written s e z) r ≡ false
-        → row_words (if t then o else write_row (row_written s e z) (written_words O s e p o) o).table r ≡ row_words o.table r
+        → row_words (when t then o else write_row (row_written s e z) (written_words O s e p o) o).table r ≡ row_words o.table r
     there true q = refl
     there false q = write_row_other (row_written s e z) (written_words O s e p o) o r (λ k. eqb-false (row_written s e z) r q (sym k))
 
     go : (t : Bool) → eqb (row_written s e z) r ≡ t
-        → WrittenBy O s (h ++ record { event = e; stack = z } ∷ []) (row_words (if eqb (row_written s e z) 0 then o else write_row (row_written s e z) (written_words O s e p o) o).table r)
-        (final (old ++ (if t then record { event = e; stack = z } ∷ [] else [])))
+        → WrittenBy O s (h ++ record { event = e; stack = z } ∷ []) (row_words (when eqb (row_written s e z) 0 then o else write_row (row_written s e z) (written_words O s e p o) o).table r)
+        (final (old ++ (when t then record { event = e; stack = z } ∷ [] else [])))
     go true q = rw (final_snoc old (record { event = e; stack = z })) (written (at_row q) (stable_new s h z p op e snd kl ku))
     go false q =
         rw (append-nil old)

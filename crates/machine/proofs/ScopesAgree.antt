@@ -9,7 +9,7 @@ use lib.ListN.{length, get_or}
 use lib.Seq.{sets, length-sets}
 use lib.Dec.{eqb, leb, ltb}
 use borrow.Author.Tests.{lt-ltb, ltb-true, ltb-false, eqb-true, eqb-false}
-use Rattle.definition.specs.Basics.{if◌then◌else◌, head}
+use Rattle.definition.specs.Basics.{when◌then◌else◌, head}
 use Rattle.definition.specs.Sheet.{Sheet, is, a}
 use Rattle.definition.specs.Meaning.{Meaning, nothing, function, class, global, toplevel, variable}
 use Rattle.definition.specs.Walk.{Event, enter, leave, loop, declare, bring, visit}
@@ -33,7 +33,7 @@ pub record ScopesAgree (s : Sheet) (z : Stack) (p : Scopes) : Type 0 where
 pub pushed_length : (v : List ℕ) (n : ℕ) (ws : List ℕ) → length (words_pushed v n ws) ≡ length v
 pushed_length v n ws = by (ltb n (entry_room v))
   where
-    by : (t : Bool) → length (if t then sets v (5 * n) ws else v) ≡ length v
+    by : (t : Bool) → length (when t then sets v (5 * n) ws else v) ≡ length v
     by true = length-sets v (5 * n) ws
     by false = refl
 
@@ -121,7 +121,7 @@ locals_le s (scope r ∷ st) = omega (arith, locals_le s st)
 locals_le s (looping ∷ st) = omega (arith, locals_le s st)
 locals_le s (bound m d ∷ st) = by (is_local s d) (locals_le s st)
   where
-    by : (t : Bool) → open_locals s st ≤ length st → (if t then suc (open_locals s st) else open_locals s st) ≤ suc (length st)
+    by : (t : Bool) → open_locals s st ≤ length st → (when t then suc (open_locals s st) else open_locals s st) ≤ suc (length st)
     by true h = omega arith
     by false h = omega arith
 
@@ -135,8 +135,8 @@ pub scopes_name : (s : Sheet) (m : ℕ) (d : Meaning) (z : Stack) (p : Scopes) �
     → ScopesAgree s z p → ScopesAgree s (bound m d ∷ z) (push_name s m d p)
 scopes_name s m d z p room small o =
     scopes_push s z p (bound m d) (tag_of d) m (first_of d) (second_of d p.next_global) _ _ p.fun o room (coded m p.next_global d)
-    (ap (λ (k : ℕ). if is_local s d then k else p.slot) (one_more_is p.slot (slot_small s z p o small))
-    ∙ ap (λ (k : ℕ). if is_local s d then suc k else k) o.slot_is)
+    (ap (λ (k : ℕ). when is_local s d then k else p.slot) (one_more_is p.slot (slot_small s z p o small))
+    ∙ ap (λ (k : ℕ). when is_local s d then suc k else k) o.slot_is)
     o.fun_is_lem (no_mark d p.fun)
 
 -- what is looked up
@@ -164,26 +164,26 @@ module _ (s : Sheet) (z : Stack) (p : Scopes) (o : ScopesAgree s z p) where
 
 -- the slot at the last mark
 slot_at : (s : Sheet) (v : List ℕ) (n : ℕ) → ((i : ℕ) → i < n → entry_word v i 4 ≡ open_locals s (entries v i))
-    → (if eqb (last_mark v n) 0 then 0 else entry_word v (last_mark v n) 4) ≡ open_locals s (entries v (last_mark v n))
+    → (when eqb (last_mark v n) 0 then 0 else entry_word v (last_mark v n) 4) ≡ open_locals s (entries v (last_mark v n))
 unfolding entries
 slot_at s v n h = go (eqb (last_mark v n) 0) refl (mark_lt v n)
   where
     go : (t : Bool) → eqb (last_mark v n) 0 ≡ t
         → (last_mark v n ≡ 0) ⊎ ((last_mark v n < n) × (leb (entry_word v (last_mark v n) 0) 1 ≡ true))
-        → (if t then 0 else entry_word v (last_mark v n) 4) ≡ open_locals s (entries v (last_mark v n))
+        → (when t then 0 else entry_word v (last_mark v n) 4) ≡ open_locals s (entries v (last_mark v n))
     go true e m = rw (eqb-true (last_mark v n) 0 e)
     go false e (inl m) = absurd (eqb-false (last_mark v n) 0 e m)
     go false e (inr l) = h (last_mark v n) l.0
 
 -- the function at the last mark
 fun_at : (s : Sheet) (v : List ℕ) (n : ℕ) → ((i : ℕ) → i < n → leb (entry_word v i 0) 1 ≡ true → entry_word v i 2 ≡ head (around s (entries v i)))
-    → (if eqb (last_mark v n) 0 then 0 else entry_word v (last_mark v n) 2) ≡ head (around s (entries v (last_mark v n)))
+    → (when eqb (last_mark v n) 0 then 0 else entry_word v (last_mark v n) 2) ≡ head (around s (entries v (last_mark v n)))
 unfolding entries
 fun_at s v n h = go (eqb (last_mark v n) 0) refl (mark_lt v n)
   where
     go : (t : Bool) → eqb (last_mark v n) 0 ≡ t
         → (last_mark v n ≡ 0) ⊎ ((last_mark v n < n) × (leb (entry_word v (last_mark v n) 0) 1 ≡ true))
-        → (if t then 0 else entry_word v (last_mark v n) 2) ≡ head (around s (entries v (last_mark v n)))
+        → (when t then 0 else entry_word v (last_mark v n) 2) ≡ head (around s (entries v (last_mark v n)))
     go true e m = rw (eqb-true (last_mark v n) 0 e)
     go false e (inl m) = absurd (eqb-false (last_mark v n) 0 e m)
     go false e (inr l) = h (last_mark v n) l.0 l.1
@@ -192,10 +192,10 @@ fun_at s v n h = go (eqb (last_mark v n) 0) refl (mark_lt v n)
 pub scopes_step : (s : Sheet) (e : Event) (z : Stack) (p : Scopes) → length z < entry_room p.env → length z < 4294967295 → ScopesAgree s z p → ScopesAgree s (step s z e) (step_scopes s e p)
 unfolding step_scopes
 scopes_step s (enter r) z p room small o =
-    scopes_push s z p (scope r) 1 r p.fun 0 p.slot p.next_global (if is s 6 r then r else p.fun) o room refl
+    scopes_push s z p (scope r) 1 r p.fun 0 p.slot p.next_global (when is s 6 r then r else p.fun) o room refl
     o.slot_is (enter_fun (is s 6 r)) (λ e. refl)
   where
-    enter_fun : (t : Bool) → (if t then r else p.fun) ≡ head (if t then r ∷ around s z else around s z)
+    enter_fun : (t : Bool) → (when t then r else p.fun) ≡ head (when t then r ∷ around s z else around s z)
     enter_fun true = refl
     enter_fun false = o.fun_is_lem
 scopes_step s leave z p room small o =

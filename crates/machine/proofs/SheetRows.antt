@@ -10,7 +10,7 @@ use native.Mathlib.Omega.{arith}
 use lib.ListN.{length, get_or}
 use lib.Dec.{eqb, leb, T, eqb→eq}
 use borrow.Author.Tests.{le-leb, eqb-true, eqb-false}
-use Rattle.definition.specs.Basics.{if◌then◌else◌, filter, final, count, from, head, concat_map}
+use Rattle.definition.specs.Basics.{when◌then◌else◌, filter, final, count, from, head, concat_map}
 use Rattle.definition.specs.Sheet.{Sheet, kind, rows, is, child, holder}
 use Rattle.definition.specs.Outside.{Outside}
 use Rattle.definition.specs.Walk.{Event, visit, after, walk}
@@ -62,7 +62,7 @@ module _ (n : ℕ) {O : Outside} {s : Sheet} (ok : Fits O s) (fa : SheetFacts n 
   -- an identifier has no row where a method call on a class hides it
   pub identifier_rows : (r : ℕ) → r < rows s → T (is s 50 r)
       → map (λ vs. eight (r ∷ vs)) (identifier_row s (history O s) r)
-      ≡ (if eqb (cell o.table r 4) 0 then identifier_answer r (row_words o.table r) ∷ [] else [])
+      ≡ (when eqb (cell o.table r 4) 0 then identifier_answer r (row_words o.table r) ∷ [] else [])
   identifier_rows r lr t =
       let q : kind s r ≡ 50 = eqb→eq (kind s r) 50 t in
       let v = visit_once 50 r lr tt tt t (rw q) in
@@ -174,7 +174,7 @@ module _ (n : ℕ) {O : Outside} {s : Sheet} (ok : Fits O s) (fa : SheetFacts n 
 
   -- a member has a row where it is a class method's callee
   pub member_rows : (r : ℕ) → r < rows s → T (is s 54 r)
-      → map (λ vs. eight (r ∷ vs)) (member_row O s (history O s) r) ≡ (if eqb (cell o.table r 0) 0 then [] else answer_row r (row_words o.table r) ∷ [])
+      → map (λ vs. eight (r ∷ vs)) (member_row O s (history O s) r) ≡ (when eqb (cell o.table r 0) 0 then [] else answer_row r (row_words o.table r) ∷ [])
   unfolding row_words
   member_rows r lr t =
       ap (map (λ vs. eight (r ∷ vs))) (member_row_lem O s ok.header (history O s) o k r nz (in_table r lr))
@@ -196,14 +196,14 @@ module _ (n : ℕ) {O : Outside} {s : Sheet} (ok : Fits O s) (fa : SheetFacts n 
           e (member_words_lem O s ok.header (history O s) o k r nz (in_table r lr) (true_of (is s 54 r) t))
 
       by : (ms : List Moment) → filter (is_member_call s r) (history O s) ≡ ms
-          → map (λ vs. eight (r ∷ vs)) (map (member_values O s r) (filter (is_member_call s r) (history O s))) ≡ (if eqb (cell o.table r 0) 0 then [] else answer_row r (row_words o.table r) ∷ [])
+          → map (λ vs. eight (r ∷ vs)) (map (member_values O s r) (filter (is_member_call s r) (history O s))) ≡ (when eqb (cell o.table r 0) 0 then [] else answer_row r (row_words o.table r) ∷ [])
       by [] e =
           let w : cell o.table r 0 ≡ 0 = ap (λ (ws : List ℕ). get_or ws 0 0) (none e) in
-          ap (λ (ms : List Moment). map (λ vs. eight (r ∷ vs)) (map (member_values O s r) ms)) e ∙ sym (ap (λ (x : ℕ). if eqb x 0 then [] else answer_row r (row_words o.table r) ∷ []) w)
+          ap (λ (ms : List Moment). map (λ vs. eight (r ∷ vs)) (map (member_values O s r) ms)) e ∙ sym (ap (λ (x : ℕ). when eqb x 0 then [] else answer_row r (row_words o.table r) ∷ []) w)
       by (m ∷ []) e =
           let w : 1 ≡ cell o.table r 0 = ap (λ (x : List (List ℕ)). get_or (get_or x 0 []) 0 0) (one m e) in
           ap (λ (ms : List Moment). map (λ vs. eight (r ∷ vs)) (map (member_values O s r) ms)) e
           ∙ ap (λ (x : List ℕ). x ∷ []) (eight_full r (member_values O s r m) refl)
           ∙ ap (λ (x : List (List ℕ)). map (answer_row r) x) (one m e)
-          ∙ ap (λ (x : ℕ). if eqb x 0 then [] else answer_row r (row_words o.table r) ∷ []) w
+          ∙ ap (λ (x : ℕ). when eqb x 0 then [] else answer_row r (row_words o.table r) ∷ []) w
       by (m ∷ m' ∷ ms) e = absurd (omega (arith, few, ap length e))

@@ -7,7 +7,7 @@ use native.Mathlib.Omega.{arith}
 use lib.ListN.{length}
 use lib.Dec.{eqb, leb, T, T_not}
 use borrow.Author.Tests.{eq-eqb, eqb-true}
-use Rattle.definition.specs.Basics.{if◌then◌else◌, ◌∈?◌, all, head, place}
+use Rattle.definition.specs.Basics.{when◌then◌else◌, ◌∈?◌, all, head, place}
 use Rattle.definition.specs.Sheet.{Sheet, is, b, child}
 use Rattle.definition.specs.Outside.{Outside, OutsideFits, is_outward}
 use Rattle.definition.specs.Meaning.{Meaning, class, function, global, toplevel, variable, is_variable, is_toplevel, owner_of, Named}
@@ -29,7 +29,7 @@ beyond_in : (f w : ℕ) (gs : List ℕ) → (w ∈? gs) ≡ false → (w ∈? be
 beyond_in f w [] h = refl
 beyond_in f w (g ∷ gs) h = go (eqb w g) refl (eqb g f) (λ k. beyond_in f w gs k)
   where
-    go : (t : Bool) → eqb w g ≡ t → (u : Bool) → ((w ∈? gs) ≡ false → (w ∈? beyond f gs) ≡ false) → (w ∈? (if u then gs else beyond f gs)) ≡ false
+    go : (t : Bool) → eqb w g ≡ t → (u : Bool) → ((w ∈? gs) ≡ false → (w ∈? beyond f gs) ≡ false) → (w ∈? (when u then gs else beyond f gs)) ≡ false
     go true e u i = absurd (true≢false (sym (rw e) ∙ h))
     go false e true i = rw e at h
     go false e false i = i (rw e at h)
@@ -40,7 +40,7 @@ beyond_early f w a_none h = absurd (true≢false (sym h))
 beyond_early f w (a_one {g} {gs} n p) h = go (eqb g w) refl (eqb g f) (λ k. beyond_early f w p k)
   where
     go : (t : Bool) → eqb g w ≡ t → (u : Bool) → ((w ∈? gs) ≡ true → (w ∈? beyond f gs) ≡ is_before w gs f)
-        → (w ∈? (if u then gs else beyond f gs)) ≡ (if t then false else (u || is_before w gs f))
+        → (w ∈? (when u then gs else beyond f gs)) ≡ (when t then false else (u || is_before w gs f))
     go true e true i = ap (λ (k : ℕ). k ∈? gs) (sym (eqb-true g w e)) ∙ n
     go true e false i = beyond_in f w gs (ap (λ (k : ℕ). k ∈? gs) (sym (eqb-true g w e)) ∙ n)
     go false e true i = rw (eqb_same w g ∙ e) at h
@@ -60,7 +60,7 @@ or_right false h = h
 in_scope : (s : Sheet) (w r : ℕ) (st : Stack) → (w ∈? around s st) ≡ true → (w ∈? around s (scope r ∷ st)) ≡ true
 in_scope s w r st h = go (is s 6 r)
   where
-    go : (t : Bool) → (w ∈? (if t then r ∷ around s st else around s st)) ≡ true
+    go : (t : Bool) → (w ∈? (when t then r ∷ around s st else around s st)) ≡ true
     go true = or_right (eqb w r) h
     go false = h
 
@@ -71,7 +71,7 @@ owned_find s n (o_loop o) v = owned_find s n o v
 owned_find s n (o_name {n = m} {d} {st} h o) v = go (eqb m n) refl (λ k. owned_find s n o k)
   where
     go : (t : Bool) → eqb m n ≡ t → (is_variable (lookup n st) ≡ true → (owner_of (lookup n st) ∈? around s st) ≡ true)
-        → (owner_of (top (if eqb m n then bound m d ∷ st else find n st)) ∈? around s st) ≡ true
+        → (owner_of (top (when eqb m n then bound m d ∷ st else find n st)) ∈? around s st) ≡ true
     go true e i = rw e (h (rw e at v)).0
     go false e i = rw e (i (rw e at v))
 
@@ -95,16 +95,16 @@ owned_far s n p (o_scope {r} {st} o) v = go (is s 6 r) p (λ q. owned_far s n q 
     w : ℕ
     w = owner_of (lookup n st)
 
-    go : (t : Bool) → Distinct (if t then r ∷ around s st else around s st)
+    go : (t : Bool) → Distinct (when t then r ∷ around s st else around s st)
         → (Distinct (around s st) → place (eqb w) (around s st) + length (around s (find n st)) ≡ length (around s st))
-        → place (eqb w) (if t then r ∷ around s st else around s st) + length (around s (find n st)) ≡ length (if t then r ∷ around s st else around s st)
+        → place (eqb w) (when t then r ∷ around s st else around s st) + length (around s (find n st)) ≡ length (when t then r ∷ around s st else around s st)
     go true (a_one g q) below = rw (not_there w r (around s st) g (owned_find s n o v)) (omega (arith, below q))
     go false q below = below q
 owned_far s n p (o_loop o) v = owned_far s n p o v
 owned_far s n p (o_name {n = m} {d} {st} h o) v = go (eqb m n) refl (λ k. owned_far s n p o k)
   where
     go : (t : Bool) → eqb m n ≡ t → (is_variable (lookup n st) ≡ true → place (eqb (owner_of (lookup n st))) (around s st) + length (around s (find n st)) ≡ length (around s st))
-        → place (eqb (owner_of (top (if eqb m n then bound m d ∷ st else find n st)))) (around s st) + length (around s (if eqb m n then bound m d ∷ st else find n st))
+        → place (eqb (owner_of (top (when eqb m n then bound m d ∷ st else find n st)))) (around s st) + length (around s (when eqb m n then bound m d ∷ st else find n st))
         ≡ length (around s st)
     go true e i = let k = h (rw e at v) in rw e (omega (arith, head_place (owner_of d) (around s st) k.0 k.1))
     go false e i = rw e (i (rw e at v))
@@ -119,7 +119,7 @@ apart_closed : (s : Sheet) (st : Stack) → Distinct (around s st) → Distinct 
 apart_closed s [] p = p
 apart_closed s (scope r ∷ st) p = go (is s 6 r) p
   where
-    go : (t : Bool) → Distinct (if t then r ∷ around s st else around s st) → Distinct (around s st)
+    go : (t : Bool) → Distinct (when t then r ∷ around s st else around s st) → Distinct (around s st)
     go true (a_one n q) = q
     go false q = q
 apart_closed s (looping ∷ st) p = apart_closed s st p
@@ -134,7 +134,7 @@ declared_owner : (s : Sheet) (r f : ℕ) → is_variable (declared s r f) ≡ tr
 declared_owner s r f = go (is s 4 r) (is s 29 r && leb 2 (b s r)) (new_global s r f) (is s 29 r && eqb (b s f) 1)
   where
     chosen : Bool → Bool → Bool → Bool → Meaning
-    chosen t u v w = if t then class (256 + r) else if u then global (b s r - 2) 0 else if v then toplevel r else if w then function (child s (child s r)) else variable r f
+    chosen t u v w = when t then class (256 + r) else when u then global (b s r - 2) 0 else when v then toplevel r else when w then function (child s (child s r)) else variable r f
 
     go : (t u v w : Bool) → is_variable (chosen t u v w) ≡ true → owner_of (chosen t u v w) ≡ f
     go true u v w e = absurd (true≢false (sym e))
@@ -156,7 +156,7 @@ pub data Proper (s : Sheet) (z : Stack) : Event → Type 0 where
 pub well_formed_step : (s : Sheet) (z : Stack) (e : Event) → Proper s z e → WellFormed s z → WellFormed s ((step s z e))
 well_formed_step s z (enter r) (p_enter h) o = record { apart = go (is s 6 r) refl; owned = o_scope o.owned }
   where
-    go : (t : Bool) → is s 6 r ≡ t → Distinct (if t then r ∷ around s z else around s z)
+    go : (t : Bool) → is s 6 r ≡ t → Distinct (when t then r ∷ around s z else around s z)
     go true e = a_one (h e) o.apart
     go false e = o.apart
 well_formed_step s z leave p_leave o = record { apart = apart_closed s z o.apart; owned = owned_closed s o.owned }

@@ -6,7 +6,7 @@ use Prim.Native.Nat.{ℕ, zero, suc, ◌+◌, ◌*◌, ◌/◌, ◌≤◌, ◌<�
 use native.Mathlib.Omega.{arith}
 use lib.ListN.{length, get_or}
 use lib.Dec.{eqb, T}
-use Rattle.definition.specs.Basics.{if◌then◌else◌, distinct, all}
+use Rattle.definition.specs.Basics.{when◌then◌else◌, distinct, all}
 use Rattle.definition.specs.Sheet.{Sheet, kind}
 use Rattle.definition.specs.Meaning.{Named, is_toplevel, Meaning, nothing, function, class, global, toplevel, variable}
 use Rattle.definition.specs.Outside.{Outside, OutsideFits, is_outward}
@@ -85,7 +85,7 @@ start_numbered s v (f_one {x} {xs} e f) h w =
     let p : Scopes = open_names s xs (no_scopes s v) in
     let c : p.count ≡ length xs = sym (entries_length p.env p.count) ∙ ap length o.stack_is ∙ stack_length xs in
     record {
-      next_is = ap (λ (t : Bool). if t then one_more p.next_global else p.next_global) e ∙ i.next_is;
+      next_is = ap (λ (t : Bool). when t then one_more p.next_global else p.next_global) e ∙ i.next_is;
       numbers = numbers_push s [] p.env p.count (tag_of x.means) x.name (first_of x.means) (second_of x.means p.next_global) p.slot
           (omega (arith, h, c, ap (λ (n : ℕ). min (n / 5) 4294967295) (open_names_length s xs (no_scopes s v)))) i.numbers (known_stored s [] x.means p.next_global (unnumbered e));
     }

@@ -6,7 +6,7 @@ use Prim.Native.Nat.{ℕ, ◌+◌, ◌*◌, ◌/◌, ◌<◌, ◌≤◌, min}
 use native.Mathlib.Omega.{arith}
 use lib.ListN.{length, get_or}
 use lib.Dec.{eqb, leb, ltb}
-use Rattle.definition.specs.Basics.{if◌then◌else◌, filter, final, distinct, bit, ◌∈?◌}
+use Rattle.definition.specs.Basics.{when◌then◌else◌, filter, final, distinct, bit, ◌∈?◌}
 use Rattle.definition.specs.Sheet.{Sheet, kind, is, a, child}
 use Rattle.definition.specs.Outside.{Outside}
 use Rattle.definition.specs.Walk.{Event}
@@ -46,16 +46,16 @@ pub record StoreAgrees (O : Outside) (s : Sheet) (h : List Moment) (o : Store) :
 
 -- Bounds on the nodes, and the calls, part by part.
 module _ (s : Sheet) (e : Event) (p : Scopes) (o : Store) where
-  call_used : o.used + (if visits_kind s 59 e then 1 else 0) ≤ node_room o.nodes → (store_call s e p o).used ≤ o.used + (if visits_kind s 59 e then 1 else 0)
+  call_used : o.used + (when visits_kind s 59 e then 1 else 0) ≤ node_room o.nodes → (store_call s e p o).used ≤ o.used + (when visits_kind s 59 e then 1 else 0)
   unfolding store_call append_call
   call_used room = go (visits_kind s 59 e) (not (eqb (constructed_class s (event_row e) p) 0)) (ltb o.used (node_room o.nodes))
     where
       go : (t u v : Bool)
-          → (if t && u
-          then (if v then appended_call (record { key = event_row e; one = constructed_class s (event_row e) p; two = 0 }) o
+          → (when t && u
+          then (when v then appended_call (record { key = event_row e; one = constructed_class s (event_row e) p; two = 0 }) o
           else o)
           else o).used
-          ≤ o.used + (if t then 1 else 0)
+          ≤ o.used + (when t then 1 else 0)
       go true true true = omega arith
       go true true false = omega arith
       go true false v = omega arith
@@ -65,18 +65,18 @@ module _ (s : Sheet) (e : Event) (p : Scopes) (o : Store) where
   unfolding store_call append_call
   call_low l = go (visits_kind s 59 e && not (eqb (constructed_class s (event_row e) p) 0)) (ltb o.used (node_room o.nodes))
     where
-      go : (t v : Bool) → (if t then (if v then appended_call (record { key = event_row e; one = constructed_class s (event_row e) p; two = 0 }) o else o) else o).calls
-          ≤ (if t then (if v then appended_call (record { key = event_row e; one = constructed_class s (event_row e) p; two = 0 }) o else o) else o).used
+      go : (t v : Bool) → (when t then (when v then appended_call (record { key = event_row e; one = constructed_class s (event_row e) p; two = 0 }) o else o) else o).calls
+          ≤ (when t then (when v then appended_call (record { key = event_row e; one = constructed_class s (event_row e) p; two = 0 }) o else o) else o).used
       go true true = omega arith
       go true false = l
       go false v = l
 
-  field_used : o.used + (if visits_kind s 21 e then 1 else 0) ≤ node_room o.nodes → (store_field s e p o).used ≤ o.used + (if visits_kind s 21 e then 1 else 0)
+  field_used : o.used + (when visits_kind s 21 e then 1 else 0) ≤ node_room o.nodes → (store_field s e p o).used ≤ o.used + (when visits_kind s 21 e then 1 else 0)
   unfolding store_field
   field_used room = go (visits_kind s 21 e) (is s 54 (child s (event_row e))) (not (eqb (class_of s (current_function p)) 0)) _ room
     where
-      go : (t u v w : Bool) → o.used + (if t then 1 else 0) ≤ node_room o.nodes
-          → (if t && u && v && w then add_new (8 * class_of s (current_function p) + 7) (field_node (a s (child s (event_row e)))) o else o).used ≤ o.used + (if t then 1 else 0)
+      go : (t u v w : Bool) → o.used + (when t then 1 else 0) ≤ node_room o.nodes
+          → (when t && u && v && w then add_new (8 * class_of s (current_function p) + 7) (field_node (a s (child s (event_row e)))) o else o).used ≤ o.used + (when t then 1 else 0)
       go true true true true r = omega (arith, add_new_used (8 * class_of s (current_function p) + 7) (field_node (a s (child s (event_row e)))) o (omega arith))
       go true true true false r = omega arith
       go true true false w r = omega arith
@@ -87,7 +87,7 @@ module _ (s : Sheet) (e : Event) (p : Scopes) (o : Store) where
   unfolding store_field
   field_calls = go (new_field s e p)
     where
-      go : (t : Bool) → (if t then add_new (8 * class_of s (current_function p) + 7) (field_node (a s (child s (event_row e)))) o else o).calls ≡ o.calls
+      go : (t : Bool) → (when t then add_new (8 * class_of s (current_function p) + 7) (field_node (a s (child s (event_row e)))) o else o).calls ≡ o.calls
       go true = add_new_calls (8 * class_of s (current_function p) + 7) (field_node (a s (child s (event_row e)))) o
       go false = refl
 
@@ -95,18 +95,18 @@ module _ (s : Sheet) (e : Event) (p : Scopes) (o : Store) where
   unfolding store_field
   field_low i l = go (new_field s e p)
     where
-      go : (t : Bool) → get_or (if t then add_new (8 * class_of s (current_function p) + 7) (field_node (a s (child s (event_row e)))) o else o).table i 0
-          ≤ (if t then add_new (8 * class_of s (current_function p) + 7) (field_node (a s (child s (event_row e)))) o else o).used
+      go : (t : Bool) → get_or (when t then add_new (8 * class_of s (current_function p) + 7) (field_node (a s (child s (event_row e)))) o else o).table i 0
+          ≤ (when t then add_new (8 * class_of s (current_function p) + 7) (field_node (a s (child s (event_row e)))) o else o).used
       go true = add_new_low (8 * class_of s (current_function p) + 7) (field_node (a s (child s (event_row e)))) o i l
       go false = l
 
-  capture_used : o.used + (if visits_kind s 50 e then length (open_functions s p) else 0) ≤ node_room o.nodes
-      → (store_capture s e p o).used ≤ o.used + (if visits_kind s 50 e then length (open_functions s p) else 0)
+  capture_used : o.used + (when visits_kind s 50 e then length (open_functions s p) else 0) ≤ node_room o.nodes
+      → (store_capture s e p o).used ≤ o.used + (when visits_kind s 50 e then length (open_functions s p) else 0)
   unfolding store_capture
   capture_used room = go (visits_kind s 50 e) (is_outer_variable (lookup_meaning p (a s (event_row e))) (current_function p)) _ room
     where
-      go : (t u : Bool) (x : Node) → o.used + (if t then length (open_functions s p) else 0) ≤ node_room o.nodes
-          → (if t && u then add_capture (open_functions s p) x o else o).used ≤ o.used + (if t then length (open_functions s p) else 0)
+      go : (t u : Bool) (x : Node) → o.used + (when t then length (open_functions s p) else 0) ≤ node_room o.nodes
+          → (when t && u then add_capture (open_functions s p) x o else o).used ≤ o.used + (when t then length (open_functions s p) else 0)
       go true true x r = add_capture_used (open_functions s p) x o r
       go true false x r = omega arith
       go false u x r = omega arith
@@ -115,7 +115,7 @@ module _ (s : Sheet) (e : Event) (p : Scopes) (o : Store) where
   unfolding store_capture
   capture_calls = go (visits_kind s 50 e && is_outer_variable (lookup_meaning p (a s (event_row e))) (current_function p)) _
     where
-      go : (t : Bool) (x : Node) → (if t then add_capture (open_functions s p) x o else o).calls ≡ o.calls
+      go : (t : Bool) (x : Node) → (when t then add_capture (open_functions s p) x o else o).calls ≡ o.calls
       go true x = add_capture_calls (open_functions s p) x o
       go false x = refl
 
@@ -123,7 +123,7 @@ module _ (s : Sheet) (e : Event) (p : Scopes) (o : Store) where
   unfolding store_capture
   capture_low i l = go (visits_kind s 50 e && is_outer_variable (lookup_meaning p (a s (event_row e))) (current_function p)) _
     where
-      go : (t : Bool) (x : Node) → get_or (if t then add_capture (open_functions s p) x o else o).table i 0 ≤ (if t then add_capture (open_functions s p) x o else o).used
+      go : (t : Bool) (x : Node) → get_or (when t then add_capture (open_functions s p) x o else o).table i 0 ≤ (when t then add_capture (open_functions s p) x o else o).used
       go true x = add_capture_low (open_functions s p) x o i l
       go false x = l
 
@@ -133,7 +133,7 @@ record Same (o o' : Store) : Type 0 where
   calls_is : o'.calls ≡ o.calls
   nodes_is : o'.nodes ≡ o.nodes
 
-same_if : (t : Bool) (o : Store) (w : List ℕ) → Same o (if t then with_table w o else o)
+same_if : (t : Bool) (o : Store) (w : List ℕ) → Same o (when t then with_table w o else o)
 same_if true o w = record { used_is = refl; calls_is = refl; nodes_is = refl }
 same_if false o w = record { used_is = refl; calls_is = refl; nodes_is = refl }
 
@@ -149,7 +149,7 @@ row_same : (O : Outside) (s : Sheet) (e : Event) (p : Scopes) (o : Store) → Sa
 unfolding store_row write_row
 row_same O s e p o = go (eqb (written_row s e p) 0) _
   where
-    go : (t : Bool) (w : List ℕ) → Same o (if t then o else (if ltb (written_row s e p) (length o.table / 8) then with_table w o else o))
+    go : (t : Bool) (w : List ℕ) → Same o (when t then o else (when ltb (written_row s e p) (length o.table / 8) then with_table w o else o))
     go true w = record { used_is = refl; calls_is = refl; nodes_is = refl }
     go false w = same_if (ltb (written_row s e p) (length o.table / 8)) o w
 
@@ -256,7 +256,7 @@ assemble O s h h' i o o₁ o₂ o₃ o₄ o₅ o₆ s₁ s₂ s₃ s₄ s₅ s�
 
 -- the cost of an event, by what it visits
 node_cost_is : (s : Sheet) → kind s 0 ≡ 0 → (e : Event) (z : Stack)
-    → node_cost s (record { event = e; stack = z }) ≡ (if visits_kind s 59 e then 1 else 0) + (if visits_kind s 21 e then 1 else 0) + (if visits_kind s 50 e then length (around s z) else 0)
+    → node_cost s (record { event = e; stack = z }) ≡ (when visits_kind s 59 e then 1 else 0) + (when visits_kind s 21 e then 1 else 0) + (when visits_kind s 50 e then length (around s z) else 0)
 node_cost_is s hd e z = rw (visits_kind_is s hd 59 refl e, visits_kind_is s hd 21 refl e, visits_kind_is s hd 50 refl e)
 
 -- the store after one event more
@@ -301,38 +301,38 @@ store_step O s hd h z p op snd e o kl ku few room within_table rows out k =
     g₂ = extends_trans (store_call_unchanged O s e p o).grows (store_field_unchanged O s e p o₁).grows
 
     all : nodes_needed s h
-        + ((if visits_kind s 59 e then 1 else 0) + (if visits_kind s 21 e then 1 else 0)
-        + (if visits_kind s 50 e then length (around s z) else 0))
+        + ((when visits_kind s 59 e then 1 else 0) + (when visits_kind s 21 e then 1 else 0)
+        + (when visits_kind s 50 e then length (around s z) else 0))
         ≡ nodes_needed s (h ++ record { event = e; stack = z } ∷ [])
     all = ap (λ (c : ℕ). nodes_needed s h + c) (sym (node_cost_is s hd e z)) ∙ sym (needed_snoc s h (record { event = e; stack = z }))
 
-    r₁ : o.used + (if visits_kind s 59 e then 1 else 0) ≤ node_room o.nodes
+    r₁ : o.used + (when visits_kind s 59 e then 1 else 0) ≤ node_room o.nodes
     r₁ = omega (arith, all, k.used_le, room)
 
-    u₁ : o₁.used ≤ o.used + (if visits_kind s 59 e then 1 else 0)
+    u₁ : o₁.used ≤ o.used + (when visits_kind s 59 e then 1 else 0)
     u₁ = call_used s e p o r₁
 
     n₁ : node_room o.nodes ≡ node_room o₁.nodes
     n₁ = ap (λ (j : ℕ). min (j / 4) 4294967295) (sym (store_call_unchanged O s e p o).grows.nodes_length)
 
-    r₂ : o₁.used + (if visits_kind s 21 e then 1 else 0) ≤ node_room o₁.nodes
+    r₂ : o₁.used + (when visits_kind s 21 e then 1 else 0) ≤ node_room o₁.nodes
     r₂ = omega (arith, all, k.used_le, room, u₁, n₁)
 
-    u₂ : o₂.used ≤ o₁.used + (if visits_kind s 21 e then 1 else 0)
+    u₂ : o₂.used ≤ o₁.used + (when visits_kind s 21 e then 1 else 0)
     u₂ = field_used s e p o₁ r₂
 
     n₂ : node_room o₁.nodes ≡ node_room o₂.nodes
     n₂ = ap (λ (j : ℕ). min (j / 4) 4294967295) (sym (store_field_unchanged O s e p o₁).grows.nodes_length)
 
-    r₃ : o₂.used + (if visits_kind s 50 e then length (around s z) else 0) ≤ node_room o₂.nodes
+    r₃ : o₂.used + (when visits_kind s 50 e then length (around s z) else 0) ≤ node_room o₂.nodes
     r₃ = omega (arith, all, k.used_le, room, u₁, n₁, u₂, n₂)
 
     fu : length (open_functions s p) ≡ length (around s z)
     fu = ap length (sym (functions_is s z p op))
 
-    u₃ : o₃.used ≤ o₂.used + (if visits_kind s 50 e then length (around s z) else 0)
-    u₃ = subst (λ (n : ℕ). o₃.used ≤ o₂.used + (if visits_kind s 50 e then n else 0)) fu
-        (capture_used s e p o₂ (subst (λ (n : ℕ). o₂.used + (if visits_kind s 50 e then n else 0) ≤ node_room o₂.nodes) (sym fu) r₃))
+    u₃ : o₃.used ≤ o₂.used + (when visits_kind s 50 e then length (around s z) else 0)
+    u₃ = subst (λ (n : ℕ). o₃.used ≤ o₂.used + (when visits_kind s 50 e then n else 0)) fu
+        (capture_used s e p o₂ (subst (λ (n : ℕ). o₂.used + (when visits_kind s 50 e then n else 0) ≤ node_room o₂.nodes) (sym fu) r₃))
 
     u₆ : o₆.used ≤ nodes_needed s (h ++ record { event = e; stack = z } ∷ [])
     u₆ = omega (arith, all, k.used_le, u₁, u₂, u₃, (row_same O s e p o₅).used_is, (hidden_same s e p o₄).used_is, (local_same s e p o₃).used_is)

@@ -8,7 +8,7 @@ use lib.ListN.{length, get_or, set}
 use lib.Seq.{get_or-set_same, get_or-set_other}
 use lib.Dec.{eqb}
 use borrow.Author.Tests.{ne_eqb, eqb-true, eqb-false}
-use Rattle.definition.specs.Basics.{if◌then◌else◌, filter, any, distinct, largest, bit, ◌∈?◌, head}
+use Rattle.definition.specs.Basics.{when◌then◌else◌, filter, any, distinct, largest, bit, ◌∈?◌, head}
 use Rattle.definition.specs.Sheet.{Sheet, kind, is, a, child}
 use Rattle.definition.specs.Outside.{Outside}
 use Rattle.definition.specs.Meaning.{is_variable, row_of, owner_of}
@@ -54,8 +54,8 @@ declares_let_is s hd (visit r) = ap (λ (j : ℕ). eqb j 29) hd
 -- How many nodes a moment can need: one for a call and an assignment, and for an identifier one for each function around it.
 abbrev pub node_cost : Sheet → Moment → ℕ
 node_cost s m =
-    (if is s 59 (visited m.event) then 1 else 0) + (if is s 21 (visited m.event) then 1 else 0)
-    + (if is s 50 (visited m.event) then length (around s m.stack) else 0)
+    (when is s 59 (visited m.event) then 1 else 0) + (when is s 21 (visited m.event) then 1 else 0)
+    + (when is s 50 (visited m.event) then length (around s m.stack) else 0)
 
 abbrev pub nodes_needed : Sheet → List Moment → ℕ
 nodes_needed s [] = 0
@@ -69,24 +69,24 @@ needed_snoc s (x ∷ h) m = omega (arith, needed_snoc s h m)
 
 -- a variable of the innermost function is captured by none, so its captures need no search
 own_skipped : (t u : Bool) (fs : List ℕ) (x : Node) (o : Store)
-    → (if t && (u && not (eqb x.one (head fs))) then add_capture fs x o else o) ≡ (if t && u then add_capture fs x o else o)
+    → (when t && (u && not (eqb x.one (head fs))) then add_capture fs x o else o) ≡ (when t && u then add_capture fs x o else o)
 unfolding add_capture
 own_skipped false u fs x o = refl
 own_skipped true false fs x o = refl
 own_skipped true true [] x o = go (not (eqb x.one 0))
   where
-    go : (v : Bool) → (if v then o else o) ≡ o
+    go : (v : Bool) → (when v then o else o) ≡ o
     go true = refl
     go false = refl
 own_skipped true true (g ∷ gs) x o = go (eqb x.one g) (eqb_same g x.one)
   where
-    go : (v : Bool) → eqb g x.one ≡ v → (if not v then add_capture (g ∷ gs) x o else o) ≡ add_capture (g ∷ gs) x o
+    go : (v : Bool) → eqb g x.one ≡ v → (when not v then add_capture (g ∷ gs) x o else o) ≡ add_capture (g ∷ gs) x o
     go true e = rw e
     go false e = refl
 
 part_list : (t : Bool) (fs : List ℕ) (x : Node) (o : Store) (f : ℕ) → Distinct fs → (t ≡ true → o.used + length fs ≤ node_room o.nodes) → f < length o.table / 8
     → ((g : ℕ) → get_or o.table (8 * g + 6) 0 ≤ o.used) → (t ≡ true → HasFurther fs x o f)
-    → list_at (if t then add_capture fs x o else o) (8 * f + 6) ≡ (if t then (if is_before x.one fs f then add_key x (list_at o (8 * f + 6)) else list_at o (8 * f + 6)) else list_at o (8 * f + 6))
+    → list_at (when t then add_capture fs x o else o) (8 * f + 6) ≡ (when t then (when is_before x.one fs f then add_key x (list_at o (8 * f + 6)) else list_at o (8 * f + 6)) else list_at o (8 * f + 6))
 part_list true fs x o f d room h low k = add_capture_list fs x o f d (room refl) h low (k refl)
 part_list false fs x o f d room h low k = refl
 
@@ -98,7 +98,7 @@ and_then : (x y : Bool) → (x && y) ≡ true → y ≡ true
 and_then true y e = e
 and_then false y e = absurd (true≢false (sym e))
 
-if_add : (x y : Bool) (u n k : ℕ) → u + (if x then n else 0) ≤ k → (x && y) ≡ true → u + n ≤ k
+if_add : (x y : Bool) (u n k : ℕ) → u + (when x then n else 0) ≤ k → (x && y) ≡ true → u + n ≤ k
 if_add true y u n k h e = h
 if_add false y u n k h e = absurd (true≢false (sym e))
 
@@ -124,7 +124,7 @@ module _ (O : Outside) (s : Sheet) (hd : kind s 0 ≡ 0) (h : List Moment) (z : 
       (T_true (any (λ y. same y u) (captures s h g)) (sym (keys g (rows g i)) ∙ q)))
 
   pub capture_part : (e : Event) → Outward s h (record { event = e; stack = z }) → (o : Store) (f : ℕ)
-      → o.used + (if visits_kind s 50 e then length (around s z) else 0) ≤ node_room o.nodes → f < length o.table / 8
+      → o.used + (when visits_kind s 50 e then length (around s z) else 0) ≤ node_room o.nodes → f < length o.table / 8
       → ((g : ℕ) → (g ∈? around s z) ≡ true → g < length o.table / 8)
       → ((g : ℕ) → get_or o.table (8 * g + 6) 0 ≤ o.used)
       → ((g : ℕ) → g < length o.table / 8 → list_at o (8 * g + 6) ≡ map node_of (captures s h g))
@@ -145,11 +145,11 @@ module _ (O : Outside) (s : Sheet) (hd : kind s 0 ≡ 0) (h : List Moment) (z : 
       ∙ rw (i f l) (sym (keys_snoc s h (record { event = visit r; stack = z }) snd f)))
 
 -- Local counts.
-raise_locals_cell : (g k : ℕ) (o : Store) (f : ℕ) → f < length o.table / 8 → cell (raise_locals g k o).table f 5 ≡ (if eqb g f then max (cell o.table f 5) k else cell o.table f 5)
+raise_locals_cell : (g k : ℕ) (o : Store) (f : ℕ) → f < length o.table / 8 → cell (raise_locals g k o).table f 5 ≡ (when eqb g f then max (cell o.table f 5) k else cell o.table f 5)
 unfolding raise_locals
 raise_locals_cell g k o f l = go (eqb g f) refl
   where
-    go : (t : Bool) → eqb g f ≡ t → cell (set o.table (8 * g + 5) (max (cell o.table g 5) k)) f 5 ≡ (if t then max (cell o.table f 5) k else cell o.table f 5)
+    go : (t : Bool) → eqb g f ≡ t → cell (set o.table (8 * g + 5) (max (cell o.table g 5) k)) f 5 ≡ (when t then max (cell o.table f 5) k else cell o.table f 5)
     go true e =
         let w : g ≡ f = eqb-true g f e in
         ap (λ (j : ℕ). cell (set o.table (8 * j + 5) (max (cell o.table j 5) k)) f 5) w
@@ -160,7 +160,7 @@ raise_locals_cell g k o f l = go (eqb g f) refl
 
 local_snoc : (s : Sheet) (h : List Moment) (m : Moment) (f : ℕ)
     → local_count s (h ++ m ∷ []) f
-    ≡ (if is s 29 (declares m.event) && (is_local s (declaration s m) && eqb (within s m) f) then max (local_count s h f) (suc (open_locals s m.stack)) else local_count s h f)
+    ≡ (when is s 29 (declares m.event) && (is_local s (declaration s m) && eqb (within s m) f) then max (local_count s h f) (suc (open_locals s m.stack)) else local_count s h f)
 local_snoc s h m f =
     ap (λ (l : List Moment). largest (map (λ x. suc (open_locals s x.stack)) l))
     (filter2_snoc (λ x. is_local s (declaration s x) && eqb (within s x) f) (λ x. is s 29 (declares x.event)) h m)
@@ -171,34 +171,34 @@ local_snoc s h m f =
     old : List ℕ
     old = map (λ x. suc (open_locals s x.stack)) (filter (λ x. is_local s (declaration s x) && eqb (within s x) f) (declarings s h 29))
 
-    go : (t : Bool) → largest (old ++ map (λ x. suc (open_locals s x.stack)) (only t m)) ≡ (if t then max (largest old) (suc (open_locals s m.stack)) else largest old)
+    go : (t : Bool) → largest (old ++ map (λ x. suc (open_locals s x.stack)) (only t m)) ≡ (when t then max (largest old) (suc (open_locals s m.stack)) else largest old)
     go true = largest_snoc old (suc (open_locals s m.stack))
     go false = ap largest (append-nil old)
 
-local_if : (t u v : Bool) (x y : ℕ) → (if t && u then (if v then x else y) else y) ≡ (if t && (u && v) then x else y)
+local_if : (t u v : Bool) (x y : ℕ) → (when t && u then (when v then x else y) else y) ≡ (when t && (u && v) then x else y)
 local_if true true v x y = refl
 local_if true false v x y = refl
 local_if false u v x y = refl
 
 raise_locals_if : (t : Bool) (g k : ℕ) (o : Store) (f : ℕ) → f < length o.table / 8
-    → cell (if t then raise_locals g k o else o).table f 5 ≡ (if t then (if eqb g f then max (cell o.table f 5) k else cell o.table f 5) else cell o.table f 5)
+    → cell (when t then raise_locals g k o else o).table f 5 ≡ (when t then (when eqb g f then max (cell o.table f 5) k else cell o.table f 5) else cell o.table f 5)
 raise_locals_if true g k o f l = raise_locals_cell g k o f l
 raise_locals_if false g k o f l = refl
 
 -- Hidden identifiers.
-mark_hidden_cell : (g : ℕ) (o : Store) (r : ℕ) → r < length o.table / 8 → cell (mark_hidden g o).table r 4 ≡ (if eqb g r then 1 else cell o.table r 4)
+mark_hidden_cell : (g : ℕ) (o : Store) (r : ℕ) → r < length o.table / 8 → cell (mark_hidden g o).table r 4 ≡ (when eqb g r then 1 else cell o.table r 4)
 unfolding mark_hidden
 mark_hidden_cell g o r l = go (eqb g r) refl
   where
-    go : (t : Bool) → eqb g r ≡ t → cell (set o.table (8 * g + 4) 1) r 4 ≡ (if t then 1 else cell o.table r 4)
+    go : (t : Bool) → eqb g r ≡ t → cell (set o.table (8 * g + 4) 1) r 4 ≡ (when t then 1 else cell o.table r 4)
     go true e = ap (λ (j : ℕ). cell (set o.table (8 * j + 4) 1) r 4) (eqb-true g r e) ∙ get_or-set_same o.table (8 * r + 4) 1 0 (omega arith)
     go false e =
         let ne : g ≡ r → ⊥ = eqb-false g r e in
         get_or-set_other o.table (8 * g + 4) (8 * r + 4) 1 0 (λ q. omega arith)
 
 mark_hidden_if : (t : Bool) (g : ℕ) (o : Store) (r : ℕ) → r < length o.table / 8
-    → cell (if t then mark_hidden g o else o).table r 4
-    ≡ (if t then (if eqb g r then 1 else cell o.table r 4) else cell o.table r 4)
+    → cell (when t then mark_hidden g o else o).table r 4
+    ≡ (when t then (when eqb g r then 1 else cell o.table r 4) else cell o.table r 4)
 mark_hidden_if true g o r l = mark_hidden_cell g o r l
 mark_hidden_if false g o r l = refl
 
@@ -207,8 +207,8 @@ is_hidden s h r = any (λ m. eqb (child s (child s (visited m.event))) r) (class
 
 hidden_snoc : (s : Sheet) (h : List Moment) (m : Moment) (r : ℕ)
     → bit (is_hidden s (h ++ m ∷ []) r)
-    ≡ (if is s 59 (visited m.event) && not (eqb (receiver s (visited m.event) (open_on s m.stack)) 0)
-    then (if eqb (child s (child s (visited m.event))) r then 1 else bit (is_hidden s h r)) else bit (is_hidden s h r))
+    ≡ (when is s 59 (visited m.event) && not (eqb (receiver s (visited m.event) (open_on s m.stack)) 0)
+    then (when eqb (child s (child s (visited m.event))) r then 1 else bit (is_hidden s h r)) else bit (is_hidden s h r))
 hidden_snoc s h m r =
     ap (λ (l : List Moment). bit (any (λ x. eqb (child s (child s (visited x.event))) r) l))
     (filter2_snoc (λ x. not (eqb (receiver s (visited x.event) (open_on s x.stack)) 0)) (λ x. is s 59 (visited x.event)) h m)
@@ -217,7 +217,7 @@ hidden_snoc s h m r =
     ∙ go (is s 59 (visited m.event) && not (eqb (receiver s (visited m.event) (open_on s m.stack)) 0)) (is_hidden s h r) (eqb (child s (child s (visited m.event))) r) refl
   where
     go : (t u v : Bool) → eqb (child s (child s (visited m.event))) r ≡ v
-        → bit (u || any (λ x. eqb (child s (child s (visited x.event))) r) (only t m)) ≡ (if t then (if v then 1 else bit u) else bit u)
+        → bit (u || any (λ x. eqb (child s (child s (visited x.event))) r) (only t m)) ≡ (when t then (when v then 1 else bit u) else bit u)
     go true true true e = refl
     go true true false e = refl
     go true false true e = rw e
@@ -236,7 +236,7 @@ module _ (O : Outside) (s : Sheet) (hd : kind s 0 ≡ 0) (h : List Moment) (z : 
   local_part few leave o f l i = i ∙ sym (local_same leave refl f)
   local_part few loop o f l i = i ∙ sym (local_same loop refl f)
   local_part few (declare r) o f l i =
-      ap (λ (k : ℕ). cell (if is s 29 r && is_local s (new_meaning s r p) then raise_locals (current_function p) k o else o).table f 5) (one_more_is p.slot few)
+      ap (λ (k : ℕ). cell (when is s 29 r && is_local s (new_meaning s r p) then raise_locals (current_function p) k o else o).table f 5) (one_more_is p.slot few)
       ∙ raise_locals_if (is s 29 r && is_local s (new_meaning s r p)) (current_function p) (suc p.slot) o f l
       ∙ local_if (is s 29 r) (is_local s (new_meaning s r p)) (eqb (current_function p) f) (max (cell o.table f 5) (suc p.slot)) (cell o.table f 5)
       ∙ rw (i, ← (new_meaning_is s z p op r), ← (current_is s z p op), op.slot_is) (sym (local_snoc s h (record { event = declare r; stack = z }) f))
@@ -261,23 +261,23 @@ module _ (O : Outside) (s : Sheet) (hd : kind s 0 ≡ 0) (h : List Moment) (z : 
 -- Constructor calls, in the walk's order.
 calls_snoc : (s : Sheet) (h : List Moment) (m : Moment)
     → map (call_node s) (calls_of s (h ++ m ∷ []))
-    ≡ (if is s 59 (visited m.event) && not (eqb (constructed s (visited m.event) (open_on s m.stack)) 0)
+    ≡ (when is s 59 (visited m.event) && not (eqb (constructed s (visited m.event) (open_on s m.stack)) 0)
     then map (call_node s) (calls_of s h) ++ call_node s m ∷ [] else map (call_node s) (calls_of s h))
 calls_snoc s h m =
     ap (map (call_node s)) (filter2_snoc (λ x. not (eqb (constructed s (visited x.event) (open_on s x.stack)) 0)) (λ x. is s 59 (visited x.event)) h m)
     ∙ map_append (call_node s) (calls_of s h) (only (is s 59 (visited m.event) && not (eqb (constructed s (visited m.event) (open_on s m.stack)) 0)) m)
     ∙ go (is s 59 (visited m.event) && not (eqb (constructed s (visited m.event) (open_on s m.stack)) 0))
   where
-    go : (t : Bool) → map (call_node s) (calls_of s h) ++ map (call_node s) (only t m) ≡ (if t then map (call_node s) (calls_of s h) ++ call_node s m ∷ [] else map (call_node s) (calls_of s h))
+    go : (t : Bool) → map (call_node s) (calls_of s h) ++ map (call_node s) (only t m) ≡ (when t then map (call_node s) (calls_of s h) ++ call_node s m ∷ [] else map (call_node s) (calls_of s h))
     go true = refl
     go false = append-nil (map (call_node s) (calls_of s h))
 
 call_if : (t : Bool) (x : Node) (o : Store) → (t ≡ true → o.used < node_room o.nodes) → o.calls ≤ o.used
-    → chain_to (if t then append_call x o else o).nodes (if t then append_call x o else o).calls ≡ (if t then chain_to o.nodes o.calls ++ x ∷ [] else chain_to o.nodes o.calls)
+    → chain_to (when t then append_call x o else o).nodes (when t then append_call x o else o).calls ≡ (when t then chain_to o.nodes o.calls ++ x ∷ [] else chain_to o.nodes o.calls)
 call_if true x o room l = call_list 0 x o (room refl) l
 call_if false x o room l = refl
 
-if_one : (x y : Bool) (u k : ℕ) → u + (if x then 1 else 0) ≤ k → (x && y) ≡ true → u < k
+if_one : (x y : Bool) (u k : ℕ) → u + (when x then 1 else 0) ≤ k → (x && y) ≡ true → u < k
 if_one true y u k h e = omega arith
 if_one false y u k h e = absurd (true≢false (sym e))
 
@@ -302,7 +302,7 @@ any_same n (x ∷ xs) = ap (λ (t : Bool). t || any (λ y. eqb y n) xs) (eqb_sam
 
 -- one field more among a class's own, of which `xs` are listed and `ys` stored
 own_snoc : (xs rs : List ℕ) (ys : List Node) (n : ℕ) (t : Bool) → distinct eqb (xs ++ rs) ≡ distinct eqb xs ++ map (λ y. y.key) ys
-    → distinct eqb (xs ++ (rs ++ only t n)) ≡ distinct eqb xs ++ map (λ y. y.key) (if t then (if n ∈? xs then ys else add_key (field_node n) ys) else ys)
+    → distinct eqb (xs ++ (rs ++ only t n)) ≡ distinct eqb xs ++ map (λ y. y.key) (when t then (when n ∈? xs then ys else add_key (field_node n) ys) else ys)
 own_snoc xs rs ys n false e = ap (λ (l : List ℕ). distinct eqb (xs ++ l)) (append-nil rs) ∙ e
 own_snoc xs rs ys n true e =
     ap (distinct eqb) (sym (append_assoc xs rs (n ∷ [])))
@@ -315,7 +315,7 @@ own_snoc xs rs ys n true e =
     ∙ go (n ∈? xs) (has_key n ys)
   where
     go : (t u : Bool) → (distinct eqb xs ++ map (λ y. y.key) ys) ++ only (not (t || u)) n
-        ≡ distinct eqb xs ++ map (λ y. y.key) (if t then ys else if u then ys else ys ++ field_node n ∷ [])
+        ≡ distinct eqb xs ++ map (λ y. y.key) (when t then ys else when u then ys else ys ++ field_node n ∷ [])
     go true u = append-nil (distinct eqb xs ++ map (λ y. y.key) ys)
     go false true = append-nil (distinct eqb xs ++ map (λ y. y.key) ys)
     go false false =
@@ -324,28 +324,28 @@ own_snoc xs rs ys n true e =
 
 field_list : (s : Sheet) (t u : Bool) (d c n : ℕ) (o : Store) → (t ≡ true → o.used < node_room o.nodes) → c < length o.table / 8 → (c ≡ 0 → ⊥)
     → get_or o.table (8 * c + 7) 0 ≤ o.used
-    → list_at (if t && u && not (eqb d 0) && not (n ∈? listed_fields s d) then add_new (8 * d + 7) (field_node n) o else o) (8 * c + 7)
-    ≡ (if t && (u && eqb d c) then (if n ∈? listed_fields s c then list_at o (8 * c + 7) else add_key (field_node n) (list_at o (8 * c + 7))) else list_at o (8 * c + 7))
+    → list_at (when t && u && not (eqb d 0) && not (n ∈? listed_fields s d) then add_new (8 * d + 7) (field_node n) o else o) (8 * c + 7)
+    ≡ (when t && (u && eqb d c) then (when n ∈? listed_fields s c then list_at o (8 * c + 7) else add_key (field_node n) (list_at o (8 * c + 7))) else list_at o (8 * c + 7))
 field_list s false u d c n o room l nz low = refl
 field_list s true false d c n o room l nz low = refl
 field_list s true true d c n o room l nz low = go (eqb d c) refl
   where
-    other : (v : Bool) → (d ≡ c → ⊥) → list_at (if v then add_new (8 * d + 7) (field_node n) o else o) (8 * c + 7) ≡ list_at o (8 * c + 7)
+    other : (v : Bool) → (d ≡ c → ⊥) → list_at (when v then add_new (8 * d + 7) (field_node n) o else o) (8 * c + 7) ≡ list_at o (8 * c + 7)
     other true ne =
         list_kept o (add_new (8 * d + 7) (field_node n) o) (8 * c + 7) (add_new_extends (8 * d + 7) (field_node n) o)
         (add_new_word (8 * d + 7) (field_node n) o (8 * c + 7) (λ q. omega arith)) low
     other false ne = refl
 
-    own : (v : Bool) → list_at (if not v then add_new (8 * c + 7) (field_node n) o else o) (8 * c + 7) ≡ (if v then list_at o (8 * c + 7) else add_key (field_node n) (list_at o (8 * c + 7)))
+    own : (v : Bool) → list_at (when not v then add_new (8 * c + 7) (field_node n) o else o) (8 * c + 7) ≡ (when v then list_at o (8 * c + 7) else add_key (field_node n) (list_at o (8 * c + 7)))
     own true = refl
     own false = add_new_list (8 * c + 7) (field_node n) o (room refl) (omega arith) low
 
     go : (v : Bool) → eqb d c ≡ v
-        → list_at (if not (eqb d 0) && not (n ∈? listed_fields s d) then add_new (8 * d + 7) (field_node n) o else o) (8 * c + 7)
-        ≡ (if v then (if n ∈? listed_fields s c then list_at o (8 * c + 7) else add_key (field_node n) (list_at o (8 * c + 7))) else list_at o (8 * c + 7))
+        → list_at (when not (eqb d 0) && not (n ∈? listed_fields s d) then add_new (8 * d + 7) (field_node n) o else o) (8 * c + 7)
+        ≡ (when v then (when n ∈? listed_fields s c then list_at o (8 * c + 7) else add_key (field_node n) (list_at o (8 * c + 7))) else list_at o (8 * c + 7))
     go true e =
-        ap (λ (j : ℕ). list_at (if not (eqb j 0) && not (n ∈? listed_fields s j) then add_new (8 * j + 7) (field_node n) o else o) (8 * c + 7)) (eqb-true d c e)
-        ∙ ap (λ (v : Bool). list_at (if not v && not (n ∈? listed_fields s c) then add_new (8 * c + 7) (field_node n) o else o) (8 * c + 7)) (ne_eqb c 0 nz)
+        ap (λ (j : ℕ). list_at (when not (eqb j 0) && not (n ∈? listed_fields s j) then add_new (8 * j + 7) (field_node n) o else o) (8 * c + 7)) (eqb-true d c e)
+        ∙ ap (λ (v : Bool). list_at (when not v && not (n ∈? listed_fields s c) then add_new (8 * c + 7) (field_node n) o else o) (8 * c + 7)) (ne_eqb c 0 nz)
         ∙ own (n ∈? listed_fields s c)
     go false e = other (not (eqb d 0) && not (n ∈? listed_fields s d)) (eqb-false d c e)
 
@@ -353,7 +353,7 @@ module _ (O : Outside) (s : Sheet) (hd : kind s 0 ≡ 0) (h : List Moment) (z : 
   calls_same : (e : Event) → visits_kind s 59 e ≡ false → map (call_node s) (calls_of s (h ++ record { event = e; stack = z } ∷ [])) ≡ map (call_node s) (calls_of s h)
   calls_same e v = calls_snoc s h (record { event = e; stack = z }) ∙ rw (visits_kind_is s hd 59 refl e ∙ v)
 
-  pub call_part : (e : Event) (o : Store) → o.used + (if visits_kind s 59 e then 1 else 0) ≤ node_room o.nodes → o.calls ≤ o.used
+  pub call_part : (e : Event) (o : Store) → o.used + (when visits_kind s 59 e then 1 else 0) ≤ node_room o.nodes → o.calls ≤ o.used
       → chain_to o.nodes o.calls ≡ map (call_node s) (calls_of s h)
       → chain_to (store_call s e p o).nodes (store_call s e p o).calls ≡ map (call_node s) (calls_of s (h ++ record { event = e; stack = z } ∷ []))
   unfolding store_call
@@ -371,7 +371,7 @@ module _ (O : Outside) (s : Sheet) (hd : kind s 0 ≡ 0) (h : List Moment) (z : 
   fields_same : (e : Event) → visits_kind s 21 e ≡ false → (c : ℕ) → registered s (h ++ record { event = e; stack = z } ∷ []) c ≡ registered s h c
   fields_same e v c = registered_snoc s h (record { event = e; stack = z }) c ∙ rw (visits_kind_is s hd 21 refl e ∙ v) (append-nil (registered s h c))
 
-  pub field_part : (e : Event) (o : Store) (c : ℕ) → o.used + (if visits_kind s 21 e then 1 else 0) ≤ node_room o.nodes
+  pub field_part : (e : Event) (o : Store) (c : ℕ) → o.used + (when visits_kind s 21 e then 1 else 0) ≤ node_room o.nodes
       → c < length o.table / 8 → (c ≡ 0 → ⊥) → get_or o.table (8 * c + 7) 0 ≤ o.used
       → distinct eqb (listed_fields s c ++ registered s h c) ≡ distinct eqb (listed_fields s c) ++ map (λ y. y.key) (list_at o (8 * c + 7))
       → distinct eqb (listed_fields s c ++ registered s (h ++ record { event = e; stack = z } ∷ []) c)
@@ -383,9 +383,9 @@ module _ (O : Outside) (s : Sheet) (hd : kind s 0 ≡ 0) (h : List Moment) (z : 
   field_part (declare k) o c room l nz low i = rw (fields_same (declare k) refl c) i
   field_part (bring k n d) o c room l nz low i = rw (fields_same (bring k n d) refl c) i
   field_part (visit k) o c room l nz low i =
-      let w : (if is s 21 k && (is s 54 (child s k) && eqb (class_of s (head (around s z))) c)
-      then (if a s (child s k) ∈? listed_fields s c then list_at o (8 * c + 7) else add_key (field_node (a s (child s k))) (list_at o (8 * c + 7))) else list_at o (8 * c + 7))
-      ≡ list_at (if new_field s (visit k) p then add_new (8 * class_of s (current_function p) + 7) (field_node (a s (child s k))) o else o) (8 * c + 7) =
+      let w : (when is s 21 k && (is s 54 (child s k) && eqb (class_of s (head (around s z))) c)
+      then (when a s (child s k) ∈? listed_fields s c then list_at o (8 * c + 7) else add_key (field_node (a s (child s k))) (list_at o (8 * c + 7))) else list_at o (8 * c + 7))
+      ≡ list_at (when new_field s (visit k) p then add_new (8 * class_of s (current_function p) + 7) (field_node (a s (child s k))) o else o) (8 * c + 7) =
       rw (current_is s z p op)
       (sym (field_list s (is s 21 k) (is s 54 (child s k)) (class_of s (current_function p)) c (a s (child s k)) o (λ t. if_one (is s 21 k) true o.used _ room (rw t)) l nz low)) in
       ap (λ (r : List ℕ). distinct eqb (listed_fields s c ++ r)) (registered_snoc s h (record { event = visit k; stack = z }) c)

@@ -7,7 +7,7 @@ use native.Mathlib.Omega.{arith}
 use lib.ListN.{length, get_or}
 use lib.Dec.{eqb, ltb, T}
 use borrow.Author.Tests.{eqb-true, ltb-true}
-use Rattle.definition.specs.Basics.{if◌then◌else◌, count, ◌∈?◌, head}
+use Rattle.definition.specs.Basics.{when◌then◌else◌, count, ◌∈?◌, head}
 use Rattle.definition.specs.Sheet.{Sheet, kind, is, rows}
 use Rattle.definition.specs.Outside.{Outside, OutsideFits}
 use Rattle.definition.specs.Meaning.{Meaning, is_variable, owner_of}
@@ -48,7 +48,7 @@ below_closed : (s : Sheet) (n : ℕ) (st : Stack) → All (λ r. ltb r n) (aroun
 below_closed s n [] h = h
 below_closed s n (scope r ∷ st) h = by (is s 6 r) h
   where
-    by : (t : Bool) → All (λ r. ltb r n) (if t then r ∷ around s st else around s st) → All (λ r. ltb r n) (around s st)
+    by : (t : Bool) → All (λ r. ltb r n) (when t then r ∷ around s st else around s st) → All (λ r. ltb r n) (around s st)
     by true (al_one e q) = q
     by false q = q
 below_closed s n (looping ∷ st) h = below_closed s n st h
@@ -57,7 +57,7 @@ below_closed s n (bound m d ∷ st) h = below_closed s n st h
 entered_tail : (s : Sheet) (n : ℕ) (e : Event) (es : List Event) → All (λ r. ltb r n) (functions_entered s (e ∷ es)) → All (λ r. ltb r n) (functions_entered s es)
 entered_tail s n (enter k) es h = by (is s 6 k) h
   where
-    by : (t : Bool) → All (λ r. ltb r n) (if t then k ∷ functions_entered s es else functions_entered s es) → All (λ r. ltb r n) (functions_entered s es)
+    by : (t : Bool) → All (λ r. ltb r n) (when t then k ∷ functions_entered s es else functions_entered s es) → All (λ r. ltb r n) (functions_entered s es)
     by true (al_one e q) = q
     by false q = q
 entered_tail s n leave es h = h
@@ -71,7 +71,7 @@ below_step : (s : Sheet) (n : ℕ) (z : Stack) (e : Event) (es : List Event)
     → All (λ r. ltb r n) (around s ((step s z e)))
 below_step s n z (enter k) es h g = by (is s 6 k) h
   where
-    by : (t : Bool) → All (λ r. ltb r n) (if t then k ∷ functions_entered s es else functions_entered s es) → All (λ r. ltb r n) (if t then k ∷ around s z else around s z)
+    by : (t : Bool) → All (λ r. ltb r n) (when t then k ∷ functions_entered s es else functions_entered s es) → All (λ r. ltb r n) (when t then k ∷ around s z else around s z)
     by true (al_one e q) = al_one e g
     by false q = g
 below_step s n z leave es h g = below_closed s n z g

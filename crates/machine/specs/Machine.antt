@@ -3,7 +3,7 @@
 -- contract is an equation with one of these functions and needs no fact about the sheet.
 use Rattle.std.specs.Prelude.{Bool, true, false, not, ◌&&◌, ◌||◌, List, [], ◌∷◌, ◌++◌, map, ℕ, zero, suc, ◌+◌, ◌-◌, ◌*◌, ◌/◌, min, max, length, get_or, set, take, eqb, leb, ltb}
 use Rattle.std.proofs.lemmas.List.Edits.{sets}
-use Rattle.definition.specs.Basics.{if◌then◌else◌, any, place, bit, ◌∈?◌}
+use Rattle.definition.specs.Basics.{when◌then◌else◌, any, place, bit, ◌∈?◌}
 use Rattle.definition.specs.Sheet.{Sheet, child, a, b, is, kids_of}
 use Rattle.definition.specs.Meaning.{Meaning, Named, nothing, function, class, global, toplevel, variable, row_of, owner_of, is_variable, is_toplevel, class_number}
 use Rattle.definition.specs.Outside.{Outside}
@@ -81,41 +81,41 @@ second_of (toplevel r) n = n
 -- what an entry of tag t with values x and y declares
 abbrev pub meaning_of : ℕ → ℕ → ℕ → Meaning
 meaning_of t x y =
-    if eqb t 3 then function x
-    else if eqb t 4 then class x
-    else if eqb t 5 then global x y
-    else if eqb t 6 then variable x y
-    else if eqb t 7 then toplevel x
+    when eqb t 3 then function x
+    else when eqb t 4 then class x
+    else when eqb t 5 then global x y
+    else when eqb t 6 then variable x y
+    else when eqb t 7 then toplevel x
     else nothing
 
 -- one more than the place of the last of the first n entries that declares name m, or 0
 unfoldable pub find_name : List ℕ → ℕ → ℕ → ℕ
 find_name v m zero = 0
-find_name v m (suc n) = if leb (entry_word v n 0) 1 then find_name v m n else if eqb (entry_word v n 1) m then suc n else find_name v m n
+find_name v m (suc n) = when leb (entry_word v n 0) 1 then find_name v m n else when eqb (entry_word v n 1) m then suc n else find_name v m n
 
 -- is name m declared after the last scope mark of the first n entries?
 unfoldable pub taken_in : List ℕ → ℕ → ℕ → Bool
 taken_in v m zero = false
-taken_in v m (suc n) = if leb (entry_word v n 0) 1 then (if eqb (entry_word v n 0) 0 then taken_in v m n else false) else (eqb (entry_word v n 1) m || taken_in v m n)
+taken_in v m (suc n) = when leb (entry_word v n 0) 1 then (when eqb (entry_word v n 0) 0 then taken_in v m n else false) else (eqb (entry_word v n 1) m || taken_in v m n)
 
 -- is there a loop mark after the last function's scope mark of the first n entries?
 unfoldable pub loop_in : Sheet → List ℕ → ℕ → Bool
 loop_in s v zero = false
-loop_in s v (suc n) = if leb (entry_word v n 0) 1 then (if eqb (entry_word v n 0) 0 then true else if is s 6 (entry_word v n 1) then false else loop_in s v n) else loop_in s v n
+loop_in s v (suc n) = when leb (entry_word v n 0) 1 then (when eqb (entry_word v n 0) 0 then true else when is s 6 (entry_word v n 1) then false else loop_in s v n) else loop_in s v n
 
 -- the functions whose scope marks are among the first n entries, innermost first
 unfoldable pub function_marks : Sheet → List ℕ → ℕ → List ℕ
 function_marks s v zero = []
 function_marks s v (suc n) =
-    if leb (entry_word v n 0) 1
-    then (if eqb (entry_word v n 0) 0 then function_marks s v n
-    else if is s 6 (entry_word v n 1) then entry_word v n 1 ∷ function_marks s v n else function_marks s v n)
+    when leb (entry_word v n 0) 1
+    then (when eqb (entry_word v n 0) 0 then function_marks s v n
+    else when is s 6 (entry_word v n 1) then entry_word v n 1 ∷ function_marks s v n else function_marks s v n)
     else function_marks s v n
 
 -- the place of the last scope mark of the first n entries, or 0
 unfoldable pub last_mark : List ℕ → ℕ → ℕ
 last_mark v zero = 0
-last_mark v (suc n) = if leb (entry_word v n 0) 1 then (if eqb (entry_word v n 0) 0 then last_mark v n else n) else last_mark v n
+last_mark v (suc n) = when leb (entry_word v n 0) 1 then (when eqb (entry_word v n 0) 0 then last_mark v n else n) else last_mark v n
 
 -- what entry k - 1 declares; nothing for k = 0
 unfoldable pub meaning_at : List ℕ → ℕ → Meaning
@@ -158,7 +158,7 @@ marks_after s v m n = length (function_marks s v n) - length (function_marks s v
 
 -- how many function boundaries lie between here and what name m means, if that is a local or argument; else 0
 unfoldable pub lookup_distance : Sheet → Scopes → ℕ → ℕ
-lookup_distance s p m = if is_variable (lookup_meaning p m) then marks_after s p.env m (searched p) else 0
+lookup_distance s p m = when is_variable (lookup_meaning p m) then marks_after s p.env m (searched p) else 0
 
 -- the innermost function
 unfoldable pub current_function : Scopes → ℕ
@@ -170,15 +170,15 @@ entry_room v = min (length v / 5) 4294967295
 
 -- the number of entries after one more is pushed, if there is room
 abbrev pub count_pushed : List ℕ → ℕ → ℕ
-count_pushed v n = if ltb n (entry_room v) then suc n else n
+count_pushed v n = when ltb n (entry_room v) then suc n else n
 
 -- the entries' words after one more is pushed, if there is room
 abbrev pub words_pushed : List ℕ → ℕ → List ℕ → List ℕ
-words_pushed v n ws = if ltb n (entry_room v) then sets v (5 * n) ws else v
+words_pushed v n ws = when ltb n (entry_room v) then sets v (5 * n) ws else v
 
 -- one more, unless that would not fit a word: so a routine's sum fits with no fact about the sheet
 abbrev pub one_more : ℕ → ℕ
-one_more n = if ltb n 4294967295 then suc n else n
+one_more n = when ltb n 4294967295 then suc n else n
 
 -- a mark of tag t and row r pushed, after which f is the innermost function
 abbrev pub push_mark : ℕ → ℕ → ℕ → Scopes → Scopes
@@ -196,9 +196,9 @@ abbrev pub push_name : Sheet → ℕ → Meaning → Scopes → Scopes
 push_name s m d p =
     record {
       count = count_pushed p.env p.count;
-      slot = if is_local s d then one_more p.slot else p.slot;
+      slot = when is_local s d then one_more p.slot else p.slot;
       fun = p.fun;
-      next_global = if is_toplevel d then one_more p.next_global else p.next_global;
+      next_global = when is_toplevel d then one_more p.next_global else p.next_global;
       env = words_pushed p.env p.count (tag_of d ∷ m ∷ first_of d ∷ second_of d p.next_global ∷ p.slot ∷ []);
     }
 
@@ -208,12 +208,12 @@ new_meaning s r p = declared s r (current_function p)
 
 -- the open scopes after an event; a scope that closes restores the slot and function of its mark
 unfoldable pub step_scopes : Sheet → Event → Scopes → Scopes
-step_scopes s (enter r) p = push_mark 1 r (if is s 6 r then r else p.fun) p
+step_scopes s (enter r) p = push_mark 1 r (when is s 6 r then r else p.fun) p
 step_scopes s leave p =
     record {
       count = last_mark p.env p.count;
-      slot = if eqb (last_mark p.env p.count) 0 then 0 else entry_word p.env (last_mark p.env p.count) 4;
-      fun = if eqb (last_mark p.env p.count) 0 then 0 else entry_word p.env (last_mark p.env p.count) 2;
+      slot = when eqb (last_mark p.env p.count) 0 then 0 else entry_word p.env (last_mark p.env p.count) 4;
+      fun = when eqb (last_mark p.env p.count) 0 then 0 else entry_word p.env (last_mark p.env p.count) 2;
       next_global = p.next_global;
       env = p.env;
     }
@@ -240,7 +240,7 @@ previous q i = min (node_word q i 0) i
 -- the list whose last node stands at place p - 1, last first; n bounds the places
 unfoldable pub chain_back : List ℕ → ℕ → ℕ → List Node
 chain_back q zero p = []
-chain_back q (suc n) p = if eqb p (suc n) then node_at q n ∷ chain_back q n (previous q n) else chain_back q n p
+chain_back q (suc n) p = when eqb p (suc n) then node_at q n ∷ chain_back q n (previous q n) else chain_back q n p
 
 -- a list in the other order
 unfoldable pub reversed : List Node → List Node
@@ -285,20 +285,20 @@ node_room q = min (length q / 4) 4294967295
 
 -- a node appended to the list of word j of the table, if there is room
 unfoldable pub append_node : ℕ → Node → Store → Store
-append_node j x o = if ltb o.used (node_room o.nodes) then appended j x o else o
+append_node j x o = when ltb o.used (node_room o.nodes) then appended j x o else o
 
 -- a constructor call appended, if there is room
 unfoldable pub append_call : Node → Store → Store
-append_call x o = if ltb o.used (node_room o.nodes) then appended_call x o else o
+append_call x o = when ltb o.used (node_room o.nodes) then appended_call x o else o
 
 -- a node appended to the list of word j of the table, unless its key is in that list
 unfoldable pub add_new : ℕ → Node → Store → Store
-add_new j x o = if has_key x.key (list_at o j) then o else append_node j x o
+add_new j x o = when has_key x.key (list_at o j) then o else append_node j x o
 
 -- a local or argument captured by the functions fs, innermost first, up to its own function or one that has captured it before
 unfoldable pub add_capture : List ℕ → Node → Store → Store
 add_capture [] x o = o
-add_capture (g ∷ gs) x o = if eqb g x.one || has_key x.key (list_at o (8 * g + 6)) then o else add_capture gs x (append_node (8 * g + 6) x o)
+add_capture (g ∷ gs) x o = when eqb g x.one || has_key x.key (list_at o (8 * g + 6)) then o else add_capture gs x (append_node (8 * g + 6) x o)
 
 -- four words: the given ones, then zeros
 abbrev pub four_words : List ℕ → List ℕ
@@ -310,11 +310,11 @@ with_table t o = record { used = o.used; calls = o.calls; table = t; nodes = o.n
 
 -- code and values of sheet row r written to the table
 unfoldable pub write_row : ℕ → List ℕ → Store → Store
-write_row r vs o = if ltb r (length o.table / 8) then with_table (sets o.table (8 * r) (four_words vs)) o else o
+write_row r vs o = when ltb r (length o.table / 8) then with_table (sets o.table (8 * r) (four_words vs)) o else o
 
 -- the same, unless it is row 0
 abbrev pub write_row_at : ℕ → List ℕ → Store → Store
-write_row_at r vs o = if eqb r 0 then o else write_row r vs o
+write_row_at r vs o = when eqb r 0 then o else write_row r vs o
 
 -- the identifier of row r marked as hidden
 unfoldable pub mark_hidden : ℕ → Store → Store
@@ -366,7 +366,7 @@ receiver_class s r p = receiver s r (open_in s p)
 -- an event's constructor call stored
 unfoldable pub store_call : Sheet → Event → Scopes → Store → Store
 store_call s e p o =
-    if visits_kind s 59 e && not (eqb (constructed_class s (event_row e) p) 0) then append_call (record { key = event_row e; one = constructed_class s (event_row e) p; two = 0 }) o else o
+    when visits_kind s 59 e && not (eqb (constructed_class s (event_row e) p) 0) then append_call (record { key = event_row e; one = constructed_class s (event_row e) p; two = 0 }) o else o
 
 -- does an event assign, in a function of a class, to a field that the class does not list?
 abbrev pub new_field : Sheet → Event → Scopes → Bool
@@ -380,7 +380,7 @@ field_node n = record { key = n; one = 0; two = 0 }
 
 -- an event's new field stored in the list of its class
 unfoldable pub store_field : Sheet → Event → Scopes → Store → Store
-store_field s e p o = if new_field s e p then add_new (8 * class_of s (current_function p) + 7) (field_node (a s (child s (event_row e)))) o else o
+store_field s e p o = when new_field s e p then add_new (8 * class_of s (current_function p) + 7) (field_node (a s (child s (event_row e)))) o else o
 
 -- is d a local or argument of a function other than f?
 abbrev pub is_outer_variable : Meaning → ℕ → Bool
@@ -389,26 +389,26 @@ is_outer_variable d f = is_variable d && not (eqb (owner_of d) f)
 -- an event's captured local or argument stored in every function between its use and its own
 unfoldable pub store_capture : Sheet → Event → Scopes → Store → Store
 store_capture s e p o =
-    if visits_kind s 50 e && is_outer_variable (lookup_meaning p (a s (event_row e))) (current_function p)
+    when visits_kind s 50 e && is_outer_variable (lookup_meaning p (a s (event_row e))) (current_function p)
     then add_capture (open_functions s p) (record { key = row_of (lookup_meaning p (a s (event_row e))); one = owner_of (lookup_meaning p (a s (event_row e))); two = lookup_slot p (a s (event_row e)) }) o
     else o
 
 -- an event's new local counted in the innermost function
 unfoldable pub store_local : Sheet → Event → Scopes → Store → Store
 store_local s e p o =
-    if declares_let s e && is_local s (new_meaning s (event_row e) p) then raise_locals (current_function p) (one_more p.slot) o else o
+    when declares_let s e && is_local s (new_meaning s (event_row e) p) then raise_locals (current_function p) (one_more p.slot) o else o
 
 -- the base of an event's method call on a class marked as hidden
 unfoldable pub store_hidden : Sheet → Event → Scopes → Store → Store
 store_hidden s e p o =
-    if visits_kind s 59 e && not (eqb (receiver_class s (event_row e) p) 0) then mark_hidden (child s (child s (event_row e))) o else o
+    when visits_kind s 59 e && not (eqb (receiver_class s (event_row e) p) 0) then mark_hidden (child s (child s (event_row e))) o else o
 
 -- the row whose code and values an event writes, or 0
 abbrev pub written_row : Sheet → Event → Scopes → ℕ
 written_row s e p =
-    if declares_let s e || visits_kind s 50 e || visits_kind s 51 e || visits_kind s 52 e || visits_kind s 55 e then event_row e
-    else if visits_kind s 30 e && is s 4 (a s (event_row e)) then a s (event_row e)
-    else if visits_kind s 59 e && not (eqb (receiver_class s (event_row e) p) 0) then child s (event_row e)
+    when declares_let s e || visits_kind s 50 e || visits_kind s 51 e || visits_kind s 52 e || visits_kind s 55 e then event_row e
+    else when visits_kind s 30 e && is s 4 (a s (event_row e)) then a s (event_row e)
+    else when visits_kind s 59 e && not (eqb (receiver_class s (event_row e) p) 0) then child s (event_row e)
     else 0
 
 -- code and values of meaning d, seen from its own function, with slot k of a local and number g of a let of a unit
@@ -418,30 +418,30 @@ code_of s (function f) k g = 1 ∷ f ∷ []
 code_of s (class c) k g = 2 ∷ c ∷ []
 code_of s (global n m) k g = 3 ∷ n ∷ 0 ∷ bit (eqb m 1) ∷ []
 code_of s (toplevel r) k g = 3 ∷ g ∷ 0 ∷ bit (eqb (b s r) 1) ∷ []
-code_of s (variable r f) k g = if is s 11 r then 4 ∷ place (eqb r) (kids_of s 11 f) ∷ f ∷ [] else 5 ∷ k ∷ f ∷ bit (eqb (b s r) 1) ∷ []
+code_of s (variable r f) k g = when is s 11 r then 4 ∷ place (eqb r) (kids_of s 11 f) ∷ f ∷ [] else 5 ∷ k ∷ f ∷ bit (eqb (b s r) 1) ∷ []
 
 -- code and values of meaning d, seen from function f: an index of a capture, if it belongs to another function
 unfoldable pub seen_in : Sheet → Meaning → ℕ → ℕ → ℕ → Store → List ℕ
 seen_in s d k g f o =
-    if is_outer_variable d f
+    when is_outer_variable d f
     then 6 ∷ place (λ y. eqb (row_of d) y.key) (list_at o (8 * f + 6)) ∷ 0 ∷ bit (is_mutable s d) ∷ []
     else code_of s d k g
 
 -- what is stored of an identifier: n, how far out it is declared, takes the place of a captured one's second value, which is 0
 unfoldable pub with_distance : ℕ → List ℕ → List ℕ
-with_distance n vs = if eqb (get_or vs 0 0) 6 then get_or vs 0 0 ∷ get_or vs 1 0 ∷ n ∷ get_or vs 3 0 ∷ [] else vs
+with_distance n vs = when eqb (get_or vs 0 0) 6 then get_or vs 0 0 ∷ get_or vs 1 0 ∷ n ∷ get_or vs 3 0 ∷ [] else vs
 
 -- the code and values that an event writes: of a literal the function in which it stands, of a class its parent
 abbrev pub written_words : Outside → Sheet → Event → Scopes → Store → List ℕ
 written_words O s e p o =
-    if declares_let s e then code_of s (new_meaning s (event_row e) p) p.slot p.next_global
-    else if visits_kind s 50 e
+    when declares_let s e then code_of s (new_meaning s (event_row e) p) p.slot p.next_global
+    else when visits_kind s 50 e
     then with_distance (lookup_distance s p (a s (event_row e)))
     (seen_in s (lookup_meaning p (a s (event_row e))) (lookup_slot p (a s (event_row e))) (lookup_global p (a s (event_row e))) (current_function p) o)
-    else if visits_kind s 51 e then (if eqb (current_function p) (b s 0) then 7 else 8) ∷ []
-    else if visits_kind s 52 e then 1 ∷ current_function p ∷ []
-    else if visits_kind s 55 e then 2 ∷ class_number (lookup_meaning p (a s (event_row e))) ∷ []
-    else if visits_kind s 30 e then 2 ∷ class_number (lookup_meaning p (b s (a s (event_row e)))) ∷ []
+    else when visits_kind s 51 e then (when eqb (current_function p) (b s 0) then 7 else 8) ∷ []
+    else when visits_kind s 52 e then 1 ∷ current_function p ∷ []
+    else when visits_kind s 55 e then 2 ∷ class_number (lookup_meaning p (a s (event_row e))) ∷ []
+    else when visits_kind s 30 e then 2 ∷ class_number (lookup_meaning p (b s (a s (event_row e)))) ∷ []
     else 1 ∷ method_named (a s (child s (event_row e))) (own_methods O s (receiver_class s (event_row e) p)) ∷ []
 
 -- an event's code and values written
@@ -463,8 +463,8 @@ check_event O s e p = ask_event O s e (open_in s p)
 -- the state after an event: unchanged after a refusal; refused by its question; or stepped
 unfoldable pub step_state : Outside → Sheet → Event → State → State
 step_state O s e x =
-    if not (eqb x.refusal.number 0) then x
-    else if eqb (check_event O s e x.scopes).number 0
+    when not (eqb x.refusal.number 0) then x
+    else when eqb (check_event O s e x.scopes).number 0
     then record { scopes = step_scopes s e x.scopes; store = step_store O s e x.scopes x.store; refusal = x.refusal }
     else record { scopes = x.scopes; store = x.store; refusal = check_event O s e x.scopes }
 

@@ -1,6 +1,6 @@
 -- What the program reads off its state after the walk, and the statements that it is what the definition says.
 use Rattle.std.specs.Prelude.{◌≡◌, Bool, not, ◌&&◌, List, [], ◌∷◌, ◌++◌, map, ℕ, suc, ◌+◌, ◌*◌, ◌<◌, ◌≤◌, length, get_or, eqb, T}
-use Rattle.definition.specs.Basics.{if◌then◌else◌, filter, any, distinct, from, concat_map}
+use Rattle.definition.specs.Basics.{when◌then◌else◌, filter, any, distinct, from, concat_map}
 use Rattle.definition.specs.Sheet.{Sheet, rows, child, a, is, kids_of}
 use Rattle.definition.specs.Meaning.{Meaning, variable}
 use Rattle.definition.specs.Outside.{Outside, OutsideFits}
@@ -23,7 +23,7 @@ answer_row r ws = r ∷ ws ++ 0 ∷ 0 ∷ 0 ∷ []
 
 -- the answer row of an identifier with four words: the third of a captured one is how far out it is declared, its fourth value
 abbrev pub identifier_answer : ℕ → List ℕ → List ℕ
-identifier_answer r ws = if eqb (get_or ws 0 0) 6 then r ∷ get_or ws 0 0 ∷ get_or ws 1 0 ∷ 0 ∷ get_or ws 3 0 ∷ get_or ws 2 0 ∷ 0 ∷ 0 ∷ [] else answer_row r ws
+identifier_answer r ws = when eqb (get_or ws 0 0) 6 then r ∷ get_or ws 0 0 ∷ get_or ws 1 0 ∷ 0 ∷ get_or ws 3 0 ∷ get_or ws 2 0 ∷ 0 ∷ 0 ∷ [] else answer_row r ws
 
 -- what a capture node stands for
 abbrev pub meaning_of_node : Node → Meaning
@@ -62,9 +62,9 @@ pub record StoreReads (O : Outside) (s : Sheet) (o : Store) : Type 0 where
   -- an identifier too unless it is marked as hidden, and a member if it has a code;
   pub identifiers : (r : ℕ) → r < rows s → T (is s 50 r)
       → map (λ vs. eight (r ∷ vs)) (identifier_row s (history O s) r)
-      ≡ (if eqb (cell o.table r 4) 0 then identifier_answer r (row_words o.table r) ∷ [] else [])
+      ≡ (when eqb (cell o.table r 4) 0 then identifier_answer r (row_words o.table r) ∷ [] else [])
   pub members : (r : ℕ) → r < rows s → T (is s 54 r)
-      → map (λ vs. eight (r ∷ vs)) (member_row O s (history O s) r) ≡ (if eqb (cell o.table r 0) 0 then [] else answer_row r (row_words o.table r) ∷ [])
+      → map (λ vs. eight (r ∷ vs)) (member_row O s (history O s) r) ≡ (when eqb (cell o.table r 0) 0 then [] else answer_row r (row_words o.table r) ∷ [])
   -- a literal has its sources in the capture list of its function, seen from the function in which it stands,
   pub literals : (r : ℕ) → r < rows s → T (is s 52 r)
       → literal_rows s (history O s) r ≡ map (λ y. seen_in s (meaning_of_node y) y.two 0 (cell o.table r 1) o) (list_at o (8 * child s r + 6))

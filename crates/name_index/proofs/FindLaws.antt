@@ -8,7 +8,7 @@ use Prim.Native.Nat.{ℕ, suc, ◌+◌, ◌-◌, ◌<◌, ◌≤◌}
 use native.Mathlib.Omega.{arith}
 use lib.ListN.{length, get_or, take, drop, length-append}
 use lib.Seq.{split_at, length-take-le, get_or-take}
-use Rattle.definition.specs.Basics.{if◌then◌else◌, unlike}
+use Rattle.definition.specs.Basics.{when◌then◌else◌, unlike}
 use Rattle.definition.specs.Names.{Name, fixed, listed, name_count, same_name, names_fit}
 use Rattle.definition.proofs.Lists.Tests.{T_true}
 use Rattle.names.specs.Listed.{numbered, named}
@@ -57,7 +57,7 @@ module _ (l : List Name) (room : length l ≤ 2048) where
 
 -- Finding bytes in a list of names: one that is refused,
 pub find_refused : (ns : List ℕ) (b : Name) → names_fit ns ≡ false → find ns b ≡ (0, 0)
-find_refused ns b e = ap (λ (u : Bool). if u then searched (numbered ns) (index_of (numbered ns)) b else (0, 0)) e
+find_refused ns b e = ap (λ (u : Bool). when u then searched (numbered ns) (index_of (numbered ns)) b else (0, 0)) e
 
 -- and one that passes question 2
 module _ (ns : List ℕ) (fit : names_fit ns ≡ true) where
@@ -68,7 +68,7 @@ module _ (ns : List ℕ) (fit : names_fit ns ≡ true) where
   few = omega (arith, (fit_small ns fit).0)
 
   searching : (b : Name) → find ns b ≡ searched (numbered ns) (index_of (numbered ns)) b
-  searching b = ap (λ (u : Bool). if u then searched (numbered ns) (index_of (numbered ns)) b else (0, 0)) fit
+  searching b = ap (λ (u : Bool). when u then searched (numbered ns) (index_of (numbered ns)) b else (0, 0)) fit
 
   pub find_has : (b : Name) → ((find ns b).0 ≡ 0 → ⊥) → ((find ns b).0 ≤ name_count ns) × (named (numbered ns) (find ns b).0 ≡ b)
   find_has b f =

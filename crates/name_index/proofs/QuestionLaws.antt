@@ -7,7 +7,7 @@ use native.Mathlib.Omega.{arith}
 use borrow.Author.Tests.{eq-eqb, ne_eqb}
 use lib.Dec.{eqb}
 use lib.ListN.{length, take}
-use Rattle.definition.specs.Basics.{if◌then◌else◌}
+use Rattle.definition.specs.Basics.{when◌then◌else◌}
 use Rattle.definition.specs.Names.{Name, listed, names_fit}
 use Rattle.definition.proofs.Lists.Tests.{T_true}
 use Rattle.names.specs.Listed.{starts, numbered}
@@ -18,7 +18,7 @@ module _ {ns : List ℕ} {t i : List ℕ} where
   pub refused : names_fit ns ≡ false → Indexed ns 0 t i
   refused e =
       record {
-        counted = sym (ap (λ (u : Bool). if u then length (listed ns) + 1 else 0) e);
+        counted = sym (ap (λ (u : Bool). when u then length (listed ns) + 1 else 0) e);
         few = omega arith;
         started = λ a. absurd (T_true false (sym e ∙ a));
         held = λ a. absurd (T_true false (sym e ∙ a));
@@ -27,7 +27,7 @@ module _ {ns : List ℕ} {t i : List ℕ} where
   pub accepted : {k : ℕ} → names_fit ns ≡ true → k ≡ length (listed ns) → k < 1025 → take (k + 1) t ≡ starts ns → i ≡ index_of (numbered ns) → Indexed ns (k + 1) t i
   accepted e count few table index =
       record {
-        counted = ap (λ (n : ℕ). n + 1) count ∙ sym (ap (λ (u : Bool). if u then length (listed ns) + 1 else 0) e);
+        counted = ap (λ (n : ℕ). n + 1) count ∙ sym (ap (λ (u : Bool). when u then length (listed ns) + 1 else 0) e);
         few = omega arith;
         started = λ a. table;
         held = λ a. index;
@@ -35,7 +35,7 @@ module _ {ns : List ℕ} {t i : List ℕ} where
 
 -- A list of which k starts are counted passes question 2 exactly if k is not 0.
 module _ {ns : List ℕ} {k : ℕ} {t i : List ℕ} (x : Indexed ns k t i) where
-  by_count : (u : Bool) → k ≡ (if u then length (listed ns) + 1 else 0) → not (eqb k 0) ≡ u
+  by_count : (u : Bool) → k ≡ (when u then length (listed ns) + 1 else 0) → not (eqb k 0) ≡ u
   by_count true e = ap not (ne_eqb k 0 (λ (z : k ≡ 0). omega arith))
   by_count false e = ap not (eq-eqb k 0 e)
 
@@ -45,8 +45,8 @@ module _ {ns : List ℕ} {k : ℕ} {t i : List ℕ} (x : Indexed ns k t i) where
   pub some_fit : (k ≡ 0 → ⊥) → names_fit ns ≡ true
   some_fit f = sym passed ∙ ap not (ne_eqb k 0 f)
 
-  find_by : (b : Name) {u : Bool} → names_fit ns ≡ u → find ns b ≡ (if u then searched (numbered ns) (index_of (numbered ns)) b else (0, 0))
-  find_by b e = ap (λ (u : Bool). if u then searched (numbered ns) (index_of (numbered ns)) b else (0, 0)) e
+  find_by : (b : Name) {u : Bool} → names_fit ns ≡ u → find ns b ≡ (when u then searched (numbered ns) (index_of (numbered ns)) b else (0, 0))
+  find_by b e = ap (λ (u : Bool). when u then searched (numbered ns) (index_of (numbered ns)) b else (0, 0)) e
 
   -- nothing is found in a list that is refused,
   pub find_none : (b : Name) → k ≡ 0 → (0 ≡ (find ns b).0) × (0 ≡ (find ns b).1)

@@ -7,7 +7,7 @@ use native.Mathlib.Omega.{arith}
 use borrow.Author.Tests.{eq-eqb, ne_eqb, eqb-true, eqb-false}
 use lib.Dec.{eqb}
 use lib.ListN.{length, get_or, drop, drop_of_length-le}
-use Rattle.definition.specs.Basics.{if◌then◌else◌, count, bit}
+use Rattle.definition.specs.Basics.{when◌then◌else◌, count, bit}
 use Rattle.definition.specs.Names.{Name, same_name}
 use Rattle.definition.proofs.Lists.Tests.{T_true}
 use Rattle.names.specs.Listed.{named}
@@ -20,14 +20,14 @@ module _ (ws : List ℕ) (j : ℕ) where
   run_out h = ap run (drop_of_length-le ws h)
 
   module _ (inside : j < length ws) where
-    run_step : run (drop j ws) ≡ (if eqb (get_or ws j 0) 0 then 0 else suc (run (drop (j + 1) ws)))
+    run_step : run (drop j ws) ≡ (when eqb (get_or ws j 0) 0 then 0 else suc (run (drop (j + 1) ws)))
     run_step = ap run (drop_step ws j 0 inside)
 
     pub run_free : get_or ws j 0 ≡ 0 → run (drop j ws) ≡ 0
-    run_free e = run_step ∙ ap (λ (t : Bool). if t then 0 else suc (run (drop (j + 1) ws))) (eq-eqb _ _ e)
+    run_free e = run_step ∙ ap (λ (t : Bool). when t then 0 else suc (run (drop (j + 1) ws))) (eq-eqb _ _ e)
 
     pub run_full : (get_or ws j 0 ≡ 0 → ⊥) → run (drop j ws) ≡ suc (run (drop (j + 1) ws))
-    run_full f = run_step ∙ ap (λ (t : Bool). if t then 0 else suc (run (drop (j + 1) ws))) (ne_eqb _ _ f)
+    run_full f = run_step ∙ ap (λ (t : Bool). when t then 0 else suc (run (drop (j + 1) ws))) (ne_eqb _ _ f)
 
   module _ (l : List Name) (b : Name) where
     pub walk_out : length ws ≤ j → walk l b (drop j ws) ≡ (0, 0)
@@ -35,7 +35,7 @@ module _ (ws : List ℕ) (j : ℕ) where
 
     module _ (inside : j < length ws) where
       walk_step : walk l b (drop j ws)
-          ≡ (if eqb (get_or ws j 0) 0 then (0, 1) else if same_name b (named l (get_or ws j 0)) then (get_or ws j 0, 1) else further (walk l b (drop (j + 1) ws)))
+          ≡ (when eqb (get_or ws j 0) 0 then (0, 1) else when same_name b (named l (get_or ws j 0)) then (get_or ws j 0, 1) else further (walk l b (drop (j + 1) ws)))
       walk_step = ap (walk l b) (drop_step ws j 0 inside)
 
       pub walk_free : get_or ws j 0 ≡ 0 → walk l b (drop j ws) ≡ (0, 1)
@@ -84,7 +84,7 @@ pub run_ends : (ws : List ℕ) → get_or ws (run ws) 0 ≡ 0
 run_ends [] = refl
 run_ends (w ∷ ws) = go (eqb w 0) (eqb-true w 0) (run_ends ws)
   where
-    go : (t : Bool) → (t ≡ true → w ≡ 0) → get_or ws (run ws) 0 ≡ 0 → get_or (w ∷ ws) (if t then 0 else suc (run ws)) 0 ≡ 0
+    go : (t : Bool) → (t ≡ true → w ≡ 0) → get_or ws (run ws) 0 ≡ 0 → get_or (w ∷ ws) (when t then 0 else suc (run ws)) 0 ≡ 0
     go true e rest = e refl
     go false e rest = rest
 
@@ -92,12 +92,12 @@ pub run_before : (ws : List ℕ) (m : ℕ) → m < run ws → get_or ws m 0 ≡ 
 run_before [] m h e = absurd (omega arith)
 run_before (w ∷ ws) zero h e = absurd (first (eqb w 0) (eq-eqb w 0 e) h)
   where
-    first : (t : Bool) → t ≡ true → 0 < (if t then 0 else suc (run ws)) → ⊥
+    first : (t : Bool) → t ≡ true → 0 < (when t then 0 else suc (run ws)) → ⊥
     first true e h = absurd (omega arith)
     first false e h = T_true false e
 run_before (w ∷ ws) (suc m) h e = run_before ws m (later (eqb w 0) h) e
   where
-    later : (t : Bool) → suc m < (if t then 0 else suc (run ws)) → m < run ws
+    later : (t : Bool) → suc m < (when t then 0 else suc (run ws)) → m < run ws
     later true h = absurd (omega arith)
     later false h = omega arith
 
@@ -109,7 +109,7 @@ pub run_full_places : (ws : List ℕ) → run ws ≤ full ws
 run_full_places [] = omega arith
 run_full_places (w ∷ ws) = go (eqb w 0) (run_full_places ws)
   where
-    go : (t : Bool) → run ws ≤ full ws → (if t then 0 else suc (run ws)) ≤ bit (not t) + full ws
+    go : (t : Bool) → run ws ≤ full ws → (when t then 0 else suc (run ws)) ≤ bit (not t) + full ws
     go true h = omega arith
     go false h = omega arith
 
@@ -121,7 +121,7 @@ module _ (l : List Name) (b : Name) where
   by_word P w ws none here on = go (eqb w 0) (same_name b (named l w)) (eqb-true w 0) (eqb-false w 0) here on
     where
       go : (t u : Bool) → (t ≡ true → w ≡ 0) → (t ≡ false → w ≡ 0 → ⊥) → ((w ≡ 0 → ⊥) → u ≡ true → P (w, 1))
-          → (u ≡ false → P (further (walk l b ws))) → P (if t then (0, 1) else if u then (w, 1) else further (walk l b ws))
+          → (u ≡ false → P (further (walk l b ws))) → P (when t then (0, 1) else when u then (w, 1) else further (walk l b ws))
       go true u e f p q = none (e refl)
       go false true e f p q = p (f refl) refl
       go false false e f p q = q refl
@@ -153,7 +153,7 @@ module _ (l : List Name) (b : Name) where
   walk_places (w ∷ ws) = go (eqb w 0) (same_name b (named l w)) (walk_places ws)
     where
       go : (t u : Bool) → (walk l b ws).1 ≤ suc (run ws)
-          → (if t then (0, 1) else if u then (w, 1) else further (walk l b ws)).1 ≤ suc (if t then 0 else suc (run ws))
+          → (when t then (0, 1) else when u then (w, 1) else further (walk l b ws)).1 ≤ suc (when t then 0 else suc (run ws))
       go true u h = omega arith
       go false true h = omega arith
       go false false h = omega arith

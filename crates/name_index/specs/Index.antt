@@ -1,7 +1,7 @@
 -- The name index: a table of 2,048 places in which names stand under their numbers. A place that holds 0 is free.
 use Rattle.std.specs.Prelude.{List, [], ◌∷◌, ◌++◌, ℕ, suc, ◌+◌, ◌*◌, ◌%◌, ◌^◌, eqb, take, drop, set, replicate}
 use Rattle.std.specs.Int.Bits.{bit_xor}
-use Rattle.definition.specs.Basics.{if◌then◌else◌}
+use Rattle.definition.specs.Basics.{when◌then◌else◌}
 use Rattle.definition.specs.Names.{Name, same_name, names_fit}
 use Rattle.names.specs.Listed.{numbered, named}
 
@@ -25,7 +25,7 @@ turned p t = drop p t ++ take p t
 -- how many words stand before the first free place
 abbrev pub run : List ℕ → ℕ
 run [] = 0
-run (w ∷ ws) = if eqb w 0 then 0 else suc (run ws)
+run (w ∷ ws) = when eqb w 0 then 0 else suc (run ws)
 
 -- number n entered in a table at the first free place from p on; while fewer than 2,048 places are full there is one
 abbrev pub enter : List ℕ → ℕ → ℕ → List ℕ
@@ -47,7 +47,7 @@ further a = (a.0, suc a.1)
 -- bytes looked for among the names l, word by word up to a free place: the number, 0 if absent, and how many places were read
 abbrev pub walk : List Name → Name → List ℕ → ℕ × ℕ
 walk l b [] = (0, 0)
-walk l b (n ∷ ws) = if eqb n 0 then (0, 1) else if same_name b (named l n) then (n, 1) else further (walk l b ws)
+walk l b (n ∷ ws) = when eqb n 0 then (0, 1) else when same_name b (named l n) then (n, 1) else further (walk l b ws)
 
 -- bytes looked for in the table t of the names l
 abbrev pub searched : List Name → List ℕ → Name → ℕ × ℕ
@@ -55,4 +55,4 @@ searched l t b = walk l b (turned (place_of b) t)
 
 -- bytes looked for in a list of names: the number and the places read; a list refused as 2 has no index
 abbrev pub find : List ℕ → Name → ℕ × ℕ
-find ns b = if names_fit ns then searched (numbered ns) (index_of (numbered ns)) b else (0, 0)
+find ns b = when names_fit ns then searched (numbered ns) (index_of (numbered ns)) b else (0, 0)

@@ -9,7 +9,7 @@ use lib.ListN.{length, get_or, take, drop, length-append, take-append-drop, drop
 use lib.Seq.{drop-cons}
 use lib.Dec.{eqb, leb}
 use borrow.Author.Tests.{eq-eqb, ne_eqb, eqb-false, le-leb, lt-leb}
-use Rattle.definition.specs.Basics.{if◌then◌else◌}
+use Rattle.definition.specs.Basics.{when◌then◌else◌}
 use Rattle.definition.specs.Names.{Name, fixed, lead, listed, names_fit, names_ended, names_few, names_short, names_sized, names_unlike, same_name}
 use Rattle.definition.proofs.Lists.Tests.{T_true, true_of, and_left, and_right}
 use Rattle.names.proofs.Question.{fit_small}
@@ -26,7 +26,7 @@ before_le (suc k) [] = omega arith
 before_le (suc k) (x ∷ xs) = by (eqb x 10) (before_le k xs) (before_le (suc k) xs)
   where
     by : (t : Bool) → bytes_before k xs ≤ length xs → bytes_before (suc k) xs ≤ length xs
-        → suc (if t then bytes_before k xs else bytes_before (suc k) xs) ≤ suc (length xs)
+        → suc (when t then bytes_before k xs else bytes_before (suc k) xs) ≤ suc (length xs)
     by true l m = omega arith
     by false l m = omega arith
 
@@ -36,7 +36,7 @@ first_there [] = refl
 first_there (x ∷ xs) = by (eqb x 10) (listed xs) (first_there xs)
   where
     by : (t : Bool) (l : List Name) → take (length (get_or l 0 [])) xs ≡ get_or l 0 []
-        → take (length (get_or (if t then [] ∷ listed xs else lead x l) 0 [])) (x ∷ xs) ≡ get_or (if t then [] ∷ listed xs else lead x l) 0 []
+        → take (length (get_or (when t then [] ∷ listed xs else lead x l) 0 [])) (x ∷ xs) ≡ get_or (when t then [] ∷ listed xs else lead x l) 0 []
     by true l e = refl
     by false [] e = refl
     by false (n ∷ ns) e = ap (λ (y : List ℕ). x ∷ y) e
@@ -49,8 +49,8 @@ name_there (x ∷ xs) (suc k) = by (eqb x 10) (listed xs) (name_there xs k) (nam
   where
     by : (t : Bool) (l : List Name) → take (length (get_or l k [])) (drop (bytes_before k xs) xs) ≡ get_or l k []
         → take (length (get_or l (suc k) [])) (drop (bytes_before (suc k) xs) xs) ≡ get_or l (suc k) []
-        → take (length (get_or (if t then [] ∷ l else lead x l) (suc k) [])) (drop (suc (if t then bytes_before k xs else bytes_before (suc k) xs)) (x ∷ xs))
-        ≡ get_or (if t then [] ∷ l else lead x l) (suc k) []
+        → take (length (get_or (when t then [] ∷ l else lead x l) (suc k) [])) (drop (suc (when t then bytes_before k xs else bytes_before (suc k) xs)) (x ∷ xs))
+        ≡ get_or (when t then [] ∷ l else lead x l) (suc k) []
     by true l e d = e
     by false [] e d = d
     by false (n ∷ ns) e d = d
@@ -62,8 +62,8 @@ before_more [] ys (suc k) l = absurd (omega arith)
 before_more (x ∷ xs) ys (suc k) l = by (eqb x 10) (listed xs) (λ h. before_more xs ys k h) (λ h. before_more xs ys (suc k) h) l
   where
     by : (t : Bool) (m : List Name) → (k < length m → bytes_before k (xs ++ ys) ≡ bytes_before k xs)
-        → (suc k < length m → bytes_before (suc k) (xs ++ ys) ≡ bytes_before (suc k) xs) → suc k < length (if t then [] ∷ m else lead x m)
-        → suc (if t then bytes_before k (xs ++ ys) else bytes_before (suc k) (xs ++ ys)) ≡ suc (if t then bytes_before k xs else bytes_before (suc k) xs)
+        → (suc k < length m → bytes_before (suc k) (xs ++ ys) ≡ bytes_before (suc k) xs) → suc k < length (when t then [] ∷ m else lead x m)
+        → suc (when t then bytes_before k (xs ++ ys) else bytes_before (suc k) (xs ++ ys)) ≡ suc (when t then bytes_before k xs else bytes_before (suc k) xs)
     by true m f g l = ap suc (f (omega arith))
     by false [] f g l = absurd (omega arith)
     by false (n ∷ ns) f g l = ap suc (g (omega arith))
@@ -78,7 +78,7 @@ pub seeking_start : (xs : List ℕ) (k : ℕ) → Seeking xs k k 0
 seeking_start xs k = record { found = omega arith; within = omega arith; few = omega arith }
 
 pub seeking_more : {xs : List ℕ} {k left at rest : ℕ} → Seeking xs k left at → at < length xs → (left ≡ 0 → ⊥)
-    → rest ≡ (if eqb (get_or xs at 0) 10 then left - 1 else left) → Seeking xs k rest (at + 1)
+    → rest ≡ (when eqb (get_or xs at 0) 10 then left - 1 else left) → Seeking xs k rest (at + 1)
 seeking_more {xs} {k} {left} {at} {rest} h l z e =
     record {
       found = omega (arith, step left z e, h.found);
@@ -86,11 +86,11 @@ seeking_more {xs} {k} {left} {at} {rest} h l z e =
       few = omega (arith, h.few, less (eqb (get_or xs at 0) 10) e);
     }
   where
-    less : (t : Bool) → rest ≡ (if t then left - 1 else left) → rest ≤ left
+    less : (t : Bool) → rest ≡ (when t then left - 1 else left) → rest ≤ left
     less true e = omega arith
     less false e = omega arith
 
-    step : (m : ℕ) → (m ≡ 0 → ⊥) → rest ≡ (if eqb (get_or xs at 0) 10 then m - 1 else m)
+    step : (m : ℕ) → (m ≡ 0 → ⊥) → rest ≡ (when eqb (get_or xs at 0) 10 then m - 1 else m)
         → bytes_before m (drop at xs) ≡ suc (bytes_before rest (drop (at + 1) xs))
     step zero z e = absurd (z refl)
     step (suc m) z e =
@@ -99,8 +99,8 @@ seeking_more {xs} {k} {left} {at} {rest} h l z e =
         ∙ by (eqb (get_or xs at 0) 10) e
         ∙ ap (λ (i : ℕ). suc (bytes_before rest (drop i xs))) s
       where
-        by : (t : Bool) → rest ≡ (if t then suc m - 1 else suc m)
-            → suc (if t then bytes_before m (drop (suc at) xs) else bytes_before (suc m) (drop (suc at) xs)) ≡ suc (bytes_before rest (drop (suc at) xs))
+        by : (t : Bool) → rest ≡ (when t then suc m - 1 else suc m)
+            → suc (when t then bytes_before m (drop (suc at) xs) else bytes_before (suc m) (drop (suc at) xs)) ≡ suc (bytes_before rest (drop (suc at) xs))
         by true e = let q : m ≡ rest = omega arith in ap (λ (i : ℕ). suc (bytes_before i (drop (suc at) xs))) q
         by false e = ap (λ (i : ℕ). suc (bytes_before i (drop (suc at) xs))) (sym e)
 
@@ -132,7 +132,7 @@ module _ (w n : List ℕ) (k : ℕ) (some : length (session_text w n k) ≡ 0 �
   passed : (eqb k 0 ≡ false) × (session_names_fit whole w n ≡ true)
   passed = by (eqb k 0) (session_names_fit whole w n) _ some
     where
-      by : (z v : Bool) (x : Name) → (length (if z || not v then [] else x) ≡ 0 → ⊥) → (z ≡ false) × (v ≡ true)
+      by : (z v : Bool) (x : Name) → (length (when z || not v then [] else x) ≡ 0 → ⊥) → (z ≡ false) × (v ≡ true)
       by true v x f = absurd (f refl)
       by false true x f = (refl, refl)
       by false false x f = absurd (f refl)
@@ -191,11 +191,11 @@ module _ (w n : List ℕ) (k : ℕ) (some : length (session_text w n k) ≡ 0 �
       omega (arith, same, before_le (k - 1) (fixed_bytes ++ list), length-append fixed_bytes list, (fit_small list list_fits).1)
 
 -- A text of an entry's list that is not empty.
-module _ (ns : List ℕ) (k : ℕ) (some : length (if names_fit ns then get_or (listed ns) (k - 25) [] else []) ≡ 0 → ⊥) where
+module _ (ns : List ℕ) (k : ℕ) (some : length (when names_fit ns then get_or (listed ns) (k - 25) [] else []) ≡ 0 → ⊥) where
   fits : names_fit ns ≡ true
   fits = by (names_fit ns) _ some
     where
-      by : (t : Bool) (x : Name) → (length (if t then x else []) ≡ 0 → ⊥) → t ≡ true
+      by : (t : Bool) (x : Name) → (length (when t then x else []) ≡ 0 → ⊥) → t ≡ true
       by true x f = refl
       by false x f = absurd (f refl)
 
@@ -238,7 +238,7 @@ module _ (w n ns : List ℕ) (o : Bool) (k : ℕ) {t : List ℕ} (e : t ≡ name
     -- it stands in the session's bytes
     module _ (h : (o && leb 25 k) ≡ false) where
       of_session : t ≡ session_text w n k
-      of_session = e ∙ ap (λ (c : Bool). if c then (if names_fit ns then get_or (listed ns) (k - 25) [] else []) else session_text w n k) h
+      of_session = e ∙ ap (λ (c : Bool). when c then (when names_fit ns then get_or (listed ns) (k - 25) [] else []) else session_text w n k) h
 
       stands : length (session_text w n k) ≡ 0 → ⊥
       stands z = some (ap length of_session ∙ z)
@@ -258,10 +258,10 @@ module _ (w n ns : List ℕ) (o : Bool) (k : ℕ) {t : List ℕ} (e : t ≡ name
 
     -- or in the entry's list
     module _ (h : (o && leb 25 k) ≡ true) where
-      of_list : t ≡ (if names_fit ns then get_or (listed ns) (k - 25) [] else [])
-      of_list = e ∙ ap (λ (c : Bool). if c then (if names_fit ns then get_or (listed ns) (k - 25) [] else []) else session_text w n k) h
+      of_list : t ≡ (when names_fit ns then get_or (listed ns) (k - 25) [] else [])
+      of_list = e ∙ ap (λ (c : Bool). when c then (when names_fit ns then get_or (listed ns) (k - 25) [] else []) else session_text w n k) h
 
-      stands_listed : length (if names_fit ns then get_or (listed ns) (k - 25) [] else []) ≡ 0 → ⊥
+      stands_listed : length (when names_fit ns then get_or (listed ns) (k - 25) [] else []) ≡ 0 → ⊥
       stands_listed z = some (ap length of_list ∙ z)
 
       pub listed_low : bytes_before (k - 25) ns ≤ 32936
@@ -275,4 +275,4 @@ module _ (w n ns : List ℕ) (o : Bool) (k : ℕ) {t : List ℕ} (e : t ≡ name
       }
         where
           named : t ≡ get_or (listed ns) (k - 25) []
-          named = of_list ∙ ap (λ (c : Bool). if c then get_or (listed ns) (k - 25) [] else []) (fits ns k stands_listed)
+          named = of_list ∙ ap (λ (c : Bool). when c then get_or (listed ns) (k - 25) [] else []) (fits ns k stands_listed)

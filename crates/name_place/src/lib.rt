@@ -2,7 +2,7 @@
 #![tactic(auto)]
 
 ghost use Rattle.std.specs.Prelude.{◌≡◌, not, ◌-◌, ◌≤◌, eqb};
-ghost use Rattle.definition.specs.Basics.{if◌then◌else◌};
+ghost use Rattle.definition.specs.Basics.{when◌then◌else◌};
 ghost use Rattle.name_place.specs.Place.{bytes_before, NamePlaced};
 
 use name_text::{OF_SESSION, name_text};
@@ -30,7 +30,7 @@ const NOWHERE: Place = Place {
 // How many names are left to pass after a byte, if one at least was.
 fn left_after(left: u32, byte: u8) -> u32
     requires { 1 ≤ left }
-    ensures { result ≡ (if eqb byte 10 then left - 1 else left) }
+    ensures { result ≡ (when eqb byte 10 then left - 1 else left) }
 {
     if byte == END {
         return left - 1;

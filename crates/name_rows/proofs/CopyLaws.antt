@@ -6,7 +6,7 @@ use native.Mathlib.Omega.{arith}
 use lib.Dec.{eqb}
 use lib.ListN.{length, get_or}
 use borrow.Author.Tests.{eq-eqb, ne_eqb}
-use Rattle.definition.specs.Basics.{if◌then◌else◌, from}
+use Rattle.definition.specs.Basics.{when◌then◌else◌, from}
 use Rattle.definition.specs.Sheet.{Sheet}
 use Rattle.definition.specs.Outside.{Outside}
 use Rattle.definition.specs.Classes.{own_methods, method_named}
@@ -23,7 +23,7 @@ module _ (O : Outside) (s : Sheet) (w : Wanted) (v : List ℕ) (i k : ℕ) where
   copied_field e = rw (eq-eqb w.kind 10 e)
 
   pub copied_method : (x : ℕ) → (w.kind ≡ 10 → ⊥)
-      → x ≡ (if eqb (method_named (get_or v (8 * i + 2) 0) (own_methods O s w.class.0)) 0 then get_or v (8 * i + 3) 0 else method_named (get_or v (8 * i + 2) 0) (own_methods O s w.class.0))
+      → x ≡ (when eqb (method_named (get_or v (8 * i + 2) 0) (own_methods O s w.class.0)) 0 then get_or v (8 * i + 3) 0 else method_named (get_or v (8 * i + 2) 0) (own_methods O s w.class.0))
       → w.row ∷ 24 ∷ get_or v (8 * i + 2) 0 ∷ x ∷ 0 ∷ 0 ∷ 0 ∷ 0 ∷ [] ≡ copied_row O s w v i k
   unfolding copied_row
   copied_method x f e = rw (ne_eqb w.kind 10 f, e)

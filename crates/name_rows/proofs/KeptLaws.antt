@@ -8,7 +8,7 @@ use native.Mathlib.Omega.{arith}
 use lib.Dec.{ltb}
 use lib.ListN.{length, get_or}
 use lib.Seq.{sets, length-sets}
-use Rattle.definition.specs.Basics.{if◌then◌else◌}
+use Rattle.definition.specs.Basics.{when◌then◌else◌}
 use Rattle.machine.proofs.Words.{sets_out}
 use Rattle.sink.specs.Sink.{Sink, sink, emit, emit_all}
 
@@ -22,7 +22,7 @@ pub emit_kept : (m : ℕ) (ws : List ℕ) (x : Sink) → m ≤ x.count → m ≤
 unfolding emit
 emit_kept m ws x l b = go (ltb x.count (length x.words / 8))
   where
-    go : (t : Bool) → Kept m x (if t then sink (suc x.count) (sets x.words (8 * x.count) ws) else sink (suc (length x.words / 8)) x.words)
+    go : (t : Bool) → Kept m x (when t then sink (suc x.count) (sets x.words (8 * x.count) ws) else sink (suc (length x.words / 8)) x.words)
     go true = record { below = omega arith; lengths = length-sets x.words (8 * x.count) ws; same = λ i h. sets_out ws x.words (8 * x.count) i (inl (omega arith)) }
     go false = record { below = omega arith; lengths = refl; same = λ i h. refl }
 

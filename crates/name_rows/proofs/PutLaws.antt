@@ -7,7 +7,7 @@ use native.Mathlib.Omega.{arith}
 use lib.Dec.{ltb}
 use lib.ListN.{length, get_or}
 use borrow.Author.Tests.{eq-eqb, ne_eqb, ltb-true, ltb-false}
-use Rattle.definition.specs.Basics.{if◌then◌else◌, filter, ◌∈?◌}
+use Rattle.definition.specs.Basics.{when◌then◌else◌, filter, ◌∈?◌}
 use Rattle.definition.specs.Sheet.{Sheet, kind, next, child, a, rows, chain, is, kids_of}
 use Rattle.definition.specs.Outside.{Outside}
 use Rattle.outside.specs.Words.{spaced_at}
@@ -154,23 +154,23 @@ module _ (O : Outside) (f : ℕ → ℕ → List ℕ) (up : List ℕ) (s : Sheet
   module _ (t : true ≡ of_sheet s c) {x : Filled} (h : x ≡ put_all f (new_of up (map (a s) (kids_of s j (c - 256)))) k) where
     by_row : put_all f (new_of up (row_names s o j (c - 256))) k ≡ put_all f (new_of up (own_in O s o j c)) k
     unfolding own_in
-    by_row = ap (λ (u : Bool). put_all f (new_of up (if u then row_names s o j (c - 256) else recorded_names O j c)) k) t
+    by_row = ap (λ (u : Bool). put_all f (new_of up (when u then row_names s o j (c - 256) else recorded_names O j c)) k) t
 
     -- fields: listed, then stored
     pub own_stored : {p : ℕ} {y : Filled} → j ≡ 10 → p ≡ cell o.table (c - 256) 7 → y ≡ put_all f (new_of up (keys_to o.nodes p)) x → y ≡ put_all f (new_of up (own_in O s o j c)) k
     unfolding row_names list_at
     own_stored e w i = new_both f up (map (a s) (kids_of s j (c - 256))) (keys_to o.nodes (cell o.table (c - 256) 7)) k h (rw w at i)
-        ∙ ap (λ (u : Bool). put_all f (new_of up (map (a s) (kids_of s j (c - 256)) ++ (if u then keys_to o.nodes (cell o.table (c - 256) 7) else []))) k) (sym (eq-eqb j 10 e)) ∙ by_row
+        ∙ ap (λ (u : Bool). put_all f (new_of up (map (a s) (kids_of s j (c - 256)) ++ (when u then keys_to o.nodes (cell o.table (c - 256) 7) else []))) k) (sym (eq-eqb j 10 e)) ∙ by_row
 
     -- methods: listed
     pub own_listed : (j ≡ 10 → ⊥) → x ≡ put_all f (new_of up (own_in O s o j c)) k
     unfolding row_names
     own_listed e = h ∙ ap (λ (ms : List ℕ). put_all f (new_of up ms) k) (sym (append-nil (map (a s) (kids_of s j (c - 256)))))
-        ∙ ap (λ (u : Bool). put_all f (new_of up (map (a s) (kids_of s j (c - 256)) ++ (if u then map (λ y. y.key) (list_at o (8 * (c - 256) + 7)) else []))) k) (sym (ne_eqb j 10 e)) ∙ by_row
+        ∙ ap (λ (u : Bool). put_all f (new_of up (map (a s) (kids_of s j (c - 256)) ++ (when u then map (λ y. y.key) (list_at o (8 * (c - 256) + 7)) else []))) k) (sym (ne_eqb j 10 e)) ∙ by_row
 
   pub own_recorded : {ms : List ℕ} {x : Filled} → false ≡ of_sheet s c → ms ≡ recorded_names O j c → x ≡ put_all f (new_of up ms) k → x ≡ put_all f (new_of up (own_in O s o j c)) k
   unfolding own_in
-  own_recorded t e h = h ∙ ap (λ (ms : List ℕ). put_all f (new_of up ms) k) e ∙ ap (λ (u : Bool). put_all f (new_of up (if u then row_names s o j (c - 256) else recorded_names O j c)) k) t
+  own_recorded t e h = h ∙ ap (λ (ms : List ℕ). put_all f (new_of up ms) k) e ∙ ap (λ (u : Bool). put_all f (new_of up (when u then row_names s o j (c - 256) else recorded_names O j c)) k) t
 
 -- Names after inheritance: above class c, with n classes left to climb, stands class p.
 pub names_zero : (O : Outside) (f : ℕ → ℕ → List ℕ) (s : Sheet) (o : Store) (j n c : ℕ) (k : Filled) → n ≡ 0 → k ≡ put_all f (names_in O s o j n c) k

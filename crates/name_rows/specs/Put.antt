@@ -1,6 +1,6 @@
 -- The rows that tell names, written one after another.
 use Rattle.std.specs.Prelude.{◌≡◌, List, [], ◌∷◌, ℕ, ◌+◌, ◌*◌, eqb, get_or}
-use Rattle.definition.specs.Basics.{if◌then◌else◌}
+use Rattle.definition.specs.Basics.{when◌then◌else◌}
 use Rattle.definition.specs.Sheet.{Sheet, rows}
 use Rattle.definition.specs.Outside.{Outside}
 use Rattle.definition.specs.Classes.{method_named, own_methods}
@@ -34,7 +34,7 @@ words_of x = x.row ∷ x.code ∷ x.one ∷ x.two ∷ x.three ∷ x.four ∷ 0 �
 -- the row that tells name m: a field by its slot, a method by its function
 unfoldable pub name_row : Outside → Sheet → Stored → Wanted → ℕ → ℕ → List ℕ
 name_row O s o w m i =
-    if eqb w.kind 10 then w.row ∷ 23 ∷ i ∷ m ∷ 0 ∷ 0 ∷ 0 ∷ 0 ∷ []
+    when eqb w.kind 10 then w.row ∷ 23 ∷ i ∷ m ∷ 0 ∷ 0 ∷ 0 ∷ 0 ∷ []
     else w.row ∷ 24 ∷ m ∷ method_named m (methods_in O s o (rows s) w.class.0) ∷ 0 ∷ 0 ∷ 0 ∷ 0 ∷ []
 
 -- one name more, and the names of a list, by the row f that tells a name at a slot
@@ -55,4 +55,4 @@ copied_row O s w v i k =
     let m : ℕ = get_or v (8 * i + 2) 0 in
     let f : ℕ = get_or v (8 * i + 3) 0 in
     let own : ℕ = method_named m (own_methods O s w.class.0) in
-    if eqb w.kind 10 then w.row ∷ 23 ∷ k ∷ f ∷ 0 ∷ 0 ∷ 0 ∷ 0 ∷ [] else w.row ∷ 24 ∷ m ∷ (if eqb own 0 then f else own) ∷ 0 ∷ 0 ∷ 0 ∷ 0 ∷ []
+    when eqb w.kind 10 then w.row ∷ 23 ∷ k ∷ f ∷ 0 ∷ 0 ∷ 0 ∷ 0 ∷ [] else w.row ∷ 24 ∷ m ∷ (when eqb own 0 then f else own) ∷ 0 ∷ 0 ∷ 0 ∷ 0 ∷ []

@@ -1,6 +1,6 @@
 // Rows that tell names, copied from the rows of a parent.
 ghost use Rattle.std.specs.Prelude.{◌≡◌, ◌+◌, ◌/◌, ◌<◌, ◌≤◌, eqb, length};
-ghost use Rattle.definition.specs.Basics.{if◌then◌else◌, from};
+ghost use Rattle.definition.specs.Basics.{when◌then◌else◌, from};
 ghost use Rattle.definition.specs.Classes.{method_named, own_methods};
 ghost use Rattle.outside.specs.Words.{over};
 ghost use Rattle.name_rows.specs.Put.{filled, words_of, copied_row, put, put_all};
@@ -14,7 +14,7 @@ use words::one_more;
 // The own method of name `m` of a class, else function `f`.
 fn own_or(sheet: &[u32], outside: &[u32], c: ClassId, m: u32, f: FunId) -> FunId
     ensures { result.0 ≡
-        (if eqb (method_named m (own_methods (over outside.now) sheet.now c.0)) 0 then f.0 else method_named m
+        (when eqb (method_named m (own_methods (over outside.now) sheet.now c.0)) 0 then f.0 else method_named m
         (own_methods (over outside.now) sheet.now c.0)) }
 {
     let own = own_method(sheet, outside, c, m).fun;

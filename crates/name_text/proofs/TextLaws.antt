@@ -9,7 +9,7 @@ use lib.ListN.{length, get_or, take, drop, length-append, length-take, length-dr
 use lib.Seq.{take_all, take-nil}
 use lib.Dec.{eqb, leb, T, leb→le}
 use borrow.Author.Tests.{ne_eqb, eqb-true, eqb-false, le-leb, lt-leb}
-use Rattle.definition.specs.Basics.{if◌then◌else◌, all}
+use Rattle.definition.specs.Basics.{when◌then◌else◌, all}
 use Rattle.definition.specs.Names.{Name, fixed, lead, listed, same_name, names_few, names_short, names_sized, names_ended, names_unlike, names_fit}
 use Rattle.definition.proofs.Lists.Tests.{T_true, true_of, and_left, and_right}
 use Rattle.names.proofs.Question.{fit_small}
@@ -23,7 +23,7 @@ pub listed_after : (a b : List ℕ) → names_ended a ≡ true → listed (a ++ 
 listed_after [] b h = refl
 listed_after (x ∷ []) b h = go (eqb x 10) refl
   where
-    go : (t : Bool) → eqb x 10 ≡ t → (if t then [] ∷ listed b else lead x (listed b)) ≡ (if t then [] ∷ [] else lead x []) ++ listed b
+    go : (t : Bool) → eqb x 10 ≡ t → (when t then [] ∷ listed b else lead x (listed b)) ≡ (when t then [] ∷ [] else lead x []) ++ listed b
     go true e = refl
     go false e = absurd (eqb-false x 10 e (eqb-true x 10 h))
 listed_after (x ∷ y ∷ ys) b h = go (eqb x 10) (listed_after (y ∷ ys) b (rw sub-one (rw sub-one at h))) (some y ys)
@@ -31,7 +31,7 @@ listed_after (x ∷ y ∷ ys) b h = go (eqb x 10) (listed_after (y ∷ ys) b (rw
     some : (y : ℕ) (ys : List ℕ) → listed (y ∷ ys) ≡ [] → ⊥
     some y ys = by (eqb y 10) (listed ys)
       where
-        by : (t : Bool) (l : List Name) → (if t then [] ∷ l else lead y l) ≡ [] → ⊥
+        by : (t : Bool) (l : List Name) → (when t then [] ∷ l else lead y l) ≡ [] → ⊥
         by true l e = omega (arith, ap length e)
         by false [] e = omega (arith, ap length e)
         by false (n ∷ l) e = omega (arith, ap length e)
@@ -41,7 +41,7 @@ listed_after (x ∷ y ∷ ys) b h = go (eqb x 10) (listed_after (y ∷ ys) b (rw
     lead_after (n ∷ l) m f = refl
 
     go : (t : Bool) → listed (y ∷ ys ++ b) ≡ listed (y ∷ ys) ++ listed b → (listed (y ∷ ys) ≡ [] → ⊥)
-        → (if t then [] ∷ listed (y ∷ ys ++ b) else lead x (listed (y ∷ ys ++ b))) ≡ (if t then [] ∷ listed (y ∷ ys) else lead x (listed (y ∷ ys))) ++ listed b
+        → (when t then [] ∷ listed (y ∷ ys ++ b) else lead x (listed (y ∷ ys ++ b))) ≡ (when t then [] ∷ listed (y ∷ ys) else lead x (listed (y ∷ ys))) ++ listed b
     go true e f = ap (λ (l : List Name). [] ∷ l) e
     go false e f = ap (lead x) e ∙ lead_after (listed (y ∷ ys)) (listed b) f
 
@@ -78,7 +78,7 @@ module _ (w n : List ℕ) where
   pub none_past : (k : ℕ) → 1048 < k → [] ≡ session_text w n k
   none_past k h = by (session_names_fit whole w n) refl
     where
-      by : (t : Bool) → session_names_fit whole w n ≡ t → [] ≡ (if eqb k 0 || not t then [] else get_or (fixed ++ listed list) (k - 1) [])
+      by : (t : Bool) → session_names_fit whole w n ≡ t → [] ≡ (when eqb k 0 || not t then [] else get_or (fixed ++ listed list) (k - 1) [])
       by true e =
           let past : length (fixed ++ listed list) ≤ k - 1 = omega (arith, length-append fixed (listed list), few e) in
           rw (ne_eqb k 0 (λ z. omega arith)) (sym (get_or-eq_default (fixed ++ listed list) [] past))
@@ -87,18 +87,18 @@ module _ (w n : List ℕ) where
   pub none_short : (k : ℕ) → length n < 168 → [] ≡ session_text w n k
   none_short k h = by (session_names_fit whole w n) refl
     where
-      by : (t : Bool) → session_names_fit whole w n ≡ t → [] ≡ (if eqb k 0 || not t then [] else get_or (fixed ++ listed list) (k - 1) [])
+      by : (t : Bool) → session_names_fit whole w n ≡ t → [] ≡ (when eqb k 0 || not t then [] else get_or (fixed ++ listed list) (k - 1) [])
       by true e = absurd (omega (arith, ap length (sym (begins e)), length-take 168 n))
       by false e = go (eqb k 0)
         where
-          go : (u : Bool) → [] ≡ (if u || true then [] else get_or (fixed ++ listed list) (k - 1) [])
+          go : (u : Bool) → [] ≡ (when u || true then [] else get_or (fixed ++ listed list) (k - 1) [])
           go true = refl
           go false = refl
 
   pub none_unfit : (k : ℕ) → session_names_fit whole w n ≡ false → [] ≡ session_text w n k
   none_unfit k e = rw e (go (eqb k 0))
     where
-      go : (u : Bool) → [] ≡ (if u || true then [] else get_or (fixed ++ listed list) (k - 1) [])
+      go : (u : Bool) → [] ≡ (when u || true then [] else get_or (fixed ++ listed list) (k - 1) [])
       go true = refl
       go false = refl
 
@@ -189,7 +189,7 @@ name_short w n ns b k =
         and_right a b (and_left (a && b) (eqb (length (listed (name_bytes whole w n))) (get_or w 3 0)) h)
 
     by : (t u z v : Bool) (x y : Name) → (T u → length x ≤ 255) → (T v → length y ≤ 255)
-        → length (if t then (if u then x else []) else if z || not v then [] else y) ≤ 255
+        → length (when t then (when u then x else []) else when z || not v then [] else y) ≤ 255
     by true true z v x y f g = f tt
     by true false z v x y f g = omega arith
     by false u true v x y f g = omega arith

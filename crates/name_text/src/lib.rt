@@ -2,7 +2,7 @@
 #![tactic(auto)]
 
 ghost use Rattle.std.specs.Prelude.{◌≡◌, not, ◌-◌, ◌≤◌, eqb, length, take, drop};
-ghost use Rattle.definition.specs.Basics.{if◌then◌else◌};
+ghost use Rattle.definition.specs.Basics.{when◌then◌else◌};
 ghost use Rattle.definition.specs.Names.{fixed, listed};
 ghost use Rattle.session.specs.Words.{whole, name_bytes, session_names_fit, name_text};
 ghost use Rattle.name_text.specs.Text.{list_text, session_text};

@@ -10,7 +10,7 @@ use lib.Dec.{eqb, leb, ltb}
 use lib.ListN.{length, get_or, take, drop, set, length-drop, drop_of_length-le}
 use lib.Seq.{drop-cons, drop-drop, length-take-le, take-suc-set, append_snoc}
 use borrow.Author.Tests.{ltb-true, ltb-false, eq-eqb, ne_eqb, le-leb, lt-leb}
-use Rattle.definition.specs.Basics.{if◌then◌else◌, all}
+use Rattle.definition.specs.Basics.{when◌then◌else◌, all}
 use Rattle.definition.specs.Names.{Name, listed, lead, names_ended}
 use Rattle.names.specs.Listed.{name_of, first_size, Ends, starts_from, starts}
 
@@ -48,8 +48,8 @@ store_next t k x l h = rw (store_last t k x h) (append_snoc (take k t) x l)
 -- The first name of a list.
 
 by_end : (t : Bool) (x : ℕ) (xs : List ℕ) → lead x (listed xs) ≡ (x ∷ take (first_size xs) xs) ∷ listed (drop (suc (first_size xs)) xs)
-    → (if t then [] ∷ listed xs else lead x (listed xs))
-    ≡ take (if t then 0 else suc (first_size xs)) (x ∷ xs) ∷ listed (drop (suc (if t then 0 else suc (first_size xs))) (x ∷ xs))
+    → (when t then [] ∷ listed xs else lead x (listed xs))
+    ≡ take (when t then 0 else suc (first_size xs)) (x ∷ xs) ∷ listed (drop (suc (when t then 0 else suc (first_size xs))) (x ∷ xs))
 by_end true x xs e = refl
 by_end false x xs e = e
 
@@ -62,7 +62,7 @@ pub first_name : (xs : List ℕ) → 0 < length xs → listed xs ≡ take (first
 first_name [] h = absurd (omega arith)
 first_name (x ∷ xs) h = from_byte x xs
 
-shorter : (t : Bool) {m n : ℕ} → m ≤ n → (if t then 0 else suc m) ≤ suc n
+shorter : (t : Bool) {m n : ℕ} → m ≤ n → (when t then 0 else suc m) ≤ suc n
 shorter true l = omega arith
 shorter false l = omega arith
 
@@ -72,14 +72,14 @@ first_size_lem (x ∷ xs) = shorter (eqb x 10) (first_size_lem xs)
 
 -- from place i on, byte by byte
 module _ (w : List ℕ) (i : ℕ) where
-  size_step : i < length w → first_size (drop i w) ≡ (if eqb (get_or w i 0) 10 then 0 else suc (first_size (drop (i + 1) w)))
+  size_step : i < length w → first_size (drop i w) ≡ (when eqb (get_or w i 0) 10 then 0 else suc (first_size (drop (i + 1) w)))
   size_step h = rw (drop_step w i 0 h)
 
   pub size_end : i < length w → get_or w i 0 ≡ 10 → first_size (drop i w) ≡ 0
-  size_end h e = size_step h ∙ ap (λ (t : Bool). if t then 0 else suc (first_size (drop (i + 1) w))) (eq-eqb _ _ e)
+  size_end h e = size_step h ∙ ap (λ (t : Bool). when t then 0 else suc (first_size (drop (i + 1) w))) (eq-eqb _ _ e)
 
   pub size_more : i < length w → (get_or w i 0 ≡ 10 → ⊥) → first_size (drop i w) ≡ suc (first_size (drop (i + 1) w))
-  size_more h f = size_step h ∙ ap (λ (t : Bool). if t then 0 else suc (first_size (drop (i + 1) w))) (ne_eqb _ _ f)
+  size_more h f = size_step h ∙ ap (λ (t : Bool). when t then 0 else suc (first_size (drop (i + 1) w))) (ne_eqb _ _ f)
 
   pub size_out : length w ≤ i → first_size (drop i w) ≡ 0
   size_out l = ap first_size (drop_of_length-le w l)

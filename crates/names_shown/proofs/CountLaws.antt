@@ -7,7 +7,7 @@ use native.Mathlib.Omega.{arith}
 use lib.Dec.{eqb}
 use lib.ListN.{length, get_or, set, replicate, length-map}
 use borrow.Author.Tests.{eq-eqb, ne_eqb}
-use Rattle.definition.specs.Basics.{if◌then◌else◌, distinct}
+use Rattle.definition.specs.Basics.{when◌then◌else◌, distinct}
 use Rattle.definition.specs.Meaning.{Named}
 use Rattle.session_outside.specs.Written.{seen, firsts, names_below, visible_names, core_name}
 use Rattle.session_outside.specs.Readable.{Readable}
@@ -18,7 +18,7 @@ use Rattle.session_outside.proofs.VisibleLaws.{marks_find}
 module _ (m : List ℕ) {name : ℕ} (y : Named) (ys : List Named) (e : name ≡ y.name) where
   pub known_counted : (get_or m name 0 ≡ 0 → ⊥) → 0 + length (firsts m ys) ≡ length (firsts m (y ∷ ys))
   unfolding firsts
-  known_counted f = omega (arith, sym (ap (λ (t : Bool). length (if t then y ∷ firsts (set m y.name 1) ys else firsts m ys)) no))
+  known_counted f = omega (arith, sym (ap (λ (t : Bool). length (when t then y ∷ firsts (set m y.name 1) ys else firsts m ys)) no))
     where
       no : eqb (get_or m y.name 0) 0 ≡ false
       no = ne_eqb (get_or m y.name 0) 0 (λ z. f (ap (λ (k : ℕ). get_or m k 0) e ∙ z))
@@ -29,7 +29,7 @@ module _ (m : List ℕ) {name : ℕ} (y : Named) (ys : List Named) (e : name ≡
       omega (
         arith,
         ap (λ (l : List ℕ). length (firsts l ys)) (p ∙ ap (λ (k : ℕ). set m k 1) e),
-        ap (λ (t : Bool). length (if t then y ∷ firsts (set m y.name 1) ys else firsts m ys)) yes,
+        ap (λ (t : Bool). length (when t then y ∷ firsts (set m y.name 1) ys else firsts m ys)) yes,
       )
     where
       yes : eqb (get_or m y.name 0) 0 ≡ true

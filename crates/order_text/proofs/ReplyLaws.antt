@@ -8,7 +8,7 @@ use native.Mathlib.Omega.{arith}
 use lib.ListN.{length, get_or, set, take, drop, replicate, length-map, length-take, length-replicate, replicate-append-replicate}
 use lib.Dec.{T, leb, leb→le}
 use lib.Seq.{take-suc, take_all, take_at, set_at, length-take-le}
-use Rattle.definition.specs.Basics.{if◌then◌else◌, any, first, head, concat_map}
+use Rattle.definition.specs.Basics.{when◌then◌else◌, any, first, head, concat_map}
 use Rattle.definition.specs.Sheet.{Sheet}
 use Rattle.definition.specs.Names.{names_fit, name_count}
 use Rattle.definition.specs.Format.{sheet_fits, depths_fit}
@@ -87,12 +87,12 @@ module _ (lent : ℕ) where
   none : (o : Outcome) → o.rows ≡ [] → Units lent o
   none o e = ([], e, omega arith)
 
-  either : (t : Bool) (x y : Outcome) → Units lent x → Units lent y → Units lent (if t then x else y)
+  either : (t : Bool) (x y : Outcome) → Units lent x → Units lent y → Units lent (when t then x else y)
   either true x y p q = p
   either false x y p q = q
 
   listed : (us : List ℕ) (t : Bool) → (T t → length us ≤ lent)
-      → Units lent (if t then record { number = 0; file = 0; line = 0; column = 0; name = 0; rows = map unit_row us; globals = 0 } else refused 22)
+      → Units lent (when t then record { number = 0; file = 0; line = 0; column = 0; name = 0; rows = map unit_row us; globals = 0 } else refused 22)
   listed us true l = (us, refl, l tt)
   listed us false l = none (refused 22) refl
 
@@ -119,15 +119,15 @@ eights (u ∷ us) = Eights.more refl (eights us)
 pub refused_first : (lent : ℕ) (s : Sheet) (ns : List ℕ) → rows_fit s ≡ false → order_outcome s ns lent ≡ refused 1
 unfolding order_outcome
 refused_first lent s ns e =
-    ap (λ (t : Bool). if not t then refused 1 else if not (names_fit ns) then refused 2 else if not (sheet_fits (name_count ns) s) then refused 3
-    else if not (depths_fit s) then refused 4 else order_asked lent s) e
+    ap (λ (t : Bool). when not t then refused 1 else when not (names_fit ns) then refused 2 else when not (sheet_fits (name_count ns) s) then refused 3
+    else when not (depths_fit s) then refused 4 else order_asked lent s) e
 
 refused_second : (lent : ℕ) (s : Sheet) (ns : List ℕ) → names_fit ns ≡ false
-    → order_outcome s ns lent ≡ (if not (rows_fit s) then refused 1 else refused 2)
+    → order_outcome s ns lent ≡ (when not (rows_fit s) then refused 1 else refused 2)
 unfolding order_outcome
 refused_second lent s ns e =
-    ap (λ (t : Bool). if not (rows_fit s) then refused 1 else if not t then refused 2 else if not (sheet_fits (name_count ns) s) then refused 3
-    else if not (depths_fit s) then refused 4 else order_asked lent s) e
+    ap (λ (t : Bool). when not (rows_fit s) then refused 1 else when not t then refused 2 else when not (sheet_fits (name_count ns) s) then refused 3
+    else when not (depths_fit s) then refused 4 else order_asked lent s) e
 
 -- A text of which k lines were read into `words`, the answer of their order with the list w, and the report's words with that list as rows.
 module _ (lent : ℕ) (sheet names : List ℕ) (k : ℕ) (words w : List ℕ) (x : Answer) (rep : List ℕ) (z : ℕ) (low : lent ≤ 2048)
@@ -182,7 +182,7 @@ printed_cut : (lent : ℕ) (s ns : List ℕ) → printed_order lent (take 165889
 printed_cut lent s ns =
     ap (λ (o : Outcome). text_of (report o))
     (same_cut (λ t. order_outcome t (take 32769 ns) lent) (refused 1) (λ t e. refused_first lent t (take 32769 ns) e) s
-    ∙ same_names_cut (λ t. order_outcome (sheet_of s) t lent) (if not (rows_fit (sheet_of s)) then refused 1 else refused 2)
+    ∙ same_names_cut (λ t. order_outcome (sheet_of s) t lent) (when not (rows_fit (sheet_of s)) then refused 1 else refused 2)
     (λ t e. refused_second lent (sheet_of s) t e) ns)
 
 pub replied_order : {lent : ℕ} {sheet names before : List ℕ} {n : ℕ} {after : List ℕ}

@@ -9,7 +9,7 @@ use lib.Dec.{T, not_T, eqb, leb, ltb→lt}
 use lib.ListN.{length, get_or, drop, replicate, length-replicate, length-map}
 use lib.Seq.{sets, sets-eq, length-sets}
 use borrow.Author.Tests.{eq-eqb, ne_eqb, leb-true, leb-false}
-use Rattle.definition.specs.Basics.{if◌then◌else◌, any, first, head, ◌∈?◌}
+use Rattle.definition.specs.Basics.{when◌then◌else◌, any, first, head, ◌∈?◌}
 use Rattle.definition.specs.Kind.{UNIT}
 use Rattle.definition.specs.Sheet.{Sheet, kind, file, rows, is}
 use Rattle.definition.specs.Names.{names_fit, name_count}
@@ -34,14 +34,14 @@ use Rattle.order_units.specs.Ordered.{Ordered}
 use Rattle.order_units.specs.Settled.{Fitting, Left, Listed, Settled}
 
 -- the outcome by the answer of the first four questions
-outcome_by : (s : Sheet) (ns : List ℕ) (lent : ℕ) → order_outcome s ns lent ≡ (if eqb (first_four s ns) 0 then order_asked lent s else refused (first_four s ns))
+outcome_by : (s : Sheet) (ns : List ℕ) (lent : ℕ) → order_outcome s ns lent ≡ (when eqb (first_four s ns) 0 then order_asked lent s else refused (first_four s ns))
 unfolding order_outcome
 outcome_by s ns lent = go (rows_fit s) (names_fit ns) (sheet_fits (name_count ns) s) (depths_fit s)
   where
     go : (x y z w : Bool)
-        → (if not x then refused 1 else if not y then refused 2 else if not z then refused 3 else if not w then refused 4 else order_asked lent s)
-        ≡ (if eqb (if not x then 1 else if not y then 2 else if not z then 3 else if not w then 4 else 0) 0 then order_asked lent s
-        else refused (if not x then 1 else if not y then 2 else if not z then 3 else if not w then 4 else 0))
+        → (when not x then refused 1 else when not y then refused 2 else when not z then refused 3 else when not w then refused 4 else order_asked lent s)
+        ≡ (when eqb (when not x then 1 else when not y then 2 else when not z then 3 else when not w then 4 else 0) 0 then order_asked lent s
+        else refused (when not x then 1 else when not y then 2 else when not z then 3 else when not w then 4 else 0))
     go false y z w = refl
     go true false z w = refl
     go true true false w = refl
@@ -53,7 +53,7 @@ pub fitting : (s : Sheet) (ns : List ℕ) → first_four s ns ≡ 0 → Fitting 
 fitting s ns e = go (rows_fit s) refl (names_fit ns) (sheet_fits (name_count ns) s) refl (depths_fit s) e
   where
     go : (x : Bool) → rows_fit s ≡ x → (y z : Bool) → sheet_fits (name_count ns) s ≡ z → (w : Bool)
-        → ◌≡◌ {A = ℕ} (if not x then 1 else if not y then 2 else if not z then 3 else if not w then 4 else 0) 0 → Fitting s
+        → ◌≡◌ {A = ℕ} (when not x then 1 else when not y then 2 else when not z then 3 else when not w then 4 else 0) 0 → Fitting s
     go false p y z q w h = absurd (omega (arith, h))
     go true p false z q w h = absurd (omega (arith, h))
     go true p true false q w h = absurd (omega (arith, h))
@@ -122,8 +122,8 @@ written us lent l =
 module _ (s : Sheet) (ok : Fitting s) (m : List ℕ) (h : Marks s m (order s)) (x : Bool) (l : Left s m x) (lent : ℕ) where
   asked_by : Bool → Bool → Outcome
   asked_by t w =
-      if t then refused_at 29 s (first (circles s) 0 (units s)) 0
-      else if w then record { number = 0; file = 0; line = 0; column = 0; name = 0; rows = map unit_row (order s); globals = 0 }
+      when t then refused_at 29 s (first (circles s) 0 (units s)) 0
+      else when w then record { number = 0; file = 0; line = 0; column = 0; name = 0; rows = map unit_row (order s); globals = 0 }
       else refused 22
 
   asked_is : order_asked lent s ≡ asked_by (any (circles s) (units s)) (leb (length (order s)) lent)
@@ -199,8 +199,8 @@ module _ (s : Sheet) (ns : List ℕ) (lent : ℕ) {q : ℕ} (e : q ≡ first_fou
   pub ordered_no : (q ≡ 0 → ⊥) → {x : Answer} {w : List ℕ} → Tells (refused q) x × (w ≡ replicate lent 0) → Ordered s ns lent x w
   ordered_no f {x} {w} r =
       let is : order_outcome s ns lent ≡ refused q =
-      outcome_by s ns lent ∙ ap (λ (k : ℕ). if eqb k 0 then order_asked lent s else refused k) (sym e)
-      ∙ ap (λ (t : Bool). if t then order_asked lent s else refused q) (ne_eqb q 0 f) in
+      outcome_by s ns lent ∙ ap (λ (k : ℕ). when eqb k 0 then order_asked lent s else refused k) (sym e)
+      ∙ ap (λ (t : Bool). when t then order_asked lent s else refused q) (ne_eqb q 0 f) in
       record {
         tells = subst (λ (o : Outcome). Tells o x) (sym is) r.0;
         words = r.1 ∙ zeros_after lent (refused q) refl ∙ ap (list_after lent) (sym is);
@@ -210,7 +210,7 @@ module _ (s : Sheet) (ns : List ℕ) (lent : ℕ) {q : ℕ} (e : q ≡ first_fou
   pub ordered_on : q ≡ 0 → {x : Answer} {w : List ℕ} → Settled s lent x w → Ordered s ns lent x w
   ordered_on z {x} {w} r =
       let is : order_outcome s ns lent ≡ order_asked lent s =
-      outcome_by s ns lent ∙ ap (λ (k : ℕ). if eqb k 0 then order_asked lent s else refused k) (sym e ∙ z) in
+      outcome_by s ns lent ∙ ap (λ (k : ℕ). when eqb k 0 then order_asked lent s else refused k) (sym e ∙ z) in
       record {
         tells = subst (λ (o : Outcome). Tells o x) (sym is) r.tells;
         words = r.words ∙ ap (list_after lent) (sym is);

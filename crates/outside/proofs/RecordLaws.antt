@@ -7,7 +7,7 @@ use native.Mathlib.Omega.{arith}
 use lib.Dec.{eqb}
 use lib.ListN.{get_or}
 use borrow.Author.Tests.{eq-eqb, ne_eqb}
-use Rattle.definition.specs.Basics.{if◌then◌else◌, filter, head, any, first, from, ◌∈?◌}
+use Rattle.definition.specs.Basics.{when◌then◌else◌, filter, head, any, first, from, ◌∈?◌}
 use Rattle.definition.specs.Sheet.{Sheet, word, a, kids_of}
 use Rattle.definition.specs.Outside.{Method as Held, ClassRecord, is_recorded, record_of, no_record}
 use Rattle.definition.specs.Classes.{of_sheet, has_record, class_name, own_methods, method_at, method_of, arity, no_method}
@@ -41,31 +41,31 @@ module _ (w : List ℕ) (c : ℕ) where
   sought_none i zero l = refl
   sought_none i (suc n) l = absurd (omega arith)
 
-  step : (i n : ℕ) → sought i (suc n) ≡ (if eqb (word w i 0) c then seen true (record_at w i) else sought (suc i) n)
+  step : (i n : ℕ) → sought i (suc n) ≡ (when eqb (word w i 0) c then seen true (record_at w i) else sought (suc i) n)
   unfolding sought
   step i n = go (eqb (word w i 0) c)
     where
       xs : List ClassRecord
       xs = map (record_at w) (from (suc i) n)
 
-      go : (t : Bool) → seen (t || any (λ x. eqb x.number c) xs) (if t then record_at w i else first (λ x. eqb x.number c) no_record xs)
-          ≡ (if t then seen true (record_at w i) else seen (any (λ x. eqb x.number c) xs) (first (λ x. eqb x.number c) no_record xs))
+      go : (t : Bool) → seen (t || any (λ x. eqb x.number c) xs) (when t then record_at w i else first (λ x. eqb x.number c) no_record xs)
+          ≡ (when t then seen true (record_at w i) else seen (any (λ x. eqb x.number c) xs) (first (λ x. eqb x.number c) no_record xs))
       go true = refl
       go false = refl
 
   -- row i is of class k
   module _ (i n : ℕ) (l : 0 < n) {k : ℕ} (e : k ≡ word w i 0) where
-    here : sought i n ≡ (if eqb (word w i 0) c then seen true (record_at w i) else sought (suc i) (n - 1))
+    here : sought i n ≡ (when eqb (word w i 0) c then seen true (record_at w i) else sought (suc i) (n - 1))
     here = let z : n ≡ suc (n - 1) = omega arith in ap (sought i) z ∙ step i (n - 1)
 
     pub sought_here : k ≡ c → told w (row_record w i) ≡ sought i n
-    sought_here h = sym (here ∙ ap (λ (t : Bool). if t then seen true (record_at w i) else sought (suc i) (n - 1)) (eq-eqb (word w i 0) c (sym e ∙ h)))
+    sought_here h = sym (here ∙ ap (λ (t : Bool). when t then seen true (record_at w i) else sought (suc i) (n - 1)) (eq-eqb (word w i 0) c (sym e ∙ h)))
 
     pub sought_next : (k ≡ c → ⊥) → sought (i + 1) (n - 1) ≡ sought i n
     sought_next h =
         let z : i + 1 ≡ suc i = omega arith in
         ap (λ (j : ℕ). sought j (n - 1)) z
-        ∙ sym (here ∙ ap (λ (t : Bool). if t then seen true (record_at w i) else sought (suc i) (n - 1)) (ne_eqb (word w i 0) c (λ z. h (e ∙ z))))
+        ∙ sym (here ∙ ap (λ (t : Bool). when t then seen true (record_at w i) else sought (suc i) (n - 1)) (ne_eqb (word w i 0) c (λ z. h (e ∙ z))))
 
   -- among all
   pub all_sought : {i n : ℕ} (x : Recorded) → i ≡ word w 0 0 → n ≡ word w 0 1 → told w x ≡ sought i (n - i) → Records w c x
@@ -86,16 +86,16 @@ module _ (w : List ℕ) (m p n : ℕ) where
   methods_none l = let z : n ≡ 0 = omega arith in sym (ap (λ (j : ℕ). method_of m (methods_at w p j)) z)
 
   module _ (l : 0 < n) {k : ℕ} (e : k ≡ get_or w p 0) where
-    method_first : method_of m (methods_at w p n) ≡ (if eqb (get_or w p 0) m then method_in w p else method_of m (methods_at w (p + 3) (n - 1)))
+    method_first : method_of m (methods_at w p n) ≡ (when eqb (get_or w p 0) m then method_in w p else method_of m (methods_at w (p + 3) (n - 1)))
     unfolding methods_at
     method_first = let z : n ≡ suc (n - 1) = omega arith in ap (λ (j : ℕ). method_of m (methods_at w p j)) z
 
     pub methods_here : k ≡ m → method_in w p ≡ method_of m (methods_at w p n)
-    methods_here h = sym (method_first ∙ ap (λ (t : Bool). if t then method_in w p else method_of m (methods_at w (p + 3) (n - 1))) (eq-eqb (get_or w p 0) m (sym e ∙ h)))
+    methods_here h = sym (method_first ∙ ap (λ (t : Bool). when t then method_in w p else method_of m (methods_at w (p + 3) (n - 1))) (eq-eqb (get_or w p 0) m (sym e ∙ h)))
 
     pub methods_next : (k ≡ m → ⊥) → method_of m (methods_at w (p + 3) (n - 1)) ≡ method_of m (methods_at w p n)
     methods_next h =
-        sym (method_first ∙ ap (λ (t : Bool). if t then method_in w p else method_of m (methods_at w (p + 3) (n - 1))) (ne_eqb (get_or w p 0) m (λ z. h (e ∙ z))))
+        sym (method_first ∙ ap (λ (t : Bool). when t then method_in w p else method_of m (methods_at w (p + 3) (n - 1))) (ne_eqb (get_or w p 0) m (λ z. h (e ∙ z))))
 
 -- Name m among n names, d words from one to the next.
 module _ (w : List ℕ) (d m p n : ℕ) where
@@ -118,7 +118,7 @@ module _ (w : List ℕ) (d m p n : ℕ) where
 pub step_few : (j : ℕ) → step_of j ≤ 3
 step_few j = go (eqb j 10)
   where
-    go : (t : Bool) → (if t then 1 else 3) ≤ 3
+    go : (t : Bool) → (when t then 1 else 3) ≤ 3
     go true = omega arith
     go false = omega arith
 
@@ -141,28 +141,28 @@ module _ (s : Sheet) (w : List ℕ) (c : ℕ) {x : Bool} (e : x ≡ of_sheet s c
   has_own h = sym (ap (λ (t : Bool). t || is_recorded (over w) c) (sym e ∙ h))
 
   pub name_own : x ≡ true → {n : ℕ} → n ≡ a s (c - 256) → n ≡ class_name (over w) s c
-  name_own h i = i ∙ sym (ap (λ (t : Bool). if t then a s (c - 256) else (record_of (over w) c).name) (sym e ∙ h))
+  name_own h i = i ∙ sym (ap (λ (t : Bool). when t then a s (c - 256) else (record_of (over w) c).name) (sym e ∙ h))
 
   pub own_number : x ≡ true → 256 ≤ c
   own_number h = row_number s c (sym e ∙ h)
 
-  pub own_listed : x ≡ true → {n f : ℕ} {m : Method} → f ≡ head (filter (λ k. eqb (a s k) n) (kids_of s 6 (c - 256))) → m.fun.0 ≡ f → m.params ≡ (if eqb f 0 then 0 else arity s f)
+  pub own_listed : x ≡ true → {n f : ℕ} {m : Method} → f ≡ head (filter (λ k. eqb (a s k) n) (kids_of s 6 (c - 256))) → m.fun.0 ≡ f → m.params ≡ (when eqb f 0 then 0 else arity s f)
       → Tells n (own_methods (over w) s c) m
   own_listed h {n} {f} i j k =
       tells_as n {ms = map (method_at s) (kids_of s 6 (c - 256))} (record { fun_is = j ∙ method_function s n (c - 256) f i; params_are = k ∙ method_params s n (c - 256) f i })
-      (sym (ap (λ (t : Bool). method_of n (if t then map (method_at s) (kids_of s 6 (c - 256)) else (record_of (over w) c).methods)) (sym e ∙ h)))
+      (sym (ap (λ (t : Bool). method_of n (when t then map (method_at s) (kids_of s 6 (c - 256)) else (record_of (over w) c).methods)) (sym e ∙ h)))
 
   module _ (h : x ≡ false) {r : Recorded} (k : Records w c r) where
     pub has_record_lem : r.some ≡ has_record (over w) s c
     has_record_lem = k.recorded ∙ sym (ap (λ (t : Bool). t || is_recorded (over w) c) (sym e ∙ h))
 
     pub name_record : r.name ≡ class_name (over w) s c
-    name_record = k.named ∙ sym (ap (λ (t : Bool). if t then a s (c - 256) else (record_of (over w) c).name) (sym e ∙ h))
+    name_record = k.named ∙ sym (ap (λ (t : Bool). when t then a s (c - 256) else (record_of (over w) c).name) (sym e ∙ h))
 
     pub own_recorded : {n : ℕ} {m : Method} → Tells n (methods_at w r.method r.methods) m → Tells n (own_methods (over w) s c) m
     own_recorded {n} t =
         tells_as n t
-        (ap (method_of n) k.methods_are ∙ sym (ap (λ (t : Bool). method_of n (if t then map (method_at s) (kids_of s 6 (c - 256)) else (record_of (over w) c).methods)) (sym e ∙ h)))
+        (ap (method_of n) k.methods_are ∙ sym (ap (λ (t : Bool). method_of n (when t then map (method_at s) (kids_of s 6 (c - 256)) else (record_of (over w) c).methods)) (sym e ∙ h)))
 
 -- the numbers of an outside in words are the walk's
 pub over_base : (w : List ℕ) → (over w).base ≡ 0

@@ -1,6 +1,6 @@
 -- What is found in the lent words of an outside.
 use Rattle.std.specs.Prelude.{◌≡◌, true, List, map, ℕ, eqb}
-use Rattle.definition.specs.Basics.{if◌then◌else◌}
+use Rattle.definition.specs.Basics.{when◌then◌else◌}
 use Rattle.definition.specs.Sheet.{word}
 use Rattle.definition.specs.Outside.{Outside, Method as Held, is_recorded, record_of}
 use Rattle.definition.specs.Classes.{method_of}
@@ -28,11 +28,11 @@ pub record Tells (n : ℕ) (ms : List Held) (x : Method) : Type 0 where
 
 -- the names of a class from outside that are told by rows of kind j: 10 fields, 6 methods
 abbrev pub recorded_names : Outside → ℕ → ℕ → List ℕ
-recorded_names O j c = if eqb j 10 then (record_of O c).fields else map (λ m. m.name) (record_of O c).methods
+recorded_names O j c = when eqb j 10 then (record_of O c).fields else map (λ m. m.name) (record_of O c).methods
 
 -- how many words a field or a method takes
 abbrev pub step_of : ℕ → ℕ
-step_of j = if eqb j 10 then 1 else 3
+step_of j = when eqb j 10 then 1 else 3
 
 -- the names that x tells in the words w
 abbrev pub listed : List ℕ → Listed → List ℕ

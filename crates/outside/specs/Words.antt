@@ -2,14 +2,14 @@
 -- the row after the last. The rows from 1 to the first record are names; the records follow; places in them, counted in words, lead to
 -- fields and methods. Contracts of other crates speak of `over`, the outside that the words hold.
 use Rattle.std.specs.Prelude.{List, [], ◌∷◌, map, ℕ, zero, suc, ◌+◌, ◌-◌, get_or, eqb}
-use Rattle.definition.specs.Basics.{if◌then◌else◌, from}
+use Rattle.definition.specs.Basics.{when◌then◌else◌, from}
 use Rattle.definition.specs.Sheet.{word}
 use Rattle.definition.specs.Meaning.{Meaning, Named, named, function, class, global}
 use Rattle.definition.specs.Outside.{Outside, Method, ClassRecord}
 
 -- what a name from outside means, by the code that answer rows have for it: function n, class n, or global n, mutable if m is 1
 abbrev pub meaning_by : ℕ → ℕ → ℕ → Meaning
-meaning_by code n m = if eqb code 1 then function n else if eqb code 2 then class n else global n m
+meaning_by code n m = when eqb code 1 then function n else when eqb code 2 then class n else global n m
 
 -- a name's row: the name, the code of what it means, its number, whether it is mutable
 unfoldable pub name_at : List ℕ → ℕ → Named

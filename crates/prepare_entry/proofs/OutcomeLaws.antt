@@ -8,7 +8,7 @@ use Prim.Native.Nat.{ℕ, ◌-◌, ◌*◌, ◌<◌}
 use native.Mathlib.Omega.{arith}
 use lib.Dec.{eqb}
 use lib.ListN.{length, get_or, replicate}
-use Rattle.definition.specs.Basics.{if◌then◌else◌}
+use Rattle.definition.specs.Basics.{when◌then◌else◌}
 use Rattle.definition.specs.Names.{Name, names_fit, name_count}
 use Rattle.definition.specs.Sheet.{Sheet}
 use Rattle.definition.specs.Format.{sheet_fits, depths_fit}
@@ -33,10 +33,10 @@ no_range : (g : ℕ) (s : Sheet) (ns : List ℕ) → (entry_no g s ns < 5) ⊎ (
 no_range g s ns = go (rows_fit s) (names_fit ns) (sheet_fits (name_count ns) s) (depths_fit s) (fits_over g s)
   where
     go : (x y z w t : Bool)
-        → ((if eqb (if not x then 1 else if not y then 2 else if not z then 3 else if not w then 4 else 0) 0 then (if t then 0 else 23)
-        else (if not x then 1 else if not y then 2 else if not z then 3 else if not w then 4 else 0)) < 5)
-        ⊎ (21 < (if eqb (if not x then 1 else if not y then 2 else if not z then 3 else if not w then 4 else 0) 0 then (if t then 0 else 23)
-        else (if not x then 1 else if not y then 2 else if not z then 3 else if not w then 4 else 0)))
+        → ((when eqb (when not x then 1 else when not y then 2 else when not z then 3 else when not w then 4 else 0) 0 then (when t then 0 else 23)
+        else (when not x then 1 else when not y then 2 else when not z then 3 else when not w then 4 else 0)) < 5)
+        ⊎ (21 < (when eqb (when not x then 1 else when not y then 2 else when not z then 3 else when not w then 4 else 0) 0 then (when t then 0 else 23)
+        else (when not x then 1 else when not y then 2 else when not z then 3 else when not w then 4 else 0)))
     go false y z w t = inl (omega arith)
     go true false z w t = inl (omega arith)
     go true true false w t = inl (omega arith)
@@ -47,20 +47,20 @@ no_range g s ns = go (rows_fit s) (names_fit ns) (sheet_fits (name_count ns) s) 
 module _ (w n : List ℕ) (s : Sheet) (ns : List ℕ) where
   -- the first no before the walk
   abbrev pub no_before : ℕ
-  no_before = if session_fits whole w n then entry_no (get_or w 0 0) s ns else 23
+  no_before = when session_fits whole w n then entry_no (get_or w 0 0) s ns else 23
 
   pub before_range : {k : ℕ} → k ≡ no_before → (k < 5) ⊎ (21 < k)
   before_range e = subst (λ (k : ℕ). (k < 5) ⊎ (21 < k)) (sym e) (go (session_fits whole w n))
     where
-      go : (t : Bool) → ((if t then entry_no (get_or w 0 0) s ns else 23) < 5) ⊎ (21 < (if t then entry_no (get_or w 0 0) s ns else 23))
+      go : (t : Bool) → ((when t then entry_no (get_or w 0 0) s ns else 23) < 5) ⊎ (21 < (when t then entry_no (get_or w 0 0) s ns else 23))
       go true = no_range (get_or w 0 0) s ns
       go false = inr (omega arith)
 
   pub refused_before : (lent : ℕ) {k : ℕ} → k ≡ no_before → (k ≡ 0 → ⊥) → enter_outcome whole w n s ns lent ≡ refused k
   refused_before lent {k} e f = go (session_fits whole w n) e
     where
-      go : (t : Bool) → k ≡ (if t then entry_no (get_or w 0 0) s ns else 23)
-          → (if not t then refused 23 else entered (session_in whole w n) s ns lent) ≡ refused k
+      go : (t : Bool) → k ≡ (when t then entry_no (get_or w 0 0) s ns else 23)
+          → (when not t then refused 23 else entered (session_in whole w n) s ns lent) ≡ refused k
       go true h = entered_by (session_in whole w n) s ns lent ∙ rw (ne_eqb (entry_no (get_or w 0 0) s ns) 0 (λ z. f (h ∙ z))) (ap refused (sym h))
       go false h = ap refused (sym h)
 
@@ -88,7 +88,7 @@ module _ (w n : List ℕ) (s : Sheet) (ns : List ℕ) (lent : ℕ) (fit : sessio
       let more : Session = record { globals = (asked (outside_of S) lent t).globals; entries = S.entries ++ entry_of S t ms lent ∷ [] } in
       go (not (eqb (asked (outside_of S) lent t).number 0)) (within more)
     where
-      go : (a c : Bool) → Eights (if a then asked (outside_of S) lent t else if c then asked (outside_of S) lent t else refused 24).rows
+      go : (a c : Bool) → Eights (when a then asked (outside_of S) lent t else when c then asked (outside_of S) lent t else refused 24).rows
       go true c = (good_asked lent (outside_of S) t).0
       go false true = (good_asked lent (outside_of S) t).0
       go false false = Eights.none

@@ -8,7 +8,7 @@ use native.Mathlib.Omega.{arith}
 use lib.ListN.{length, get_or, take, replicate, length-append}
 use lib.Seq.{length-take-le, take_at}
 use lib.Dec.{eqb}
-use Rattle.definition.specs.Basics.{if◌then◌else◌, total, from}
+use Rattle.definition.specs.Basics.{when◌then◌else◌, total, from}
 use Rattle.definition.specs.Names.{name_count}
 use Rattle.definition.specs.Sheet.{Sheet, rows}
 use Rattle.definition.specs.Outside.{Outside, based}
@@ -74,7 +74,7 @@ module _ {w : List ℕ} {s : Sheet} {numbers : List ℕ} {new bytes : ℕ} {n ns
     unfolding nodes_for
     nodes_same =
         ap (λ (t : Sheet). total (nodes_of t) (from 0 (rows t))) (m.copied n ns h.told) ∙ ap (λ (k : ℕ). total (nodes_of t) (from 0 k)) e.size
-        ∙ total_same (nodes_of t) (nodes_of s) 0 (rows s) (λ r l. ap (λ (k : ℕ). if eqb k 50 then 21 else if eqb k 59 || eqb k 21 then 1 else 0) (e.kinds r))
+        ∙ total_same (nodes_of t) (nodes_of s) 0 (rows s) (λ r l. ap (λ (k : ℕ). when eqb k 50 then 21 else when eqb k 59 || eqb k 21 then 1 else 0) (e.kinds r))
       where
         t : Sheet
         t = entry_sheet (session_in whole w n) ns s

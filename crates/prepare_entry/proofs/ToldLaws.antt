@@ -6,7 +6,7 @@ use Prim.Native.Nat.{ℕ, suc, ◌+◌, ◌-◌, ◌≤◌}
 use native.Mathlib.Omega.{arith}
 use lib.Dec.{leb→le}
 use lib.ListN.{length, get_or, take, drop, length-append, length-map}
-use Rattle.definition.specs.Basics.{if◌then◌else◌, any, unlike, from}
+use Rattle.definition.specs.Basics.{when◌then◌else◌, any, unlike, from}
 use Rattle.definition.specs.Names.{Name, fixed, listed, same_name, names_fit}
 use Rattle.definition.specs.Sheet.{Sheet}
 use Rattle.session.proofs.SessionLaws.{from_length, runs_of}
@@ -108,7 +108,7 @@ module _ (w : List ℕ) (s : Sheet) (n ns : List ℕ) {count new size : ℕ} {nu
 
 -- what preparing comes to: a session that is refused, an entry that is refused, and one whose names are told
 module _ (w n : List ℕ) (s : Sheet) (ns : List ℕ) {x : Prepared} {numbers : List ℕ} where
-  refused_by_lem : {k : ℕ} → x.no ≡ k → (k ≡ 0 → ⊥) → x.no ≡ (if session_fits whole w n then entry_no (get_or w 0 0) s ns else 23) → PreparedFor w n s ns x numbers
+  refused_by_lem : {k : ℕ} → x.no ≡ k → (k ≡ 0 → ⊥) → x.no ≡ (when session_fits whole w n then entry_no (get_or w 0 0) s ns else 23) → PreparedFor w n s ns x numbers
   refused_by_lem e f h =
       record { no = h; told = λ z. absurd (f (sym e ∙ z)); few = λ z. absurd (f (sym e ∙ z)); first = λ z. absurd (f (sym e ∙ z)) }
 

@@ -1,6 +1,6 @@
 -- What is known of an entry before its walk.
 use Rattle.std.specs.Prelude.{◌≡◌, true, List, ℕ, suc, ◌≤◌, length, get_or, take}
-use Rattle.definition.specs.Basics.{if◌then◌else◌, concat_map}
+use Rattle.definition.specs.Basics.{when◌then◌else◌, concat_map}
 use Rattle.definition.specs.Sheet.{Sheet}
 use Rattle.definition.specs.Outside.{based}
 use Rattle.outside.specs.Words.{over}
@@ -22,7 +22,7 @@ pub record Told (w : List ℕ) (s : Sheet) (numbers : List ℕ) (new bytes : ℕ
 -- Of session words w and bytes n, and sheet s with names ns: the first no before the walk, 23 of the session first; if there is none, the numbers of the names
 -- that the entry lists, and that of its first new one.
 pub record PreparedFor (w n : List ℕ) (s : Sheet) (ns : List ℕ) (x : Prepared) (numbers : List ℕ) : Type 0 where
-  pub no : x.no ≡ (if session_fits whole w n then entry_no (get_or w 0 0) s ns else 23)
+  pub no : x.no ≡ (when session_fits whole w n then entry_no (get_or w 0 0) s ns else 23)
   pub told : x.no ≡ 0 → Told w s (take x.names numbers) x.new x.bytes n ns
   pub few : x.no ≡ 0 → x.names ≤ 1024
   pub first : x.no ≡ 0 → x.first ≡ suc (length (all_names (session_in whole w n)))

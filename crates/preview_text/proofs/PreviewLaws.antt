@@ -4,7 +4,7 @@ use mathlib.Core.Bool.{Bool, false}
 use mathlib.Core.List.{List, [], ◌++◌}
 use Prim.Native.Nat.{ℕ, ◌*◌, ◌<◌, ◌≤◌}
 use lib.ListN.{length, take, drop}
-use Rattle.definition.specs.Basics.{if◌then◌else◌}
+use Rattle.definition.specs.Basics.{when◌then◌else◌}
 use Rattle.definition.specs.Text.{sheet_of, text_of}
 use Rattle.definition.specs.Outcome.{Outcome, report, buffer}
 use Rattle.text.specs.Reading.{SheetRead}
@@ -32,19 +32,19 @@ as_entered h = record { tells = h.tells; words = h.words; session = refl; bytes 
 -- A preview with `lent` answer rows lent, and a text before it.
 module _ (lent : ℕ) (w b sheet names before : List ℕ) where
   -- the reply to the bytes read is the reply to the texts
-  replied_texts : {n : ℕ} {after : List ℕ} → Begins (if is_lent lent (length before) then printed_preview lent w b sheet names else []) before n after
+  replied_texts : {n : ℕ} {after : List ℕ} → Begins (when is_lent lent (length before) then printed_preview lent w b sheet names else []) before n after
       → RepliedOfPreview lent w b sheet names before n after
   replied_texts {n} {after} h = record {
     of_read = h;
     of_texts = λ s ns e f.
         let same : outcome_of lent w b sheet names ≡ outcome_of lent w b s ns =
         ap (λ (t : List ℕ). outcome_of lent w b t names) e ∙ ap (λ (t : List ℕ). outcome_of lent w b (take 165889 s) t) f ∙ outcome_cut w b (8 * lent) s ns in
-        subst (λ (o : Outcome). Begins (if is_lent lent (length before) then text_of (report o) ++ session_row w else []) before n after) same h;
+        subst (λ (o : Outcome). Begins (when is_lent lent (length before) then text_of (report o) ++ session_row w else []) before n after) same h;
   }
 
   none : is_lent lent (length before) ≡ false → RepliedOfPreview lent w b sheet names before 0 before
   none e =
-      replied_texts (subst (λ (t : Bool). Begins (if t then printed_preview lent w b sheet names else []) before 0 before) (sym e) (record { count = refl; text = refl }))
+      replied_texts (subst (λ (t : Bool). Begins (when t then printed_preview lent w b sheet names else []) before 0 before) (sym e) (record { count = refl; text = refl }))
 
   pub lent_many : 2048 < lent → RepliedOfPreview lent w b sheet names before 0 before
   lent_many l = none (many lent w b sheet names before l)
@@ -59,5 +59,5 @@ module _ (lent : ℕ) (w b sheet names before : List ℕ) where
       let same = told lent w b sheet names before low room rep out _ _ m x size e (as_entered h) in
       let full = has lent w b sheet names before low room rep out _ _ m x size e (as_entered h) in
       replied_texts
-      (subst (λ (t : Bool). Begins (if t then printed_preview lent w b sheet names else []) before n after) (sym full)
+      (subst (λ (t : Bool). Begins (when t then printed_preview lent w b sheet names else []) before n after) (sym full)
       (subst (λ (t : List ℕ). Begins (t ++ session_row w) before n after) same p))

@@ -7,7 +7,7 @@ use Prim.Native.Nat.{ℕ, ◌<◌}
 use native.Mathlib.Omega.{arith}
 use lib.Dec.{eqb, leb}
 use lib.ListN.{length, get_or, set, replicate}
-use Rattle.definition.specs.Basics.{if◌then◌else◌}
+use Rattle.definition.specs.Basics.{when◌then◌else◌}
 use Rattle.definition.specs.Names.{Name}
 use Rattle.definition.specs.Sheet.{Sheet}
 use Rattle.definition.specs.Outcome.{Outcome, refused}
@@ -104,47 +104,47 @@ module _ (w n : List ℕ) (s : Sheet) (ns : List ℕ) (lent : ℕ) (fit : sessio
   -- the global count after it, by whether it is accepted
   after_count : Bool → ℕ
   after_count a =
-      (if a then accepting S s ns lent (renamed (to_entry S ns) o)
-      else if walked then record { globals = next_global (outside_of S) t; entries = S.entries } else S).globals
+      (when a then accepting S s ns lent (renamed (to_entry S ns) o)
+      else when walked then record { globals = next_global (outside_of S) t; entries = S.entries } else S).globals
 
   enter_is : enter_words whole w n s ns lent
-      ≡ (if eqb o.number 0 then showing Z (words_with whole w o.globals e) else if walked then set w 0 (after_count (eqb o.number 0)) else w)
+      ≡ (when eqb o.number 0 then showing Z (words_with whole w o.globals e) else when walked then set w 0 (after_count (eqb o.number 0)) else w)
   unfolding after_count
   enter_is =
-      ap (λ (x : Outcome). if eqb x.number 0 then showing Z (words_with whole w x.globals e)
-      else if leb 5 x.number && leb x.number 21 then set w 0 Z.globals else w) outcome
-      ∙ ap (λ (g : ℕ). if eqb o.number 0 then showing Z (words_with whole w o.globals e) else if walked then set w 0 g else w)
+      ap (λ (x : Outcome). when eqb x.number 0 then showing Z (words_with whole w x.globals e)
+      else when leb 5 x.number && leb x.number 21 then set w 0 Z.globals else w) outcome
+      ∙ ap (λ (g : ℕ). when eqb o.number 0 then showing Z (words_with whole w o.globals e) else when walked then set w 0 g else w)
       (ap next (entered_is w n s ns lent fit none))
     where
       next : Outcome → ℕ
       next x =
-          (if eqb x.number 0 then accepting S s ns lent x
-          else if leb 5 x.number && leb x.number 21 then record { globals = next_global (outside_of S) t; entries = S.entries } else S).globals
+          (when eqb x.number 0 then accepting S s ns lent x
+          else when leb 5 x.number && leb x.number 21 then record { globals = next_global (outside_of S) t; entries = S.entries } else S).globals
 
   -- the words of an entry that is refused,
   words_no : (o.number ≡ 0 → ⊥) → words_after S t ms lent w ≡ enter_words whole w n s ns lent
   unfolding after_count
   words_no f =
       let left : eqb o.number 0 ≡ false = ne_eqb o.number 0 f in
-      ap (λ (a : Bool). if a then words_with whole w o.globals e else if walked then set w 0 (next_global (outside_of S) t) else w) left ∙ go walked
-      ∙ sym (enter_is ∙ ap (λ (a : Bool). if a then showing Z (words_with whole w o.globals e) else if walked then set w 0 (after_count a) else w) left)
+      ap (λ (a : Bool). when a then words_with whole w o.globals e else when walked then set w 0 (next_global (outside_of S) t) else w) left ∙ go walked
+      ∙ sym (enter_is ∙ ap (λ (a : Bool). when a then showing Z (words_with whole w o.globals e) else when walked then set w 0 (after_count a) else w) left)
     where
-      go : (c : Bool) → (if c then set w 0 (next_global (outside_of S) t) else w)
-          ≡ (if c then set w 0 (if c then record { globals = next_global (outside_of S) t; entries = S.entries } else S).globals else w)
+      go : (c : Bool) → (when c then set w 0 (next_global (outside_of S) t) else w)
+          ≡ (when c then set w 0 (when c then record { globals = next_global (outside_of S) t; entries = S.entries } else S).globals else w)
       go true = refl
       go false = refl
 
   -- and of one that is accepted, before and after its names on show are counted
   laid_is : o.number ≡ 0 → words_after S t ms lent w ≡ words_with whole w (entered S s ns lent).globals e
   laid_is z =
-      ap (λ (a : Bool). if a then words_with whole w o.globals e else if walked then set w 0 (next_global (outside_of S) t) else w) (eq-eqb o.number 0 z)
+      ap (λ (a : Bool). when a then words_with whole w o.globals e else when walked then set w 0 (next_global (outside_of S) t) else w) (eq-eqb o.number 0 z)
       ∙ ap (λ (x : Outcome). words_with whole w x.globals e) (sym (entered_is w n s ns lent fit none))
 
   words_yes : o.number ≡ 0 → showing Z (words_after S t ms lent w) ≡ enter_words whole w n s ns lent
   words_yes z =
       let taken : eqb o.number 0 ≡ true = eq-eqb o.number 0 z in
-      ap (λ (a : Bool). showing Z (if a then words_with whole w o.globals e else if walked then set w 0 (next_global (outside_of S) t) else w)) taken
-      ∙ sym (enter_is ∙ ap (λ (a : Bool). if a then showing Z (words_with whole w o.globals e) else if walked then set w 0 (after_count (eqb o.number 0)) else w) taken)
+      ap (λ (a : Bool). showing Z (when a then words_with whole w o.globals e else when walked then set w 0 (next_global (outside_of S) t) else w)) taken
+      ∙ sym (enter_is ∙ ap (λ (a : Bool). when a then showing Z (words_with whole w o.globals e) else when walked then set w 0 (after_count (eqb o.number 0)) else w) taken)
 
   -- the first hold the session after it
   laid_runs : {w₁ : List ℕ} → w₁ ≡ words_after S t ms lent w → o.number ≡ 0 → Runs whole w₁ (enter_bytes whole w n s ns lent) (after_entry S s ns lent)

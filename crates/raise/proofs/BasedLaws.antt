@@ -8,7 +8,7 @@ use native.Mathlib.Omega.{arith}
 use lib.Dec.{eqb, leb, T}
 use lib.ListN.{length, drop, replicate, length-append, length-map}
 use lib.Seq.{drop_at}
-use Rattle.definition.specs.Basics.{if◌then◌else◌, all, filter, concat_map, from, ◌∈?◌}
+use Rattle.definition.specs.Basics.{when◌then◌else◌, all, filter, concat_map, from, ◌∈?◌}
 use Rattle.definition.specs.Sheet.{Sheet, file, line, column, a, rows, is}
 use Rattle.definition.specs.Outside.{Outside, OutsideFits, based}
 use Rattle.definition.specs.Scope.{Moment, history, visits}
@@ -44,9 +44,9 @@ answered_raised : (n lent : ℕ) (out : List (List ℕ)) (g : ℕ) → answered 
 answered_raised n lent out g = ap (λ (k : ℕ). choice (leb (8 * k) lent)) (raised_count n out) ∙ go (leb (8 * length out) lent)
   where
     choice : Bool → Outcome
-    choice t = if t then record { number = 0; file = 0; line = 0; column = 0; name = 0; rows = raised n out; globals = g } else refused 22
+    choice t = when t then record { number = 0; file = 0; line = 0; column = 0; name = 0; rows = raised n out; globals = g } else refused 22
 
-    go : (t : Bool) → choice t ≡ raised_outcome n (if t then record { number = 0; file = 0; line = 0; column = 0; name = 0; rows = out; globals = g } else refused 22)
+    go : (t : Bool) → choice t ≡ raised_outcome n (when t then record { number = 0; file = 0; line = 0; column = 0; name = 0; rows = out; globals = g } else refused 22)
     go true = refl
     go false = ap (bare 22 0 0 0 0) (raised_empty n)
 
@@ -63,8 +63,8 @@ module _ (O : Outside) (n : ℕ) (s : Sheet) where
   same_climb : (parent : ℕ → ℕ) (k : ℕ) (met : List ℕ) (c : ℕ) → ask_climb (based O n) s parent k met c ≡ ask_climb O s parent k met c
   same_climb parent zero met c = refl
   same_climb parent (suc k) met c =
-      ap (λ (up : Refusal). if not (of_sheet s c) then none else if c ∈? met then ask 18 (c - 256) (a s (c - 256)) false
-      else if lacks_record O s (parent c) then ask 19 (c - 256) (a s (c - 256)) false else up) (same_climb parent k (c ∷ met) (parent c))
+      ap (λ (up : Refusal). when not (of_sheet s c) then none else when c ∈? met then ask 18 (c - 256) (a s (c - 256)) false
+      else when lacks_record O s (parent c) then ask 19 (c - 256) (a s (c - 256)) false else up) (same_climb parent k (c ∷ met) (parent c))
 
   same_refusal : (h : List Moment) → refusal (based O n) s h ≡ refusal O s h
   same_refusal h =
@@ -87,12 +87,12 @@ module _ (O : Outside) (n : ℕ) (s : Sheet) where
 
 -- what is answered, unless a question before got a no
 abbrev settled : Sheet → Refusal → Outcome → Outcome
-settled s x o = if eqb x.number 0 then o else refused_at x.number s x.at x.name
+settled s x o = when eqb x.number 0 then o else refused_at x.number s x.at x.name
 
 settled_raised : (n : ℕ) (s : Sheet) (x : Refusal) (o p : Outcome) → p ≡ raised_outcome n o → settled s x p ≡ raised_outcome n (settled s x o)
 settled_raised n s x o p e = go (eqb x.number 0)
   where
-    go : (t : Bool) → (if t then p else refused_at x.number s x.at x.name) ≡ raised_outcome n (if t then o else refused_at x.number s x.at x.name)
+    go : (t : Bool) → (when t then p else refused_at x.number s x.at x.name) ≡ raised_outcome n (when t then o else refused_at x.number s x.at x.name)
     go true = e
     go false = ap (bare x.number (file s x.at) (line s x.at) (min 16383 (column s x.at)) x.name) (raised_empty n)
 
@@ -122,8 +122,8 @@ asked_rows O lent s = go (eqb x.number 0) (leb (8 * length out) lent)
 
     chosen : Bool → Bool → Outcome
     chosen t u =
-        if t
-        then (if u then record { number = 0; file = 0; line = 0; column = 0; name = 0; rows = out; globals = final_globals s (history O s) } else refused 22)
+        when t
+        then (when u then record { number = 0; file = 0; line = 0; column = 0; name = 0; rows = out; globals = final_globals s (history O s) } else refused 22)
         else refused_at x.number s x.at x.name
 
     go : (t u : Bool) → (((chosen t u).number ≡ 0) × ((chosen t u).rows ≡ out)) ⊎ ((chosen t u).rows ≡ [])

@@ -5,7 +5,7 @@ use Prim.Native.Nat.{ℕ, ◌+◌, ◌-◌, ◌<◌, ◌≤◌}
 use native.Mathlib.Omega.{arith}
 use lib.Dec.{ltb}
 use borrow.Author.Tests.{lt-ltb, ltb-true, le-ltb}
-use Rattle.definition.specs.Basics.{if◌then◌else◌}
+use Rattle.definition.specs.Basics.{when◌then◌else◌}
 use Rattle.definition.specs.Answer.{raised_function, raised_class}
 
 pub own_function : (n f : ℕ) → f < 2048 → f + n ≡ raised_function n f
@@ -18,7 +18,7 @@ earlier_function n f h = rw (le-ltb f 2048 h)
 pub function_small : (n f : ℕ) → n ≤ 2048000 → f ≤ 4294967039 → raised_function n f ≤ 4294967039
 function_small n f h g = by (ltb f 2048) (λ e. ltb-true f 2048 e)
   where
-    by : (t : Bool) → (t ≡ true → f < 2048) → (if t then f + n else f - 2048) ≤ 4294967039
+    by : (t : Bool) → (t ≡ true → f < 2048) → (when t then f + n else f - 2048) ≤ 4294967039
     by true l = omega (arith, l refl)
     by false l = omega arith
 

@@ -9,7 +9,7 @@ use native.Mathlib.Omega.{arith}
 use lib.ListN.{length, take, get_or-eq_default}
 use lib.Dec.{eqb, leb, ltb, T, eqb→eq, leb→le}
 use borrow.Author.Tests.{lt-ltb, ltb-true, ltb-false}
-use Rattle.definition.specs.Basics.{if◌then◌else◌, filter, final, all, concat_map, from, bit, head, place}
+use Rattle.definition.specs.Basics.{when◌then◌else◌, filter, final, all, concat_map, from, bit, head, place}
 use Rattle.definition.specs.Sheet.{Sheet, kind, child, a, b, rows, is, kids_of}
 use Rattle.definition.specs.Outside.{Outside, OutsideFits, Method}
 use Rattle.definition.specs.Meaning.{Meaning, nothing, function, class, global, toplevel, variable, is_variable, is_class, owner_of, row_of}
@@ -39,7 +39,7 @@ module _ {A B : Type 0} {P : B → Type 0} where
   every_concat f (x ∷ xs) h = every_append (h x (here refl)) (every_concat f xs (λ y m. h y (there m)))
 
 module _ {A : Type 0} where
-  every_if : {P : A → Type 0} (t : Bool) {xs ys : List A} → Every P xs → Every P ys → Every P (if t then xs else ys)
+  every_if : {P : A → Type 0} (t : Bool) {xs ys : List A} → Every P xs → Every P ys → Every P (when t then xs else ys)
   every_if true p q = p
   every_if false p q = q
 
@@ -80,7 +80,7 @@ unfolding owner_fits
 numbered_fits r i [] = every_none
 numbered_fits r i (n ∷ ns) = every_one tt (numbered_fits r (suc i) ns)
 
-truth_fits : (r : ℕ) (t : Bool) → Fit r ((if t then 7 else 8) ∷ [])
+truth_fits : (r : ℕ) (t : Bool) → Fit r ((when t then 7 else 8) ∷ [])
 unfolding owner_fits
 truth_fits r true = tt
 truth_fits r false = tt
@@ -118,7 +118,7 @@ module _ (s : Sheet) (whole : T (rows_fit s)) where
   inside_below [] = omega arith
   inside_below (scope r ∷ st) = go (is s 6 r) (kind_below r) (inside_below st)
     where
-      go : (t : Bool) → (T t → r < 2048) → inside s st < 2048 → head (if t then r ∷ around s st else around s st) < 2048
+      go : (t : Bool) → (T t → r < 2048) → inside s st < 2048 → head (when t then r ∷ around s st else around s st) < 2048
       go true h up = h tt
       go false h up = up
   inside_below (looping ∷ st) = inside_below st
@@ -137,7 +137,7 @@ module _ (s : Sheet) (whole : T (rows_fit s)) where
     code_fits r (toplevel x) k o = tt
     code_fits r (variable x f) k o = go (is s 11 x)
       where
-        go : (t : Bool) → Fit r (if t then 4 ∷ place (eqb x) (kids_of s 11 f) ∷ f ∷ [] else 5 ∷ k ∷ f ∷ bit (eqb (b s x) 1) ∷ [])
+        go : (t : Bool) → Fit r (when t then 4 ∷ place (eqb x) (kids_of s 11 f) ∷ f ∷ [] else 5 ∷ k ∷ f ∷ bit (eqb (b s x) 1) ∷ [])
         go true = below f (o tt)
         go false = below f (o tt)
 
@@ -145,7 +145,7 @@ module _ (s : Sheet) (whole : T (rows_fit s)) where
     unfolding owner_fits
     seen_fits r f u o = go (is_variable u.means && not (eqb (owner_of u.means) f))
       where
-        go : (t : Bool) → Fit r (if t then 6 ∷ place (same u) (captures s h f) ∷ 0 ∷ bit (is_mutable s u.means) ∷ [] else code s h u.means u.slot)
+        go : (t : Bool) → Fit r (when t then 6 ∷ place (same u) (captures s h f) ∷ 0 ∷ bit (is_mutable s u.means) ∷ [] else code s h u.means u.slot)
         go true = tt
         go false = code_fits r u.means u.slot o
 

@@ -9,7 +9,7 @@ use lib.Seq.{take_at, take_all, take-append-add, drop_at, drop-drop, length-take
 use lib.Dec.{leb}
 use borrow.Rule.Slice.PartMut.{mid_of, put_mid}
 use borrow.Author.Tests.{le-leb, lt-leb}
-use Rattle.definition.specs.Basics.{if◌then◌else◌, concat_map, from}
+use Rattle.definition.specs.Basics.{when◌then◌else◌, concat_map, from}
 use Rattle.definition.specs.Sheet.{rows}
 use Rattle.definition.specs.Text.{text_of}
 use Rattle.definition.specs.Outcome.{Outcome, report, buffer}
@@ -161,18 +161,18 @@ module _ (lent : ℕ) (told before : List ℕ) where
   pub reply_there : lent ≤ 2048 → 165969 ≤ room → reply lent room told ≡ told
   unfolding reply
   reply_there l m =
-      ap (λ (b : Bool). if b && leb 165969 room then told else []) (le-leb lent 2048 l)
-      ∙ ap (λ (b : Bool). if b then told else []) (le-leb 165969 room m)
+      ap (λ (b : Bool). when b && leb 165969 room then told else []) (le-leb lent 2048 l)
+      ∙ ap (λ (b : Bool). when b then told else []) (le-leb 165969 room m)
 
   pub reply_many : 2048 < lent → reply lent room told ≡ []
   unfolding reply
-  reply_many l = ap (λ (b : Bool). if b && leb 165969 room then told else []) (lt-leb lent 2048 l)
+  reply_many l = ap (λ (b : Bool). when b && leb 165969 room then told else []) (lt-leb lent 2048 l)
 
   pub reply_short : room < 165969 → reply lent room told ≡ []
   unfolding reply
-  reply_short l = ap (λ (b : Bool). if leb lent 2048 && b then told else []) (lt-leb 165969 room l) ∙ never (leb lent 2048)
+  reply_short l = ap (λ (b : Bool). when leb lent 2048 && b then told else []) (lt-leb 165969 room l) ∙ never (leb lent 2048)
     where
-      never : (b : Bool) → (if b && false then told else []) ≡ []
+      never : (b : Bool) → (when b && false then told else []) ≡ []
       never true = refl
       never false = refl
 

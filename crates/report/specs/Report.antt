@@ -1,6 +1,6 @@
 -- The first line of a report, words in lent ones, and a report as text.
 use Rattle.std.specs.Prelude.{◌≡◌, ◌&&◌, List, [], ◌∷◌, ◌++◌, ℕ, ◌+◌, ◌*◌, min, length, take, drop, replicate, leb}
-use Rattle.definition.specs.Basics.{if◌then◌else◌}
+use Rattle.definition.specs.Basics.{when◌then◌else◌}
 use Rattle.definition.specs.Text.{text_of}
 use Rattle.definition.specs.Outcome.{Outcome}
 use Rattle.lexer.specs.SrcPos.{file_of, line_of, column_of}
@@ -29,7 +29,7 @@ pub record Begins (told before : List ℕ) (n : ℕ) (after : List ℕ) : Type 0
 
 -- the reply into `room` bytes: the report `told`, or nothing where over 2,048 rows are lent or the longest report does not fit
 unfoldable pub reply : ℕ → ℕ → List ℕ → List ℕ
-reply lent room told = if leb lent 2048 && leb 165969 room then told else []
+reply lent room told = when leb lent 2048 && leb 165969 room then told else []
 
 -- the line and the rows of an answer x whose rows stand in the words w from the ninth on, as text
 abbrev pub answer_text : Answer → List ℕ → List ℕ

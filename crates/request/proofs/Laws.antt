@@ -8,7 +8,7 @@ use lib.ListN.{length, get_or, take, replicate}
 use lib.Dec.{eqb, leb}
 use lib.Seq.{take_all}
 use borrow.Author.Tests.{eq-eqb, ne_eqb, lt-ltb, le-ltb, le-leb, lt-leb}
-use Rattle.definition.specs.Basics.{if◌then◌else◌, from, concat_map}
+use Rattle.definition.specs.Basics.{when◌then◌else◌, from, concat_map}
 use Rattle.definition.specs.Text.{is_sheet_text, lines, column_text, value, sheet_of}
 use Rattle.text.specs.Reading.{SheetRead, is_readable, lines_read, words_read}
 use Rattle.text.proofs.Laws.{sheet_words}
@@ -150,17 +150,17 @@ unfolding told
 all_told why w = refl
 
 -- A header is read as one row exactly if it is one.
-one_row_lem : (t : Bool) (k : ℕ) → leb 1 (if t && leb k 2048 && leb (8 * k) 8 then k else 0) ≡ (t && eqb k 1)
+one_row_lem : (t : Bool) (k : ℕ) → leb 1 (when t && leb k 2048 && leb (8 * k) 8 then k else 0) ≡ (t && eqb k 1)
 one_row_lem false k = refl
 one_row_lem true zero = refl
 one_row_lem true (suc zero) = refl
 one_row_lem true (suc (suc k)) = more (suc (suc k)) (omega arith)
   where
-    none : (a b : Bool) (m : ℕ) → b ≡ false → leb 1 (if true && a && b then m else 0) ≡ false
+    none : (a b : Bool) (m : ℕ) → b ≡ false → leb 1 (when true && a && b then m else 0) ≡ false
     none true b m e = rw (e)
     none false b m e = refl
 
-    more : (m : ℕ) → 1 < m → leb 1 (if true && leb m 2048 && leb (8 * m) 8 then m else 0) ≡ (true && eqb m 1)
+    more : (m : ℕ) → 1 < m → leb 1 (when true && leb m 2048 && leb (8 * m) 8 then m else 0) ≡ (true && eqb m 1)
     more m l = none (leb m 2048) (leb (8 * m) 8) m (lt-leb (8 * m) 8 (omega arith)) ∙ sym (ne_eqb m 1 (λ e. omega arith))
 
 module _ (h w : List ℕ) (n : ℕ) (read : SheetRead h 8 n w) where
@@ -173,12 +173,12 @@ module _ (h w : List ℕ) (n : ℕ) (read : SheetRead h 8 n w) where
   unfolding lines_read words_read
   no_words z = read.words ∙ go (is_readable h 8) (sym read.count ∙ z)
     where
-      empty : (t : Bool) (k : ℕ) → k ≡ 0 → (if t then concat_map (λ r. map (λ c. value (column_text h r c)) (from 0 8)) (from 0 k) else []) ++ replicate (8 - 8 * k) 0 ≡ replicate 8 0
+      empty : (t : Bool) (k : ℕ) → k ≡ 0 → (when t then concat_map (λ r. map (λ c. value (column_text h r c)) (from 0 8)) (from 0 k) else []) ++ replicate (8 - 8 * k) 0 ≡ replicate 8 0
       empty true zero e = refl
       empty true (suc k) e = absurd (omega arith)
       empty false k e = rw (e)
 
-      go : (b : Bool) → (if b then lines h else 0) ≡ 0 → (if b then sheet_of h ++ replicate (8 - 8 * lines h) 0 else replicate 8 0) ≡ replicate 8 0
+      go : (b : Bool) → (when b then lines h else 0) ≡ 0 → (when b then sheet_of h ++ replicate (8 - 8 * lines h) 0 else replicate 8 0) ≡ replicate 8 0
       go true e = empty (is_sheet_text h) (lines h) e
       go false e = refl
 
@@ -198,4 +198,4 @@ module _ (h w : List ℕ) (n : ℕ) (read : SheetRead h 8 n w) where
   row_told m b x l z em eb ex =
       ex ∙ ap (λ (k : ℕ). told k w) (eb ∙ ap (λ (k : List ℕ). broken_by k w) em)
       ∙ ap (λ (v : List ℕ). told (broken_by (largest (get_or v 0 0)) v) v) (numbers l z)
-      ∙ sym (ap (λ (t : Bool). if t then told (broken_by (largest (get_or (sheet_of h) 0 0)) (sheet_of h)) (sheet_of h) else told 1 []) (is_row_lem ∙ le-leb 1 n (omega arith)))
+      ∙ sym (ap (λ (t : Bool). when t then told (broken_by (largest (get_or (sheet_of h) 0 0)) (sheet_of h)) (sheet_of h) else told 1 []) (is_row_lem ∙ le-leb 1 n (omega arith)))

@@ -1,6 +1,6 @@
 -- The header of a request: verb, sheet bytes, name bytes, flags, x, y, second sheet bytes, second name bytes.
 use Rattle.std.specs.Prelude.{Bool, ◌&&◌, ◌||◌, List, [], ◌∷◌, ℕ, get_or, replicate, eqb, ltb}
-use Rattle.definition.specs.Basics.{if◌then◌else◌, first}
+use Rattle.definition.specs.Basics.{when◌then◌else◌, first}
 use Rattle.definition.specs.Text.{is_sheet_text, lines, sheet_of}
 use Rattle.request.specs.declared.Request.{Request}
 
@@ -29,11 +29,11 @@ over m w c = ltb (get_or m c 0) (get_or w c 0)
 -- what breaks a row w whose numbers may be those of m: 2 the verb, 3 a flag, 4 x, 5 y, 6 a body, 0 nothing
 unfoldable pub broken_by : List ℕ → List ℕ → ℕ
 broken_by m w =
-    if eqb (get_or w 0 0) 0 || over m w 0 then 2
-    else if over m w 3 then 3
-    else if over m w 4 then 4
-    else if over m w 5 then 5
-    else if over m w 1 || over m w 2 || over m w 6 || over m w 7 then 6
+    when eqb (get_or w 0 0) 0 || over m w 0 then 2
+    else when over m w 3 then 3
+    else when over m w 4 then 4
+    else when over m w 5 then 5
+    else when over m w 1 || over m w 2 || over m w 6 || over m w 7 then 6
     else 0
 
 -- a request with what breaks it and its numbers
@@ -57,5 +57,5 @@ is_row h = is_sheet_text h && eqb (lines h) 1
 -- the request of a header; 1 breaks one that is no row, and its numbers are 0
 unfoldable pub request_of : List ℕ → Request
 request_of h =
-    if is_row h then told (broken_by (largest (get_or (sheet_of h) 0 0)) (sheet_of h)) (sheet_of h)
+    when is_row h then told (broken_by (largest (get_or (sheet_of h) 0 0)) (sheet_of h)) (sheet_of h)
     else told 1 []

@@ -1,7 +1,7 @@
 // The resolvers of statements, expressions and functions: a cycle of calls over the rows of a sheet. `left` bounds the depth of the
 // walk, and falls by one with each row that is gone into.
 ghost use Rattle.std.specs.Prelude.{◌≡◌, true, suc, ◌≤◌, ◌<◌};
-ghost use Rattle.definition.specs.Basics.{if◌then◌else◌};
+ghost use Rattle.definition.specs.Basics.{when◌then◌else◌};
 ghost use Rattle.definition.specs.Sheet.{kind};
 ghost use Rattle.definition.specs.Walk.{is_part};
 ghost use Rattle.outside.specs.Words.{over};
@@ -28,7 +28,7 @@ pub struct Part {
 // The place of the next part after row `k`, which is part `i` if it is one.
 fn place_after(sheet: &[u32], k: u32, i: usize) -> usize
     requires { i ≤ 16384 }
-    ensures { result ≡ (if is_part sheet.now k then suc i else i) }
+    ensures { result ≡ (when is_part sheet.now k then suc i else i) }
 {
     if is_part(sheet, k) { i + 1 } else { i }
 }

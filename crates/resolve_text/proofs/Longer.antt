@@ -4,7 +4,7 @@ use mathlib.Core.Bool.{Bool, false, not}
 use mathlib.Core.List.{List}
 use Prim.Native.Nat.{ℕ, ◌*◌}
 use lib.ListN.{length, take}
-use Rattle.definition.specs.Basics.{if◌then◌else◌}
+use Rattle.definition.specs.Basics.{when◌then◌else◌}
 use Rattle.definition.specs.Sheet.{Sheet}
 use Rattle.definition.specs.Names.{names_fit}
 use Rattle.definition.specs.Text.{sheet_of, text_of}
@@ -16,16 +16,16 @@ use Rattle.resolve_text.specs.Report.{printed_with, RepliedOfTexts, PrintedOfFil
 use Rattle.resolve_text.proofs.ReportLaws.{outcome_none, printed_of_lem}
 
 -- names that question 2 refuses
-second : (t : Bool) (x y z : Outcome) (b : Bool) → b ≡ false → (if not t then x else if not b then y else z) ≡ (if not t then x else y)
-second t x y z b e = ap (λ (c : Bool). if not t then x else if not c then y else z) e
+second : (t : Bool) (x y z : Outcome) (b : Bool) → b ≡ false → (when not t then x else when not b then y else z) ≡ (when not t then x else y)
+second t x y z b e = ap (λ (c : Bool). when not t then x else when not c then y else z) e
 
-names_none : (lent : ℕ) (s : Sheet) (ns : List ℕ) → names_fit ns ≡ false → outcome s ns lent ≡ (if not (rows_fit s) then refused 1 else refused 2)
+names_none : (lent : ℕ) (s : Sheet) (ns : List ℕ) → names_fit ns ≡ false → outcome s ns lent ≡ (when not (rows_fit s) then refused 1 else refused 2)
 names_none lent s ns e = second (rows_fit s) (refused 1) (refused 2) _ (names_fit ns) e
 
 -- one sheet and different names
 names_cut : (lent : ℕ) (s ns : List ℕ) → outcome s (take 32769 ns) lent ≡ outcome s ns lent
 names_cut lent s ns =
-    same_names_cut (λ t. outcome s t lent) (if not (rows_fit s) then refused 1 else refused 2) (λ t e. names_none lent s t e) ns
+    same_names_cut (λ t. outcome s t lent) (when not (rows_fit s) then refused 1 else refused 2) (λ t e. names_none lent s t e) ns
 
 -- A program that reads 165,889 bytes of a sheet's text and 32,769 of its names prints what belongs to the whole texts.
 pub printed_cut : (lent : ℕ) (s ns : List ℕ) → printed_with lent (take 165889 s) (take 32769 ns) ≡ printed_with lent s ns

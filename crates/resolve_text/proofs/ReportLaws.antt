@@ -7,7 +7,7 @@ use native.Mathlib.Omega.{arith}
 use lib.ListN.{length, take, drop, length-drop}
 use lib.Seq.{length-take-le}
 use borrow.Rule.Slice.PartMut.{put_mid}
-use Rattle.definition.specs.Basics.{if◌then◌else◌}
+use Rattle.definition.specs.Basics.{when◌then◌else◌}
 use Rattle.definition.specs.Sheet.{Sheet}
 use Rattle.definition.specs.Text.{sheet_of}
 use Rattle.definition.specs.Outcome.{Outcome, rows_fit, refused, outcome, buffer, printed}
@@ -22,8 +22,8 @@ use Rattle.resolver.specs.Answered.{Answered}
 use Rattle.resolve_text.specs.Report.{printed_with, Printed}
 
 -- a sheet that question 1 refuses
-unless : (x y : Outcome) (t : Bool) → t ≡ false → (if not t then x else y) ≡ x
-unless x y t e = ap (λ (b : Bool). if not b then x else y) e
+unless : (x y : Outcome) (t : Bool) → t ≡ false → (when not t then x else y) ≡ x
+unless x y t e = ap (λ (b : Bool). when not b then x else y) e
 
 pub outcome_none : (lent : ℕ) (s : Sheet) (ns : List ℕ) → rows_fit s ≡ false → outcome s ns lent ≡ refused 1
 outcome_none lent s ns e = unless (refused 1) _ (rows_fit s) e

@@ -2,7 +2,7 @@
 #![tactic(auto)]
 
 ghost use Rattle.std.specs.Prelude.{◌≡◌, true, List, ℕ, ◌≤◌, ◌<◌, length};
-ghost use Rattle.definition.specs.Basics.{if◌then◌else◌};
+ghost use Rattle.definition.specs.Basics.{when◌then◌else◌};
 ghost use Rattle.definition.specs.Sheet.{kind, child, a, is};
 ghost use Rattle.definition.specs.Walk.{before, after, after_part, is_part};
 ghost use Rattle.definition.specs.Outside.{Outside};
@@ -231,7 +231,7 @@ pub fn is_part(sheet: &[u32], k: u32) -> bool
 
 // The first row of the list in which the parts of `row` stand: a class declaration's are the methods of its class.
 pub fn part_list(sheet: &[u32], row: u32) -> u32
-    ensures { result ≡ child sheet.now (if is sheet.now 30 row then a sheet.now row else row) }
+    ensures { result ≡ child sheet.now (when is sheet.now 30 row then a sheet.now row else row) }
 {
     if word(sheet, row, column::KIND) == kind::CLASS_DECLARATION {
         return word(sheet, word(sheet, row, column::A), column::CHILD);

@@ -1,7 +1,7 @@
 -- The program's own pass over the rows of a sheet, as functions on its words and on a table of eight words for each row.
 -- The contracts of the routines below the entry cite it; that of the entry cites the definition alone.
 use Rattle.std.specs.Prelude.{List, Bool, true, not, ◌&&◌, ◌||◌, ℕ, zero, suc, ◌+◌, ◌*◌, min, set, eqb, leb, ltb}
-use Rattle.definition.specs.Basics.{if◌then◌else◌}
+use Rattle.definition.specs.Basics.{when◌then◌else◌}
 use Rattle.definition.specs.Sheet.{Sheet, word, kind, next, child, file, a, b}
 use Rattle.definition.specs.Shape.{holds}
 use Rattle.row_fits.specs.declared.row.Row.{Row}
@@ -28,8 +28,8 @@ plain_ok s w = ltb w.file 262144 && (not (eqb w.kind 29) || (ltb w.b 2 || not (e
 -- is a function marked as a unit's exactly where it is one, with a block alone; has a method a name? p is its parent
 unfoldable pub function_ok : Sheet → Row → ℕ → Bool
 function_ok s w p =
-    if not (eqb w.kind 6) then true
-    else if eqb (kind s p) 2 then eqb w.b 1 && (eqb (kind s w.child) 25 && eqb (next s w.child) 0)
+    when not (eqb w.kind 6) then true
+    else when eqb (kind s p) 2 then eqb w.b 1 && (eqb (kind s w.child) 25 && eqb (next s w.child) 0)
     else eqb w.b 0 && (not (eqb (kind s p) 4) || not (eqb w.a 0))
 
 -- the state of a child list after a child of kind k, in state q
@@ -64,15 +64,15 @@ put_entry t r e =
 
 -- the unit of a row r of kind k itself, whose entry e has that of its parent
 abbrev pub unit_here : ℕ → ℕ → Entry → ℕ
-unit_here r k e = if eqb k 2 then r else e.unit
+unit_here r k e = when eqb k 2 then r else e.unit
 
 -- the innermost function around what row r holds
 abbrev pub fun_inside : ℕ → ℕ → Entry → ℕ
-fun_inside r k e = if eqb k 6 then r else e.fun
+fun_inside r k e = when eqb k 6 then r else e.fun
 
 -- the class whose method row r is or lies in, whose entry e has that of its parent
 abbrev pub class_here : Sheet → ℕ → Entry → ℕ
-class_here s k e = if eqb k 6 && eqb (kind s e.parent) 4 then e.parent else e.class
+class_here s k e = when eqb k 6 && eqb (kind s e.parent) 4 then e.parent else e.class
 
 -- the entry of the next row of the list: that of the row before it, of kind k and with entry e, but for the state
 abbrev pub next_entry : ℕ → Entry → Entry
@@ -92,11 +92,11 @@ child_entry s r k e =
 
 -- the table with the entry of the next row n after a row of kind k and with entry e
 unfoldable pub note_next : ℕ → ℕ → Entry → List ℕ → List ℕ
-note_next n k e t = if eqb n 0 then t else put_entry t n (next_entry k e)
+note_next n k e t = when eqb n 0 then t else put_entry t n (next_entry k e)
 
 -- the table with the entry of the first child of row r, with words w and entry e
 unfoldable pub note_child : Sheet → ℕ → Row → Entry → List ℕ → List ℕ
-note_child s r w e t = if eqb w.child 0 then t else put_entry t w.child (child_entry s r w.kind e)
+note_child s r w e t = when eqb w.child 0 then t else put_entry t w.child (child_entry s r w.kind e)
 
 -- the table with the own unit and class of a row
 unfoldable pub note_own : Sheet → ℕ → ℕ → Entry → List ℕ → List ℕ
@@ -104,7 +104,7 @@ note_own s r k e t = set (set t (8 * r + 2) (unit_here r k e)) (8 * r + 4) (clas
 
 -- the table with the class that a row declares
 unfoldable pub note_declared : ℕ → Row → List ℕ → List ℕ
-note_declared r w t = if eqb w.kind 30 then set t (8 * w.a + 7) r else t
+note_declared r w t = when eqb w.kind 30 then set t (8 * w.a + 7) r else t
 
 -- the table after row r with words w and entry e
 unfoldable pub note_all : Sheet → ℕ → Row → Entry → List ℕ → List ℕ

@@ -9,7 +9,7 @@ use lib.ListN.{length, get_or, set}
 use lib.Seq.{get_or-set_other}
 use lib.Dec.{eqb, leb, leb→le}
 use borrow.Author.Tests.{ne_eqb}
-use Rattle.definition.specs.Basics.{if◌then◌else◌}
+use Rattle.definition.specs.Basics.{when◌then◌else◌}
 use Rattle.definition.specs.Sheet.{Sheet}
 use Rattle.definition.specs.Outcome.{Outcome}
 use Rattle.definition.proofs.Lists.Tests.{T_true, and_left, and_right}
@@ -25,7 +25,7 @@ use Rattle.session.proofs.GlobalKept.{global_held, global_fits}
 
 -- after a refusal, by whether it is of questions 5 to 21; g is the walk's next global
 refused_by_lem : (R : Room) (w n : List ℕ) → session_fits R w n ≡ true → (u : Bool) (g : ℕ) (v : List ℕ) (after : Session)
-    → v ≡ (if u then set w 0 after.globals else w) → after ≡ (if u then record { globals = g; entries = (session_in R w n).entries } else session_in R w n)
+    → v ≡ (when u then set w 0 after.globals else w) → after ≡ (when u then record { globals = g; entries = (session_in R w n).entries } else session_in R w n)
     → (u ≡ true → (get_or w 0 0 ≤ g) × (g ≤ 1002048)) → Holds R v n after
 refused_by_lem R w n fit false g v after p q b = record { fits = ap (λ (x : List ℕ). session_fits R x n) p ∙ fit; held = ap (λ (x : List ℕ). session_in R x n) p ∙ sym q }
 refused_by_lem R w n fit true g v after p q b =
@@ -56,22 +56,22 @@ module _ (R : Room) (few : R.laid ≤ 4096) (many : R.members ≤ 8192) (w n : L
   -- what is left of words, bytes and session after an outcome x, with an accepted entry e; g is the walk's next global, Z the session after
   abbrev pub words_at : Accepted → Session → Outcome → List ℕ
   words_at e Z x =
-      if eqb x.number 0 then showing Z (words_with R w x.globals e)
-      else if leb 5 x.number && leb x.number 21 then set w 0 Z.globals
+      when eqb x.number 0 then showing Z (words_with R w x.globals e)
+      else when leb 5 x.number && leb x.number 21 then set w 0 Z.globals
       else w
 
   abbrev pub bytes_at : Accepted → Outcome → List ℕ
-  bytes_at e x = if eqb x.number 0 then bytes_with w n e else n
+  bytes_at e x = when eqb x.number 0 then bytes_with w n e else n
 
   abbrev pub session_at : Accepted → ℕ → Outcome → Session
   session_at e g x =
-      if eqb x.number 0 then record { globals = x.globals; entries = S.entries ++ e ∷ [] }
-      else if leb 5 x.number && leb x.number 21 then record { globals = g; entries = S.entries }
+      when eqb x.number 0 then record { globals = x.globals; entries = S.entries ++ e ∷ [] }
+      else when leb 5 x.number && leb x.number 21 then record { globals = g; entries = S.entries }
       else S
 
   not_accepted : (e : Accepted) (g : ℕ) (Z : Session) (x : Outcome) → eqb x.number 0 ≡ false
-      → (words_at e Z x ≡ (if leb 5 x.number && leb x.number 21 then set w 0 Z.globals else w)) × (bytes_at e x ≡ n)
-      × (session_at e g x ≡ (if leb 5 x.number && leb x.number 21 then record { globals = g; entries = S.entries } else S))
+      → (words_at e Z x ≡ (when leb 5 x.number && leb x.number 21 then set w 0 Z.globals else w)) × (bytes_at e x ≡ n)
+      × (session_at e g x ≡ (when leb 5 x.number && leb x.number 21 then record { globals = g; entries = S.entries } else S))
   not_accepted e g Z x q = (rw q, rw q, rw q)
 
   pub next_bounds : leb 5 (entered S s ns lent).number && leb (entered S s ns lent).number 21 ≡ true

@@ -8,7 +8,7 @@ use native.Mathlib.Omega.{arith}
 use lib.ListN.{length}
 use lib.Dec.{eqb, leb, T, eqb→eq, leb→le}
 use borrow.Author.Tests.{eqb-true, eqb-false}
-use Rattle.definition.specs.Basics.{if◌then◌else◌}
+use Rattle.definition.specs.Basics.{when◌then◌else◌}
 use Rattle.definition.specs.Kind.{IMPORT}
 use Rattle.definition.specs.Names.{names_fit, name_count}
 use Rattle.definition.specs.Sheet.{Sheet, child, a, rows, kids, kids_of}
@@ -46,17 +46,17 @@ pub record Asked (S : Session) (s : Sheet) (ns : List ℕ) (t : Sheet) : Type 0 
   pub above : S.globals ≤ a t 0
 
 -- a question that did not refuse
-pub past : (t : Bool) (q : ℕ) (y : Outcome) → ((if not t then refused q else y).number ≡ q → ⊥) → (t ≡ true) × ((if not t then refused q else y) ≡ y)
+pub past : (t : Bool) (q : ℕ) (y : Outcome) → ((when not t then refused q else y).number ≡ q → ⊥) → (t ≡ true) × ((when not t then refused q else y) ≡ y)
 past true q y z = (refl, refl)
 past false q y z = absurd (z refl)
 
 -- an entry that neither questions 5 to 22 nor question 24 refuse has the outcome x of the former
-pub past_asked : (to : ℕ → ℕ) (x : Outcome) (t : Bool) → (if not (eqb x.number 0) then renamed to x else if t then x else refused 24).number ≡ 0
-    → (x.number ≡ 0) × (t ≡ true) × ((if not (eqb x.number 0) then renamed to x else if t then x else refused 24) ≡ x)
+pub past_asked : (to : ℕ → ℕ) (x : Outcome) (t : Bool) → (when not (eqb x.number 0) then renamed to x else when t then x else refused 24).number ≡ 0
+    → (x.number ≡ 0) × (t ≡ true) × ((when not (eqb x.number 0) then renamed to x else when t then x else refused 24) ≡ x)
 past_asked to x t = go (eqb x.number 0) refl t
   where
-    go : (u : Bool) → eqb x.number 0 ≡ u → (t : Bool) → (if not u then renamed to x else if t then x else refused 24).number ≡ 0
-        → (x.number ≡ 0) × (t ≡ true) × ((if not u then renamed to x else if t then x else refused 24) ≡ x)
+    go : (u : Bool) → eqb x.number 0 ≡ u → (t : Bool) → (when not u then renamed to x else when t then x else refused 24).number ≡ 0
+        → (x.number ≡ 0) × (t ≡ true) × ((when not u then renamed to x else when t then x else refused 24) ≡ x)
     go true q true e = (eqb-true x.number 0 q, refl, refl)
     go true q false e = absurd (omega arith)
     go false q t e = absurd (eqb-false x.number 0 q e)
@@ -76,7 +76,7 @@ module _ (R : Room) (few : R.laid ≤ 4096) (many : R.members ≤ 8192) (w n : L
 
   -- the outcome of words past question 23 is that of the session
   pub outcome_in : enter_outcome R w n s ns lent ≡ entered S s ns lent
-  outcome_in = ap (λ (t : Bool). if not t then refused 23 else entered S s ns lent) fit
+  outcome_in = ap (λ (t : Bool). when not t then refused 23 else entered S s ns lent) fit
 
   pub asked_entry : Going (entered S s ns lent).number → Asked S s ns (entry_sheet S ns s) × (entered S s ns lent ≡ asked_in S s ns lent)
   asked_entry g = (
@@ -104,16 +104,16 @@ module _ (R : Room) (few : R.laid ≤ 4096) (many : R.members ≤ 8192) (w n : L
       t = entry_sheet S ns s
 
       y₅ : Outcome
-      y₅ = if not (entry_fits S s) then refused 23 else asked_in S s ns lent
+      y₅ = when not (entry_fits S s) then refused 23 else asked_in S s ns lent
 
       y₄ : Outcome
-      y₄ = if not (depths_fit s) then refused 4 else y₅
+      y₄ = when not (depths_fit s) then refused 4 else y₅
 
       y₃ : Outcome
-      y₃ = if not (sheet_fits (name_count ns) s) then refused 3 else y₄
+      y₃ = when not (sheet_fits (name_count ns) s) then refused 3 else y₄
 
       y₂ : Outcome
-      y₂ = if not (names_fit ns) then refused 2 else y₃
+      y₂ = when not (names_fit ns) then refused 2 else y₃
 
       number_of_lem : {x y : Outcome} → x ≡ y → x.number ≡ y.number
       number_of_lem e = ap (λ (o : Outcome). o.number) e

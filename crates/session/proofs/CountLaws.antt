@@ -9,7 +9,7 @@ use lib.ListN.{length, get_or, take, drop, length-append, length-map, length-dro
 use lib.Seq.{length-take-le}
 use lib.Dec.{eqb, leb, T, eqb→eq, leb→le}
 use borrow.Author.Tests.{eqb-true, eqb-false}
-use Rattle.definition.specs.Basics.{if◌then◌else◌, from, concat_map, total}
+use Rattle.definition.specs.Basics.{when◌then◌else◌, from, concat_map, total}
 use Rattle.definition.specs.Names.{Name, lead, listed, same_name, names_few, names_short, names_sized, names_ended, names_unlike, names_fit}
 use Rattle.definition.proofs.Lists.Tests.{T_true, true_of, and_left, and_right, pick}
 use Rattle.definition.proofs.Lists.Members.{total_append}
@@ -50,7 +50,7 @@ ended_back (x ∷ []) h = go (eqb x 10) refl
     last : x ≡ 10
     last = eqb-true x 10 h
 
-    go : (t : Bool) → eqb x 10 ≡ t → concat_map ended (if t then [] ∷ [] else lead x []) ≡ x ∷ []
+    go : (t : Bool) → eqb x 10 ≡ t → concat_map ended (when t then [] ∷ [] else lead x []) ≡ x ∷ []
     go true e = ap (λ (k : ℕ). k ∷ []) (sym last)
     go false e = absurd (eqb-false x 10 e last)
 ended_back (x ∷ y ∷ ys) h = go (eqb x 10) refl (ended_back (y ∷ ys) (rw sub-one (rw sub-one at h)))
@@ -60,7 +60,7 @@ ended_back (x ∷ y ∷ ys) h = go (eqb x 10) refl (ended_back (y ∷ ys) (rw su
     lead_ended (n ∷ l) f = refl
 
     go : (t : Bool) → eqb x 10 ≡ t → concat_map ended (listed (y ∷ ys)) ≡ y ∷ ys
-        → concat_map ended (if t then [] ∷ listed (y ∷ ys) else lead x (listed (y ∷ ys))) ≡ x ∷ y ∷ ys
+        → concat_map ended (when t then [] ∷ listed (y ∷ ys) else lead x (listed (y ∷ ys))) ≡ x ∷ y ∷ ys
     go true e rest = ap (λ (l : List ℕ). 10 ∷ l) rest ∙ ap (λ (k : ℕ). k ∷ y ∷ ys) (sym (eqb-true x 10 e))
     go false e rest = lead_ended (listed (y ∷ ys)) (λ z. omega (arith, ap length (sym rest ∙ ap (concat_map ended) z))) ∙ ap (λ (l : List ℕ). x ∷ l) rest
 

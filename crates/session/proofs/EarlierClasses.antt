@@ -7,7 +7,7 @@ use native.Mathlib.Omega.{arith}
 use lib.ListN.{get_or}
 use lib.Dec.{eqb, leb, ltb, T, T_not, eqb→eq, leb→le}
 use borrow.Author.Tests.{le-leb, lt-ltb, le-ltb, eq-eqb}
-use Rattle.definition.specs.Basics.{if◌then◌else◌, all, unlike}
+use Rattle.definition.specs.Basics.{when◌then◌else◌, all, unlike}
 use Rattle.definition.specs.Outside.{Method, ClassRecord, core}
 use Rattle.definition.specs.Answer.{raised_function}
 use Rattle.definition.proofs.Lists.Tests.{and_both, and_left, and_right, T_true, pick}
@@ -21,7 +21,7 @@ use Rattle.session.proofs.NewMembers.{good_method, names_of, good_record}
 
 -- an earlier function has its own number back
 back_raised : (n f : ℕ) → raised_function n (past_rows f) ≡ f
-back_raised n f = ap (λ (t : Bool). if t then f + 2048 + n else f + 2048 - 2048) (le-ltb (f + 2048) 2048 (omega arith)) ∙ omega arith
+back_raised n f = ap (λ (t : Bool). when t then f + 2048 + n else f + 2048 - 2048) (le-ltb (f + 2048) 2048 (omega arith)) ∙ omega arith
 
 abbrev earlier_method : Method → Method
 earlier_method m = record { name = m.name; fun = past_rows m.fun; params = m.params }

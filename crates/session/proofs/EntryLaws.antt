@@ -9,7 +9,7 @@ use native.Mathlib.Nat.{zero-add}
 use lib.ListN.{length, get_or, length-append, get_or-append, get_or-eq_default}
 use lib.Dec.{eqb, leb, ltb}
 use borrow.Author.Tests.{eq-eqb, eqb-true, le-leb, ltb-true, ltb-false}
-use Rattle.definition.specs.Basics.{if◌then◌else◌, any, filter, unlike, place, from, concat_map}
+use Rattle.definition.specs.Basics.{when◌then◌else◌, any, filter, unlike, place, from, concat_map}
 use Rattle.definition.specs.Names.{Name, fixed, listed, same_name, name_count, names_fit}
 use Rattle.definition.specs.Sheet.{Sheet, word, kind, rows}
 use Rattle.definition.specs.Shape.{shape_of}
@@ -63,7 +63,7 @@ module _ (p : Name → Bool) where
   place_below (x ∷ xs) e = go (p x) refl e (place_below xs)
     where
       go : (t : Bool) → p x ≡ t → (t || any p xs) ≡ true → (any p xs ≡ true → (place p xs < length xs) × (p (get_or xs (place p xs) []) ≡ true))
-          → ((if t then 0 else suc (place p xs)) < suc (length xs)) × (p (get_or (x ∷ xs) (if t then 0 else suc (place p xs)) []) ≡ true)
+          → ((when t then 0 else suc (place p xs)) < suc (length xs)) × (p (get_or (x ∷ xs) (when t then 0 else suc (place p xs)) []) ≡ true)
       go true q e f = (omega arith, q)
       go false q e f = let g = f e in (omega (arith, g.0), g.1)
 
@@ -72,12 +72,12 @@ module _ (p : Name → Bool) where
   some_kept q [] i l e f = absurd (omega arith)
   some_kept q (x ∷ xs) zero l e f = go (q x) f
     where
-      go : (t : Bool) → t ≡ true → any p (if t then x ∷ filter q xs else filter q xs) ≡ true
+      go : (t : Bool) → t ≡ true → any p (when t then x ∷ filter q xs else filter q xs) ≡ true
       go true g = ap (λ (u : Bool). u || any p (filter q xs)) e
       go false g = absurd (true≢false (sym g))
   some_kept q (x ∷ xs) (suc i) l e f = go (q x) (some_kept q xs i (omega arith) e f)
     where
-      go : (t : Bool) → any p (filter q xs) ≡ true → any p (if t then x ∷ filter q xs else filter q xs) ≡ true
+      go : (t : Bool) → any p (filter q xs) ≡ true → any p (when t then x ∷ filter q xs else filter q xs) ≡ true
       go true g = by (p x)
         where
           by : (u : Bool) → (u || any p (filter q xs)) ≡ true
@@ -120,8 +120,8 @@ module _ (S : Session) (ns : List ℕ) where
 
   -- a name's number in the session
   pub number_is : (x : ℕ) → 1 ≤ x → x ≤ length (own_names ns) → to_session S ns x ≡ suc (place (same_name (get_or (own_names ns) (x - 1) [])) (names_with S ns))
-  number_is x l h = ap (λ (t : Bool). if t && leb x (length (own_names ns)) then suc (place (same_name (get_or (own_names ns) (x - 1) [])) (names_with S ns)) else x) (le-leb 1 x l)
-      ∙ ap (λ (t : Bool). if t then suc (place (same_name (get_or (own_names ns) (x - 1) [])) (names_with S ns)) else x) (le-leb x (length (own_names ns)) h)
+  number_is x l h = ap (λ (t : Bool). when t && leb x (length (own_names ns)) then suc (place (same_name (get_or (own_names ns) (x - 1) [])) (names_with S ns)) else x) (le-leb 1 x l)
+      ∙ ap (λ (t : Bool). when t then suc (place (same_name (get_or (own_names ns) (x - 1) [])) (names_with S ns)) else x) (le-leb x (length (own_names ns)) h)
 
   number_some : (x : ℕ) → 1 ≤ x → x ≤ length (own_names ns) → (1 ≤ to_session S ns x) × (to_session S ns x ≤ length (names_with S ns))
   number_some x l h =
@@ -214,16 +214,16 @@ module _ (S : Session) (ns : List ℕ) where
 
       -- a column that may hold a name; the header's do not
       named : (r c : ℕ) → c < 8 → (f : ℕ → Bool) → f 0 ≡ false
-          → get_or (entry_row S ns s r) c 0 ≡ (if f (kind s r) then to_session S ns (word s r c) else word s r c)
-          → word t r c ≡ (if f (kind s r) then to_session S ns (word s r c) else word s r c)
+          → get_or (entry_row S ns s r) c 0 ≡ (when f (kind s r) then to_session S ns (word s r c) else word s r c)
+          → word t r c ≡ (when f (kind s r) then to_session S ns (word s r c) else word s r c)
       named r c l f z q = go (word_is r c l)
         where
-          go : (word t r c ≡ get_or (entry_row S ns s r) c 0) ⊎ ((word t r c ≡ 0) × (rows s ≤ r)) → word t r c ≡ (if f (kind s r) then to_session S ns (word s r c) else word s r c)
+          go : (word t r c ≡ get_or (entry_row S ns s r) c 0) ⊎ ((word t r c ≡ 0) × (rows s ≤ r)) → word t r c ≡ (when f (kind s r) then to_session S ns (word s r c) else word s r c)
           go (inl h) = h ∙ q
           go (inr h) =
               h.0 ∙ sym (past r c l h.1)
-              ∙ sym (ap (λ (k : ℕ). if f k then to_session S ns (word s r c) else word s r c) (past r 0 (omega arith) h.1)
-              ∙ ap (λ (u : Bool). if u then to_session S ns (word s r c) else word s r c) z)
+              ∙ sym (ap (λ (k : ℕ). when f k then to_session S ns (word s r c) else word s r c) (past r 0 (omega arith) h.1)
+              ∙ ap (λ (u : Bool). when u then to_session S ns (word s r c) else word s r c) z)
 
   -- and it passes question 1 as its own sheet does
   pub entry_whole : (s : Sheet) → rows_fit s ≡ true → rows_fit (entry_sheet S ns s) ≡ true

@@ -11,7 +11,7 @@ use lib.ListN.{length, get_or, take, get_or-append}
 use lib.Seq.{take-append-le}
 use lib.Dec.{eqb, leb, ltb, T}
 use borrow.Author.Tests.{eqb-false, le-leb, lt-ltb, ltb-true}
-use Rattle.definition.specs.Basics.{if◌then◌else◌, all, any, every, unlike, from, concat_map, total}
+use Rattle.definition.specs.Basics.{when◌then◌else◌, all, any, every, unlike, from, concat_map, total}
 use Rattle.definition.specs.Names.{Name, listed}
 use Rattle.definition.specs.Outside.{Method, is_recorded, core}
 use Rattle.definition.proofs.Lists.Tests.{and_both, and_left, and_right, T_true, true_of}
@@ -102,7 +102,7 @@ module _ (R : Room) (w n w' n' : List ℕ) (fit : runs_fit R w n ≡ true) (x : 
   pub count_same : (e c : ℕ) → e ≤ get_or w 1 0 → c < 5 → count_after R w' n' e c ≡ count_after R w n e c
   count_same e c l h = by (eqb e 0) refl
     where
-      by : (t : Bool) → eqb e 0 ≡ t → (if t then 0 else get_or w' (entry_place R (e - 1) + c) 0) ≡ (if t then 0 else get_or w (entry_place R (e - 1) + c) 0)
+      by : (t : Bool) → eqb e 0 ≡ t → (when t then 0 else get_or w' (entry_place R (e - 1) + c) 0) ≡ (when t then 0 else get_or w (entry_place R (e - 1) + c) 0)
       by true q = refl
       by false q = let z = eqb-false e 0 q in x.entry_rows (e - 1) c (omega arith) h
 

@@ -7,7 +7,7 @@ use native.Mathlib.Omega.{arith}
 use lib.ListN.{length, length-map}
 use lib.Dec.{T, eqb, leb}
 use borrow.Author.Tests.{leb-true}
-use Rattle.definition.specs.Basics.{if◌then◌else◌, filter, count, bit}
+use Rattle.definition.specs.Basics.{when◌then◌else◌, filter, count, bit}
 use Rattle.definition.specs.Sheet.{Sheet, kind, rows, is, a}
 use Rattle.definition.specs.Outside.{Outside}
 use Rattle.definition.specs.Meaning.{is_toplevel}
@@ -45,7 +45,7 @@ count_until : (p : Moment → Bool) (O : Outside) (s : Sheet) (h : List Moment) 
 count_until p O s [] = omega arith
 count_until p O s (m ∷ ms) = go (eqb (ask_event O s m.event (open_on s m.stack)).number 0) (count_until p O s ms)
   where
-    go : (t : Bool) → count p (until_no O s ms) ≤ count p ms → count p (if t then m ∷ until_no O s ms else []) ≤ bit (p m) + count p ms
+    go : (t : Bool) → count p (until_no O s ms) ≤ count p ms → count p (when t then m ∷ until_no O s ms else []) ≤ bit (p m) + count p ms
     go true l = omega arith
     go false l = omega arith
 

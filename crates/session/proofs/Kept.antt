@@ -7,7 +7,7 @@ use native.Mathlib.Omega.{arith}
 use lib.ListN.{length, get_or, length-append}
 use lib.Dec.{eqb, leb, ltb, T}
 use borrow.Author.Tests.{eqb-true, eqb-false}
-use Rattle.definition.specs.Basics.{if◌then◌else◌, all}
+use Rattle.definition.specs.Basics.{when◌then◌else◌, all}
 use Rattle.definition.specs.Names.{fixed, listed}
 use Rattle.definition.specs.Sheet.{Sheet, is}
 use Rattle.definition.specs.Outside.{Outside}
@@ -119,8 +119,8 @@ module _ (w n : List ℕ) (s : Sheet) (ns : List ℕ) (lent : ℕ) (fit : sessio
 
       go : (t : Bool) → eqb (entered S s ns lent).number 0 ≡ t → (u : Bool) → (leb 5 (entered S s ns lent).number && leb (entered S s ns lent).number 21) ≡ u
           → get_or w 0 0
-          ≤ (if t then accepting S s ns lent (entered S s ns lent)
-          else if u then record { globals = next_global (outside_of S) (entry_sheet S ns s); entries = S.entries } else S).globals
+          ≤ (when t then accepting S s ns lent (entered S s ns lent)
+          else when u then record { globals = next_global (outside_of S) (entry_sheet S ns s); entries = S.entries } else S).globals
       go true q u r = let x = taken whole wide w n fit s ns lent (eqb-true (entered S s ns lent).number 0 q) in omega (arith, x.count, x.asked.above)
       go false q true r = (next_bounds whole (omega arith) (omega arith) w n fit s ns lent r).0
       go false q false r = omega arith

@@ -7,7 +7,7 @@ use native.Mathlib.Omega.{arith}
 use lib.ListN.{length, get_or, length-append}
 use lib.Seq.{get_or-append-add}
 use lib.Dec.{eqb, T}
-use Rattle.definition.specs.Basics.{if◌then◌else◌, all, concat_map}
+use Rattle.definition.specs.Basics.{when◌then◌else◌, all, concat_map}
 use Rattle.definition.specs.Names.{Name, lead, listed, names_ended}
 use Rattle.definition.proofs.Lists.Tests.{and_both, and_left, and_right, if_false, eqb_of}
 use Rattle.session.specs.Words.{ended}
@@ -27,7 +27,7 @@ listed_endless (c ∷ ns) = go (eqb c 10) refl (listed_endless ns)
     led (x ∷ l) h k =
         and_both (endless (c ∷ x)) (all endless l) (and_both (not (eqb c 10)) (endless x) h (and_left (endless x) (all endless l) k)) (and_right (endless x) (all endless l) k)
 
-    go : (t : Bool) → eqb c 10 ≡ t → T (all endless (listed ns)) → T (all endless (if t then [] ∷ listed ns else lead c (listed ns)))
+    go : (t : Bool) → eqb c 10 ≡ t → T (all endless (listed ns)) → T (all endless (when t then [] ∷ listed ns else lead c (listed ns)))
     go true q k = k
     go false q k = led (listed ns) (subst (λ (t : Bool). T (not t)) (sym q) tt) k
 

@@ -7,7 +7,7 @@ use native.Mathlib.Omega.{arith}
 use lib.ListN.{length, get_or}
 use lib.Dec.{eqb, leb}
 use borrow.Author.Tests.{eq-eqb, eqb-true, leb-true}
-use Rattle.definition.specs.Basics.{if◌then◌else◌, filter, any, unlike, place}
+use Rattle.definition.specs.Basics.{when◌then◌else◌, filter, any, unlike, place}
 use Rattle.definition.specs.Names.{Name, fixed, listed, same_name, names_few, names_short, names_sized, names_ended, names_fit}
 use Rattle.session.specs.Entry.{renumbered}
 
@@ -67,7 +67,7 @@ place_own (x ∷ xs) u (suc i) h =
 pub renumbered_same : (l : List Name) → unlike same_name l ≡ true → (n : ℕ) → renumbered l l n ≡ n
 renumbered_same l u n = go (leb 1 n) refl (leb n (length l)) refl
   where
-    go : (t : Bool) → leb 1 n ≡ t → (v : Bool) → leb n (length l) ≡ v → (if t && v then suc (place (same_name (get_or l (n - 1) [])) l) else n) ≡ n
+    go : (t : Bool) → leb 1 n ≡ t → (v : Bool) → leb n (length l) ≡ v → (when t && v then suc (place (same_name (get_or l (n - 1) [])) l) else n) ≡ n
     go true e true f =
         let p : 1 ≤ n = leb-true 1 n e in
         let q : n ≤ length l = leb-true n (length l) f in

@@ -11,7 +11,7 @@ use native.Mathlib.Omega.{arith}
 use lib.ListN.{length, get_or, length-map}
 use lib.Dec.{eqb, leb, ltb, T, eqb→eq, leb→le, ltb→lt}
 use borrow.Author.Tests.{eq-eqb, ne_eqb, lt-ltb, le-ltb, eqb-true, eqb-false}
-use Rattle.definition.specs.Basics.{if◌then◌else◌, all, any, unlike, filter, from}
+use Rattle.definition.specs.Basics.{when◌then◌else◌, all, any, unlike, filter, from}
 use Rattle.definition.specs.Kind.{CALL}
 use Rattle.definition.specs.Sheet.{Sheet, a, rows, is}
 use Rattle.definition.specs.Outside.{Outside, Method, ClassRecord, is_recorded, core}
@@ -39,7 +39,7 @@ no_no : (rs : List Refusal) → (first_no rs).number ≡ 0 → (x : Refusal) →
 no_no [] e x m = absurd (Memᴰ.not-nil m)
 no_no (r ∷ rs) e x m = go (eqb r.number 0) refl e m (no_no rs)
   where
-    go : (t : Bool) → eqb r.number 0 ≡ t → (if not t then r else first_no rs).number ≡ 0 → Mem x (r ∷ rs)
+    go : (t : Bool) → eqb r.number 0 ≡ t → (when not t then r else first_no rs).number ≡ 0 → Mem x (r ∷ rs)
         → ((first_no rs).number ≡ 0 → (x : Refusal) → Mem x rs → x.number ≡ 0) → x.number ≡ 0
     go false q e m f = absurd (eqb-false r.number 0 q e)
     go true q e (here p) f = ap (λ (y : Refusal). y.number) p ∙ eqb-true r.number 0 q
@@ -51,9 +51,9 @@ module _ (p : ℕ → Bool) where
   above i zero j l = absurd (omega arith)
   above i (suc k) j l = go (p i) j l (above (suc i) k)
     where
-      go : (t : Bool) (j : ℕ) → j < length (if t then i ∷ filter p (from (suc i) k) else filter p (from (suc i) k))
+      go : (t : Bool) (j : ℕ) → j < length (when t then i ∷ filter p (from (suc i) k) else filter p (from (suc i) k))
           → ((j : ℕ) → j < length (filter p (from (suc i) k)) → suc i ≤ get_or (filter p (from (suc i) k)) j 0)
-          → i ≤ get_or (if t then i ∷ filter p (from (suc i) k) else filter p (from (suc i) k)) j 0
+          → i ≤ get_or (when t then i ∷ filter p (from (suc i) k) else filter p (from (suc i) k)) j 0
       go true zero l f = omega arith
       go true (suc j) l f = omega (arith, f j (omega arith))
       go false j l f = omega (arith, f j l)
@@ -62,10 +62,10 @@ module _ (p : ℕ → Bool) where
   picked_rise i zero j l = absurd (omega arith)
   picked_rise i (suc k) j l = go (p i) j l (picked_rise (suc i) k)
     where
-      go : (t : Bool) (j : ℕ) → suc j < length (if t then i ∷ filter p (from (suc i) k) else filter p (from (suc i) k))
+      go : (t : Bool) (j : ℕ) → suc j < length (when t then i ∷ filter p (from (suc i) k) else filter p (from (suc i) k))
           → ((j : ℕ) → suc j < length (filter p (from (suc i) k)) → get_or (filter p (from (suc i) k)) j 0 < get_or (filter p (from (suc i) k)) (suc j) 0)
-          → get_or (if t then i ∷ filter p (from (suc i) k) else filter p (from (suc i) k)) j 0
-          < get_or (if t then i ∷ filter p (from (suc i) k) else filter p (from (suc i) k)) (suc j) 0
+          → get_or (when t then i ∷ filter p (from (suc i) k) else filter p (from (suc i) k)) j 0
+          < get_or (when t then i ∷ filter p (from (suc i) k) else filter p (from (suc i) k)) (suc j) 0
       go true zero l f = above (suc i) k 0 (omega arith)
       go true (suc j) l f = f j (omega arith)
       go false j l f = f j l
@@ -88,17 +88,17 @@ climbed O s parent n c q e =
     let r = asked (of_sheet s c) (lacks_record O s (parent c)) (ask_climb O s parent (suc n) (c ∷ []) (parent c)) (c - 256) (a s (c - 256)) q e in (
       r.0,
       λ same.
-          met (of_sheet s c) (eqb c c || false) (if lacks_record O s (parent c) then ask 19 (c - 256) (a s (c - 256)) false else ask_climb O s parent n
+          met (of_sheet s c) (eqb c c || false) (when lacks_record O s (parent c) then ask 19 (c - 256) (a s (c - 256)) false else ask_climb O s parent n
           (c ∷ c ∷ []) (parent c)) (c - 256) (a s (c - 256))
           q (ap (λ (t : Bool). t || false) (eq-eqb c c refl)) (ap (λ (k : ℕ). (ask_climb O s parent (suc n) (c ∷ []) k).number) (sym same) ∙ r.1),
     )
   where
-    asked : (t l : Bool) (up : Refusal) (r m : ℕ) → t ≡ true → (if not t then none else if l then ask 19 r m false else up).number ≡ 0 → T (not l) × (up.number ≡ 0)
+    asked : (t l : Bool) (up : Refusal) (r m : ℕ) → t ≡ true → (when not t then none else when l then ask 19 r m false else up).number ≡ 0 → T (not l) × (up.number ≡ 0)
     asked true true up r m p e = absurd (omega arith)
     asked true false up r m p e = (tt, e)
     asked false l up r m p e = absurd (subst T (sym p) tt)
 
-    met : (t u : Bool) (x : Refusal) (r m : ℕ) → t ≡ true → u ≡ true → (if not t then none else if u then ask 18 r m false else x).number ≡ 0 → ⊥
+    met : (t u : Bool) (x : Refusal) (r m : ℕ) → t ≡ true → u ≡ true → (when not t then none else when u then ask 18 r m false else x).number ≡ 0 → ⊥
     met true true x r m p v e = omega arith
     met true false x r m p v e = subst T (sym v) tt
     met false u x r m p v e = subst T (sym p) tt
@@ -125,7 +125,7 @@ module _ (E N : ℕ) (S : Session) (s : Sheet) (facts : SheetFacts (24 + N) s) (
   number_is r t =
       let b = row_above r t in
       let q : 256 + r - 256 ≡ r = omega arith in
-      ap (λ (u : Bool). if u then 256 + r else 256 + raised_function (base_of S) (256 + r - 256)) (le-ltb (256 + r) 256 (omega arith))
+      ap (λ (u : Bool). when u then 256 + r else 256 + raised_function (base_of S) (256 + r - 256)) (le-ltb (256 + r) 256 (omega arith))
       ∙ ap (λ (k : ℕ). 256 + raised_function (base_of S) k) q ∙ ap (λ (k : ℕ). 256 + k) (raised_row_lem E N O s facts whole few base r b.0 b.1)
 
   pub class_there : (r : ℕ) → T (is s 4 r) → Mem (class_by O s r) (classes_by O s)
@@ -174,14 +174,14 @@ module _ (E N : ℕ) (S : Session) (s : Sheet) (facts : SheetFacts (24 + N) s) (
       let l : 256 < k.number = ltb→lt 256 k.number (and_left (ltb 256 k.number) (ltb ((k.number - 256) / 2048) E) u) in
       let g : (k.number - 256) / 2048 < E = ltb→lt ((k.number - 256) / 2048) E (and_right (ltb 256 k.number) (ltb ((k.number - 256) / 2048) E) u) in
       let v : raised_class (base_of S) p ≡ k.number =
-      ap (λ (t : Bool). if t then p else 256 + raised_function (base_of S) (p - 256)) (le-ltb p 256 (omega arith))
-      ∙ ap (λ (t : Bool). 256 + (if t then p - 256 + base_of S else p - 256 - 2048)) (le-ltb (p - 256) 2048 (omega arith)) ∙ omega arith in
+      ap (λ (t : Bool). when t then p else 256 + raised_function (base_of S) (p - 256)) (le-ltb p 256 (omega arith))
+      ∙ ap (λ (t : Bool). 256 + (when t then p - 256 + base_of S else p - 256 - 2048)) (le-ltb (p - 256) 2048 (omega arith)) ∙ omega arith in
       (known_by (raised_class (base_of S) p) k (Memᴰ.append_left (classes_by O s) m) (sym v), λ x. omega (arith, v, x, g, l))
 
   known_core : (r p : ℕ) → T (is_recorded core p) → Known r p
   known_core r p t =
       let l : p < 256 = small t in
-      let v : raised_class (base_of S) p ≡ p = ap (λ (t : Bool). if t then p else 256 + raised_function (base_of S) (p - 256)) (lt-ltb p 256 l) in (
+      let v : raised_class (base_of S) p ≡ p = ap (λ (t : Bool). when t then p else 256 + raised_function (base_of S) (p - 256)) (lt-ltb p 256 l) in (
         or_right (any (numbered (raised_class (base_of S) p)) (all_classes S ++ classes_by O s)) (is_recorded core (raised_class (base_of S) p)) (subst (λ (k : ℕ). T (is_recorded core k)) (sym v) t),
         λ x. omega (arith, v, x),
       )

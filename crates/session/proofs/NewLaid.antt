@@ -11,7 +11,7 @@ use native.Mathlib.Omega.{arith}
 use lib.ListN.{length}
 use lib.Dec.{eqb, leb, ltb, T, T_not, eqb→eq, leb→le, ltb→lt, le→leb}
 use borrow.Author.Tests.{eq-eqb, lt-ltb, leb-false}
-use Rattle.definition.specs.Basics.{if◌then◌else◌, all, any, filter, place, head, bit, ◌∈?◌}
+use Rattle.definition.specs.Basics.{when◌then◌else◌, all, any, filter, place, head, bit, ◌∈?◌}
 use Rattle.definition.specs.Sheet.{Sheet, kind, child, a, b, rows, chain, kids, is, kids_of}
 use Rattle.definition.specs.Shape.{holds, shape_of, only}
 use Rattle.definition.specs.Meaning.{Meaning, Named, named, function, class, global, toplevel, variable, is_toplevel}
@@ -45,7 +45,7 @@ place_below : (r : ℕ) (xs : List ℕ) → Mem r xs → place (eqb r) xs < leng
 place_below r [] m = absurd (Memᴰ.not-nil m)
 place_below r (x ∷ xs) m = go (eqb r x) refl m (place_below r xs)
   where
-    go : (t : Bool) → eqb r x ≡ t → Mem r (x ∷ xs) → (Mem r xs → place (eqb r) xs < length xs) → (if t then 0 else suc (place (eqb r) xs)) < suc (length xs)
+    go : (t : Bool) → eqb r x ≡ t → Mem r (x ∷ xs) → (Mem r xs → place (eqb r) xs < length xs) → (when t then 0 else suc (place (eqb r) xs)) < suc (length xs)
     go true q m f = omega arith
     go false q (here e) f = absurd (subst T (sym (eq-eqb r x e) ∙ q) tt)
     go false q (there m) f = omega (arith, f m)
@@ -131,20 +131,20 @@ module _ (E N g : ℕ) (O : Outside) (s : Sheet) (facts : SheetFacts (24 + N) s)
       (class (256 + r)) (global (b s r - 2) 0) (toplevel r) (function (child s (child s r))) (variable r f)
       (good_class r) (λ k. good_constant r t (and_right (is s 29 r) (leb 2 (b s r)) k))
       (λ c k w. good_global r t (m (subst (λ (d : Meaning). T (is_toplevel d)) (sym (third (is s 4 r) (is s 29 r && leb 2 (b s r)) (new_global s r f)
-      (class (256 + r)) (global (b s r - 2) 0) (toplevel r) (if is s 29 r && eqb (b s f) 1 then function (child s (child s r)) else variable r f) c k w)) tt)))
+      (class (256 + r)) (global (b s r - 2) 0) (toplevel r) (when is s 29 r && eqb (b s f) 1 then function (child s (child s r)) else variable r f) c k w)) tt)))
       (λ k w. good_function r t (and_right (is s 29 r) (is s 52 (child s r)) (and_left (literal_let s r) (eqb (b s r) 0)
       (hoisted (is s 29 r) (leb (b s r) 1) (eqb (b s f) 1) (literal_let s r && eqb (b s r) 0) t (low k) (eqb_of (b s f) 1 one) w))))
       (and_both (is s 29 r) (eqb (b s f) 1) t (eqb_of (b s f) 1 one))
     where
       by_cases : (p : Meaning → Bool) (c k w l : Bool) (d₁ d₂ d₃ d₄ d₅ : Meaning) → (T c → T (p d₁)) → (T k → T (p d₂)) → (T (not c) → T (not k) → T w → T (p d₃))
-          → (T (not k) → T (not w) → T (p d₄)) → T l → T (p (if c then d₁ else if k then d₂ else if w then d₃ else if l then d₄ else d₅))
+          → (T (not k) → T (not w) → T (p d₄)) → T l → T (p (when c then d₁ else when k then d₂ else when w then d₃ else when l then d₄ else d₅))
       by_cases p true k w l d₁ d₂ d₃ d₄ d₅ f₁ f₂ f₃ f₄ x = f₁ tt
       by_cases p false true w l d₁ d₂ d₃ d₄ d₅ f₁ f₂ f₃ f₄ x = f₂ tt
       by_cases p false false true l d₁ d₂ d₃ d₄ d₅ f₁ f₂ f₃ f₄ x = f₃ tt tt tt
       by_cases p false false false true d₁ d₂ d₃ d₄ d₅ f₁ f₂ f₃ f₄ x = f₄ tt tt
       by_cases p false false false false d₁ d₂ d₃ d₄ d₅ f₁ f₂ f₃ f₄ x = absurd x
 
-      third : (c k w : Bool) (d₁ d₂ d₃ d₄ : Meaning) → T (not c) → T (not k) → T w → (if c then d₁ else if k then d₂ else if w then d₃ else d₄) ≡ d₃
+      third : (c k w : Bool) (d₁ d₂ d₃ d₄ : Meaning) → T (not c) → T (not k) → T w → (when c then d₁ else when k then d₂ else when w then d₃ else d₄) ≡ d₃
       third true k w d₁ d₂ d₃ d₄ x y v = absurd x
       third false true w d₁ d₂ d₃ d₄ x y v = absurd y
       third false false true d₁ d₂ d₃ d₄ x y v = refl
@@ -167,7 +167,7 @@ module _ (E N g : ℕ) (O : Outside) (s : Sheet) (facts : SheetFacts (24 + N) s)
   good_declared : (r f : ℕ) → T (is s 4 r) ⊎ (T (is s 29 r) × (b s f ≡ 1)) → (T (is s 29 r) → T (is_toplevel (declared s r f)) → Mem r (global_lets s h)) → T (good (a s r) (declared s r f))
   good_declared r f (inl t) m =
       subst (λ (d : Meaning). T (good (a s r) d)) (sym (if_true (is s 4 r) (class (256 + r))
-      (if is s 29 r && leb 2 (b s r) then global (b s r - 2) 0 else if new_global s r f then toplevel r else if is s 29 r && eqb (b s f) 1 then function (child s (child s r)) else variable r f) t))
+      (when is s 29 r && leb 2 (b s r) then global (b s r - 2) 0 else when new_global s r f then toplevel r else when is s 29 r && eqb (b s f) 1 then function (child s (child s r)) else variable r f) t))
       (good_class r t)
   good_declared r f (inr x) m = good_let r f x.0 x.1 (m x.0)
 
@@ -218,7 +218,7 @@ module _ (E N g : ℕ) (O : Outside) (s : Sheet) (facts : SheetFacts (24 + N) s)
 
         in_parts_lem : Mem r (parts s 0)
         in_parts_lem =
-            subst (λ (k : ℕ). Mem r (filter (is_part s) (kids s (if eqb k 30 then a s 0 else 0)))) (sym header)
+            subst (λ (k : ℕ). Mem r (filter (is_part s) (kids s (when eqb k 30 then a s 0 else 0)))) (sym header)
             (mem_filter (is_part s) r (kids s 0) (or_left (is s 2 r || is s 6 r) (leb 20 (kind s r)) (or_left (is s 2 r) (is s 6 r) t)) in_kids)
 
         only_one : Mem r (u ∷ []) → r ≡ u
@@ -258,12 +258,12 @@ module _ (E N g : ℕ) (O : Outside) (s : Sheet) (facts : SheetFacts (24 + N) s)
 
     around_unit : around s (scope u ∷ start O) ≡ []
     around_unit =
-        ap (λ (k : ℕ). if eqb k 6 then u ∷ around s (start O) else around s (start O)) rows_are.unit_kind ∙ around_names s O.names
+        ap (λ (k : ℕ). when eqb k 6 then u ∷ around s (start O) else around s (start O)) rows_are.unit_kind ∙ around_names s O.names
 
     around_body : around s (scope c ∷ scope f ∷ x.outer) ≡ f ∷ []
     around_body =
-        ap (λ (k : ℕ). if eqb k 6 then c ∷ around s (scope f ∷ x.outer) else around s (scope f ∷ x.outer)) rows_are.body_kind
-        ∙ ap (λ (k : ℕ). if eqb k 6 then f ∷ around s x.outer else around s x.outer) rows_are.function_kind
+        ap (λ (k : ℕ). when eqb k 6 then c ∷ around s (scope f ∷ x.outer) else around s (scope f ∷ x.outer)) rows_are.body_kind
+        ∙ ap (λ (k : ℕ). when eqb k 6 then f ∷ around s x.outer else around s x.outer) rows_are.function_kind
         ∙ ap (λ (l : List ℕ). f ∷ l) (around_grown s (scope u ∷ start O) x.opened ∙ around_unit)
 
     abbrev fine : Named → Bool

@@ -10,7 +10,7 @@ use native.Mathlib.Omega.{arith}
 use lib.ListN.{length, get_or-eq_default}
 use lib.Dec.{eqb, leb, ltb, T, T_not, eqb→eq}
 use borrow.Author.Tests.{ne_eqb, le-leb, lt-ltb, ltb-true, ltb-false, eqb-true}
-use Rattle.definition.specs.Basics.{if◌then◌else◌, all, any, unlike, filter, distinct, first, ◌∈?◌}
+use Rattle.definition.specs.Basics.{when◌then◌else◌, all, any, unlike, filter, distinct, first, ◌∈?◌}
 use Rattle.definition.specs.Sheet.{Sheet, kind, next, child, a, rows, chain, kids, is, kids_of}
 use Rattle.definition.specs.Outside.{Outside, Method, ClassRecord, record_of}
 use Rattle.definition.specs.Scope.{Moment, visited, visits, within}
@@ -34,7 +34,7 @@ none_kept p [] = tt
 none_kept p (x ∷ xs) = go (p x) refl (none_kept p xs)
   where
     go : (t : Bool) → p x ≡ t → T (not (any p (filter (λ y. not (p y)) xs)))
-        → T (not (any p (if not t then x ∷ filter (λ y. not (p y)) xs else filter (λ y. not (p y)) xs)))
+        → T (not (any p (when not t then x ∷ filter (λ y. not (p y)) xs else filter (λ y. not (p y)) xs)))
     go true q h = h
     go false q h = subst (λ (t : Bool). T (not (t || any p (filter (λ y. not (p y)) xs)))) (sym q) h
 
@@ -80,7 +80,7 @@ first_name : (m : Method) (own : List Method) → (first (λ o. eqb o.name m.nam
 first_name m [] = refl
 first_name m (o ∷ own) = go (eqb o.name m.name) refl (first_name m own)
   where
-    go : (t : Bool) → eqb o.name m.name ≡ t → (first (λ o. eqb o.name m.name) m own).name ≡ m.name → (if t then o else first (λ o. eqb o.name m.name) m own).name ≡ m.name
+    go : (t : Bool) → eqb o.name m.name ≡ t → (first (λ o. eqb o.name m.name) m own).name ≡ m.name → (when t then o else first (λ o. eqb o.name m.name) m own).name ≡ m.name
     go true q e = eqb-true o.name m.name q
     go false q e = e
 
@@ -88,7 +88,7 @@ first_good : (p q : Method → Bool) (m : Method) (own : List Method) → T (p m
 first_good p q m [] h k = h
 first_good p q m (o ∷ own) h k = go (q o) (first_good p q m own h (and_right (p o) (all p own) k))
   where
-    go : (t : Bool) → T (p (first q m own)) → T (p (if t then o else first q m own))
+    go : (t : Bool) → T (p (first q m own)) → T (p (when t then o else first q m own))
     go true e = and_left (p o) (all p own) k
     go false e = e
 
@@ -111,7 +111,7 @@ other_names : (up own : List Method) → names_of (filter (λ o. not (any (λ m.
 other_names up [] = refl
 other_names up (o ∷ own) =
     go (any (λ m. eqb m.name o.name) up) (other_names up own)
-    ∙ ap (λ (t : Bool). if not t then o.name ∷ filter (λ x. not (x ∈? names_of up)) (names_of own) else filter (λ x. not (x ∈? names_of up)) (names_of own)) (has_name o.name up)
+    ∙ ap (λ (t : Bool). when not t then o.name ∷ filter (λ x. not (x ∈? names_of up)) (names_of own) else filter (λ x. not (x ∈? names_of up)) (names_of own)) (has_name o.name up)
   where
     rest : List Method
     rest = filter (λ o. not (any (λ m. eqb m.name o.name) up)) own
@@ -119,7 +119,7 @@ other_names up (o ∷ own) =
     kept : List ℕ
     kept = filter (λ x. not (x ∈? names_of up)) (names_of own)
 
-    go : (t : Bool) → names_of rest ≡ kept → names_of (if not t then o ∷ rest else rest) ≡ (if not t then o.name ∷ kept else kept)
+    go : (t : Bool) → names_of rest ≡ kept → names_of (when not t then o ∷ rest else rest) ≡ (when not t then o.name ∷ kept else kept)
     go true e = e
     go false e = ap (λ (l : List ℕ). o.name ∷ l) e
 
@@ -150,7 +150,7 @@ module _ {A : Type 0} (P : List A → Type 0) (none : P []) (merge : List A → 
   inherits parent own h zero c = none
   inherits parent own h (suc n) c = go (eqb (parent c) 0) (inherits parent own h n (parent c))
     where
-      go : (t : Bool) → P (inheriting merge parent own n (parent c)) → P (if t then own c else merge (inheriting merge parent own n (parent c)) (own c))
+      go : (t : Bool) → P (inheriting merge parent own n (parent c)) → P (when t then own c else merge (inheriting merge parent own n (parent c)) (own c))
       go true k = h c
       go false k = join (inheriting merge parent own n (parent c)) (own c) k (h c)
 
@@ -185,7 +185,7 @@ module _ (E N : ℕ) (O : Outside) (s : Sheet) (facts : SheetFacts (24 + N) s) (
 
   -- a function of the sheet has its row's number in the entry
   pub raised_row_lem : (r : ℕ) → 0 < r → r < rows s → raised_function O.base r ≡ r + 2048 * E
-  raised_row_lem r z l = ap (λ (t : Bool). if t then r + O.base else r - 2048) (lt-ltb r 2048 (omega arith)) ∙ ap (λ (k : ℕ). r + k) base
+  raised_row_lem r z l = ap (λ (t : Bool). when t then r + O.base else r - 2048) (lt-ltb r 2048 (omega arith)) ∙ ap (λ (k : ℕ). r + k) base
 
   pub own_function : (r : ℕ) → 0 < r → r < rows s → T (is_function E (r + 2048 * E))
   own_function r z l =
@@ -228,7 +228,7 @@ module _ (E N : ℕ) (O : Outside) (s : Sheet) (facts : SheetFacts (24 + N) s) (
             subst (λ (y : ℕ). T (is_name N y)) (sym q.2)
             (member_name_lem (child s (visited q.0.event)) (and_left (is s 54 (child s (visited q.0.event))) (eqb (class_of s (within s q.0)) r) f.1))))
 
-        go : (t : Bool) → GoodNames N (if t then distinct eqb (map (a s) (kids_of s 10 r) ++ registered s h r) else (record_of O c).fields)
+        go : (t : Bool) → GoodNames N (when t then distinct eqb (map (a s) (kids_of s 10 r) ++ registered s h r) else (record_of O c).fields)
         go true = (distinct_all (is_name N) (map (a s) (kids_of s 10 r) ++ registered s h r) all_names_lem, distinct_unlike (map (a s) (kids_of s 10 r) ++ registered s h r))
         go false =
             let x : ClassRecord = record_of O c in
@@ -287,7 +287,7 @@ module _ (E N : ℕ) (O : Outside) (s : Sheet) (facts : SheetFacts (24 + N) s) (
         same_names [] = refl
         same_names (k ∷ ks) = ap (λ (l : List ℕ). a s k ∷ l) (same_names ks)
 
-        go : (t : Bool) → of_sheet s c ≡ t → GoodMethods E N O.base (if t then map (method_at s) (kids_of s 6 r) else (record_of O c).methods)
+        go : (t : Bool) → of_sheet s c ≡ t → GoodMethods E N O.base (when t then map (method_at s) (kids_of s 6 r) else (record_of O c).methods)
         go true q =
             let hc : T (is s 4 r) = and_right (leb 256 c) (is s 4 r) (T_true (of_sheet s c) q) in (
               all_by (good_method E N O.base) (map (method_at s) (kids_of s 6 r)) (λ x m.

@@ -5,7 +5,7 @@ use mathlib.Core.List.{List, [], ◌∷◌, ◌++◌}
 use Prim.Native.Nat.{ℕ}
 use lib.ListN.{length}
 use lib.Dec.{leb, T}
-use Rattle.definition.specs.Basics.{if◌then◌else◌, all, any, unlike, filter}
+use Rattle.definition.specs.Basics.{when◌then◌else◌, all, any, unlike, filter}
 use Rattle.definition.specs.Names.{Name, fixed, listed, same_name, names_few, names_short, names_sized, names_ended, names_unlike, names_fit}
 use Rattle.definition.proofs.Lists.Tests.{and_both, and_left, and_right, T_true}
 use Rattle.session.specs.Session.{Session, all_names}
@@ -56,7 +56,7 @@ module _ {A : Type 0} where
   filter_all q [] = tt
   filter_all q (x ∷ xs) = go (q x) refl (filter_all q xs)
     where
-      go : (t : Bool) → q x ≡ t → T (all q (filter q xs)) → T (all q (if t then x ∷ filter q xs else filter q xs))
+      go : (t : Bool) → q x ≡ t → T (all q (filter q xs)) → T (all q (when t then x ∷ filter q xs else filter q xs))
       go true e h = and_both (q x) (all q (filter q xs)) (T_true (q x) e) h
       go false e h = h
 

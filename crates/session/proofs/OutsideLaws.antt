@@ -6,7 +6,7 @@ use Prim.Native.Nat.{ℕ, suc, ◌≤◌}
 use native.Mathlib.Omega.{arith}
 use lib.ListN.{length, length-append, length-map}
 use lib.Dec.{eqb, leb, T}
-use Rattle.definition.specs.Basics.{if◌then◌else◌, all, any, unlike, filter, distinct}
+use Rattle.definition.specs.Basics.{when◌then◌else◌, all, any, unlike, filter, distinct}
 use Rattle.definition.specs.Meaning.{Meaning, Named, named, nothing, function, class, global, toplevel, variable}
 use Rattle.definition.specs.Outside.{Method, OutsideFits, is_outward, core}
 use Rattle.definition.proofs.Lists.Tests.{and_both, and_left, and_right}
@@ -35,7 +35,7 @@ module _ {A : Type 0} where
   all_filter p q [] h = tt
   all_filter p q (x ∷ xs) h = go (q x) (all_filter p q xs (and_right (p x) (all p xs) h))
     where
-      go : (t : Bool) → T (all p (filter q xs)) → T (all p (if t then x ∷ filter q xs else filter q xs))
+      go : (t : Bool) → T (all p (filter q xs)) → T (all p (when t then x ∷ filter q xs else filter q xs))
       go true k = and_both (p x) (all p (filter q xs)) (and_left (p x) (all p xs) h) k
       go false k = k
 
@@ -49,7 +49,7 @@ module _ {A : Type 0} where
   filter_shorter q [] = omega arith
   filter_shorter q (x ∷ xs) = go (q x) (filter_shorter q xs)
     where
-      go : (t : Bool) → length (filter q xs) ≤ length xs → length (if t then x ∷ filter q xs else filter q xs) ≤ suc (length xs)
+      go : (t : Bool) → length (filter q xs) ≤ length xs → length (when t then x ∷ filter q xs else filter q xs) ≤ suc (length xs)
       go true h = omega arith
       go false h = omega arith
 
@@ -66,7 +66,7 @@ module _ {A : Type 0} where
   fewer p q [] h = tt
   fewer p q (x ∷ xs) h = go (q x) (p x) refl h (fewer p q xs)
     where
-      go : (t u : Bool) → p x ≡ u → T (not (u || any p xs)) → (T (not (any p xs)) → T (not (any p (filter q xs)))) → T (not (any p (if t then x ∷ filter q xs else filter q xs)))
+      go : (t u : Bool) → p x ≡ u → T (not (u || any p xs)) → (T (not (any p xs)) → T (not (any p (filter q xs)))) → T (not (any p (when t then x ∷ filter q xs else filter q xs)))
       go t true e h f = absurd h
       go true false e h f = subst (λ (u : Bool). T (not (u || any p (filter q xs)))) (sym e) (f h)
       go false false e h f = f h
@@ -75,7 +75,7 @@ module _ {A : Type 0} where
   apart_filter same q [] h = tt
   apart_filter same q (x ∷ xs) h = go (q x) (apart_filter same q xs (and_right (not (any (same x) xs)) (unlike same xs) h))
     where
-      go : (t : Bool) → T (unlike same (filter q xs)) → T (unlike same (if t then x ∷ filter q xs else filter q xs))
+      go : (t : Bool) → T (unlike same (filter q xs)) → T (unlike same (when t then x ∷ filter q xs else filter q xs))
       go true k = and_both (not (any (same x) (filter q xs))) (unlike same (filter q xs)) (fewer (same x) q xs (and_left (not (any (same x) xs)) (unlike same xs) h)) k
       go false k = k
 
@@ -96,7 +96,7 @@ none_left x [] = tt
 none_left x (y ∷ xs) = go (eqb x.name y.name) refl (none_left x xs)
   where
     go : (t : Bool) → eqb x.name y.name ≡ t → T (not (any (turned x) (filter (λ y. not (same_named x y)) xs)))
-        → T (not (any (turned x) (if not t then y ∷ filter (λ y. not (same_named x y)) xs else filter (λ y. not (same_named x y)) xs)))
+        → T (not (any (turned x) (when not t then y ∷ filter (λ y. not (same_named x y)) xs else filter (λ y. not (same_named x y)) xs)))
     go true q h = h
     go false q h = subst (λ (u : Bool). T (not (u || any (turned x) (filter (λ y. not (same_named x y)) xs)))) (sym (eqb_turned y.name x.name ∙ q)) h
 

@@ -7,7 +7,7 @@ use mathlib.Core.List.Memᴰ.{tail as there}
 use mathlib.Core.List.{List, [], ◌∷◌, ◌++◌, map, Memᴰ as Mem}
 use Prim.Native.Nat.{ℕ, zero, suc}
 use lib.Dec.{eqb, T}
-use Rattle.definition.specs.Basics.{if◌then◌else◌, all, filter, concat_map}
+use Rattle.definition.specs.Basics.{when◌then◌else◌, all, filter, concat_map}
 use Rattle.definition.specs.Sheet.{Sheet, a, is, child, kids, kids_of, rows}
 use Rattle.definition.specs.Meaning.{Meaning, Named, named}
 use Rattle.definition.specs.Outside.{Outside}
@@ -90,7 +90,7 @@ brings_none (visit r) = true
 abbrev Unbrought : Event → Type 0
 Unbrought e = T (brings_none e)
 
-choice : (t : Bool) {xs ys : List Event} → (T t → Every Unbrought xs) → Every Unbrought ys → Every Unbrought (if t then xs else ys)
+choice : (t : Bool) {xs ys : List Event} → (T t → Every Unbrought xs) → Every Unbrought ys → Every Unbrought (when t then xs else ys)
 choice true f g = f tt
 choice false f g = g
 

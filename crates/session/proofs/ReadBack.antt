@@ -8,7 +8,7 @@ use lib.ListN.{length, get_or, length-append, length-map, get_or-append, get_or-
 use lib.Seq.{get_or-append-add}
 use lib.Dec.{eqb, T}
 use borrow.Author.Tests.{ne_eqb}
-use Rattle.definition.specs.Basics.{if◌then◌else◌, all, from, concat_map, total}
+use Rattle.definition.specs.Basics.{when◌then◌else◌, all, from, concat_map, total}
 use Rattle.definition.specs.Names.{Name, listed}
 use Rattle.definition.specs.Meaning.{Meaning, Named, named, nothing, function, class, global, toplevel, variable}
 use Rattle.definition.specs.Outside.{Method, is_outward}
@@ -36,8 +36,8 @@ all_at p d (x ∷ xs) h (suc j) l = all_at p d xs (and_right (p x) (all p xs) h)
 -- a declaration's words read back
 laid_read : (x : Named) → T (is_outward x.means)
     → named (get_or (laid_words x) 0 0)
-    (if eqb (get_or (laid_words x) 1 0) 1 then function (get_or (laid_words x) 2 0)
-    else if eqb (get_or (laid_words x) 1 0) 2 then class (get_or (laid_words x) 2 0)
+    (when eqb (get_or (laid_words x) 1 0) 1 then function (get_or (laid_words x) 2 0)
+    else when eqb (get_or (laid_words x) 1 0) 2 then class (get_or (laid_words x) 2 0)
     else global (get_or (laid_words x) 2 0) (get_or (laid_words x) 3 0)) ≡ x
 laid_read x h = go x.means h
   where
@@ -46,8 +46,8 @@ laid_read x h = go x.means h
 
     go : (d : Meaning) → T (is_outward d)
         → named (get_or (laid_words (y d)) 0 0)
-        (if eqb (get_or (laid_words (y d)) 1 0) 1 then function (get_or (laid_words (y d)) 2 0)
-        else if eqb (get_or (laid_words (y d)) 1 0) 2 then class (get_or (laid_words (y d)) 2 0)
+        (when eqb (get_or (laid_words (y d)) 1 0) 1 then function (get_or (laid_words (y d)) 2 0)
+        else when eqb (get_or (laid_words (y d)) 1 0) 2 then class (get_or (laid_words (y d)) 2 0)
         else global (get_or (laid_words (y d)) 2 0) (get_or (laid_words (y d)) 3 0)) ≡ y d
     go nothing h = absurd h
     go (function f) h = refl
@@ -174,7 +174,7 @@ module _ (R : Room) (w n w' n' : List ℕ) (g : ℕ) (e : Accepted) (fit : runs_
   pub count_new : (c : ℕ) → c < 5 → count_after R w' n' (suc (get_or w 1 0)) c ≡ get_or (counts_with w e) c 0
   count_new c l =
       let q : suc (get_or w 1 0) - 1 ≡ get_or w 1 0 = omega arith in
-      ap (λ (t : Bool). if t then 0 else get_or w' (entry_place R (suc (get_or w 1 0) - 1) + c) 0) (ne_eqb (suc (get_or w 1 0)) 0 (λ z. omega arith))
+      ap (λ (t : Bool). when t then 0 else get_or w' (entry_place R (suc (get_or w 1 0) - 1) + c) 0) (ne_eqb (suc (get_or w 1 0)) 0 (λ z. omega arith))
       ∙ ap (λ (k : ℕ). get_or w' (entry_place R k + c) 0) q ∙ x.entry_new c l
 
   -- its part of a run

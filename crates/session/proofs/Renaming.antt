@@ -10,7 +10,7 @@ use native.Mathlib.Omega.{arith}
 use lib.ListN.{length, get_or, get_or-eq_default}
 use lib.Dec.{eqb, leb, ltb, T, T_not, eqb→eq}
 use borrow.Author.Tests.{le-leb, leb-true, ltb-true, ltb-false, not-true}
-use Rattle.definition.specs.Basics.{if◌then◌else◌, ◌⇒◌, every, all, any, count, unlike, filter, first, from, bit, concat_map, ◌∈?◌}
+use Rattle.definition.specs.Basics.{when◌then◌else◌, ◌⇒◌, every, all, any, count, unlike, filter, first, from, bit, concat_map, ◌∈?◌}
 use Rattle.definition.specs.Kind.{UNIT, CLASS, FUNCTION, FUNCTION_EXPORT, CONSTANT_EXPORT, FIELD, LET, CLASS_DECLARATION, LITERAL}
 use Rattle.definition.specs.Sheet.{Sheet, kind, next, child, file, a, b, rows, chain, kids, is, kids_of, holder}
 use Rattle.definition.specs.Shape.{Column, unread, up_to, name, row, global, mode, or_zero, holds, fits, one, only, shape_of}
@@ -44,8 +44,8 @@ pub record Renamed (ρ : ℕ → ℕ) (n m : ℕ) (s t : Sheet) : Type 0 where
   pub nexts : (r : ℕ) → next t r ≡ next s r
   pub childs : (r : ℕ) → child t r ≡ child s r
   pub files : (r : ℕ) → file t r ≡ file s r
-  pub as_are : (r : ℕ) → a t r ≡ (if holds_name (shape_of (kind s r)).a then ρ (a s r) else a s r)
-  pub bs_are : (r : ℕ) → b t r ≡ (if holds_name (shape_of (kind s r)).b then ρ (b s r) else b s r)
+  pub as_are : (r : ℕ) → a t r ≡ (when holds_name (shape_of (kind s r)).a then ρ (a s r) else a s r)
+  pub bs_are : (r : ℕ) → b t r ≡ (when holds_name (shape_of (kind s r)).b then ρ (b s r) else b s r)
   -- no name stays none, names stay names, and no two become one
   pub none : ρ 0 ≡ 0
   pub some : (x : ℕ) → 1 ≤ x → x ≤ n → (1 ≤ ρ x) × (ρ x ≤ m)
@@ -56,13 +56,13 @@ module _ {ρ : ℕ → ℕ} {n m : ℕ} {s t : Sheet} (e : Renamed ρ n m s t) w
   is_same k r = ap (λ (j : ℕ). eqb j k) (e.kinds r)
 
   pub a_plain : (k r : ℕ) → kind s r ≡ k → holds_name (shape_of k).a ≡ false → a t r ≡ a s r
-  a_plain k r q f = e.as_are r ∙ ap (λ (j : ℕ). if holds_name (shape_of j).a then ρ (a s r) else a s r) q ∙ ap (λ (u : Bool). if u then ρ (a s r) else a s r) f
+  a_plain k r q f = e.as_are r ∙ ap (λ (j : ℕ). when holds_name (shape_of j).a then ρ (a s r) else a s r) q ∙ ap (λ (u : Bool). when u then ρ (a s r) else a s r) f
 
   b_plain : (k r : ℕ) → kind s r ≡ k → holds_name (shape_of k).b ≡ false → b t r ≡ b s r
-  b_plain k r q f = e.bs_are r ∙ ap (λ (j : ℕ). if holds_name (shape_of j).b then ρ (b s r) else b s r) q ∙ ap (λ (u : Bool). if u then ρ (b s r) else b s r) f
+  b_plain k r q f = e.bs_are r ∙ ap (λ (j : ℕ). when holds_name (shape_of j).b then ρ (b s r) else b s r) q ∙ ap (λ (u : Bool). when u then ρ (b s r) else b s r) f
 
   a_named : (k r : ℕ) → kind s r ≡ k → holds_name (shape_of k).a ≡ true → a t r ≡ ρ (a s r)
-  a_named k r q f = e.as_are r ∙ ap (λ (j : ℕ). if holds_name (shape_of j).a then ρ (a s r) else a s r) q ∙ ap (λ (u : Bool). if u then ρ (a s r) else a s r) f
+  a_named k r q f = e.as_are r ∙ ap (λ (j : ℕ). when holds_name (shape_of j).a then ρ (a s r) else a s r) q ∙ ap (λ (u : Bool). when u then ρ (a s r) else a s r) f
 
   -- rows are linked alike
   chain_same : (i r : ℕ) → chain i t r ≡ chain i s r
@@ -92,15 +92,15 @@ module _ {ρ : ℕ → ℕ} {n m : ℕ} {s t : Sheet} (e : Renamed ρ n m s t) w
 
   module _ (up : List ℕ) where
     units_same : (u : List ℕ) (r : ℕ) → unit_entry t up u r ≡ unit_entry s up u r
-    units_same u r = ap (λ (x : Bool). if x then r else at u (at up r)) (is_same UNIT r)
+    units_same u r = ap (λ (x : Bool). when x then r else at u (at up r)) (is_same UNIT r)
 
     functions_same : (u : List ℕ) (r : ℕ) → function_entry t up u r ≡ function_entry s up u r
-    functions_same u r = ap (λ (x : Bool). if x then at up r else at u (at up r)) (is_same FUNCTION (at up r))
+    functions_same u r = ap (λ (x : Bool). when x then at up r else at u (at up r)) (is_same FUNCTION (at up r))
 
     classes_same : (u : List ℕ) (r : ℕ) → class_entry t up u r ≡ class_entry s up u r
     classes_same u r =
-        ap (λ (x : Bool). if x && is t CLASS (at up r) then at up r else at u (at up r)) (is_same FUNCTION r)
-        ∙ ap (λ (x : Bool). if is s FUNCTION r && x then at up r else at u (at up r)) (is_same CLASS (at up r))
+        ap (λ (x : Bool). when x && is t CLASS (at up r) then at up r else at u (at up r)) (is_same FUNCTION r)
+        ∙ ap (λ (x : Bool). when is s FUNCTION r && x then at up r else at u (at up r)) (is_same CLASS (at up r))
 
     table_same : (f g : List ℕ → ℕ → ℕ) → ((u : List ℕ) (r : ℕ) → f u r ≡ g u r) → (i : ℕ) → table f i ≡ table g i
     table_same f g h zero = refl
@@ -222,7 +222,7 @@ module _ {ρ : ℕ → ℕ} {n m : ℕ} {s t : Sheet} (e : Renamed ρ n m s t) w
     start_same : a t 0 ≡ a s 0
     start_same = a_of 0 0 refl header
 
-    holds_renamed : (c : Column) (v : ℕ) → T (holds s n c v) → T (holds t m c (if holds_name c then ρ v else v))
+    holds_renamed : (c : Column) (v : ℕ) → T (holds s n c v) → T (holds t m c (when holds_name c then ρ v else v))
     holds_renamed unread v h = tt
     holds_renamed (up_to k) v h = h
     holds_renamed name v h =
@@ -236,12 +236,12 @@ module _ {ρ : ℕ → ℕ} {n m : ℕ} {s t : Sheet} (e : Renamed ρ n m s t) w
     holds_renamed (or_zero c) v h = go (or_cases (eqb v 0) (holds s n c v) h) (holds_renamed c v)
       where
         v' : ℕ
-        v' = if holds_name c then ρ v else v
+        v' = when holds_name c then ρ v else v
 
         zero_stays : v ≡ 0 → v' ≡ 0
-        zero_stays q = ap (λ (x : ℕ). if holds_name c then ρ x else x) q ∙ by (holds_name c)
+        zero_stays q = ap (λ (x : ℕ). when holds_name c then ρ x else x) q ∙ by (holds_name c)
           where
-            by : (x : Bool) → (if x then ρ 0 else 0) ≡ 0
+            by : (x : Bool) → (when x then ρ 0 else 0) ≡ 0
             by true = e.none
             by false = refl
 

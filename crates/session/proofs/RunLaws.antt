@@ -8,7 +8,7 @@ use native.Mathlib.Numerals.{sub-one}
 use lib.ListN.{length, get_or, take, drop}
 use lib.Dec.{eqb, leb, T}
 use borrow.Author.Tests.{ne_eqb}
-use Rattle.definition.specs.Basics.{if◌then◌else◌, concat_map, distinct}
+use Rattle.definition.specs.Basics.{when◌then◌else◌, concat_map, distinct}
 use Rattle.definition.specs.Names.{fixed, listed}
 use Rattle.definition.specs.Meaning.{Named}
 use Rattle.definition.specs.Outside.{core}
@@ -56,13 +56,13 @@ module _ (M : Memory) (es : List Accepted) (h : Holding M es) where
         held =
             ap (λ (Z : Session). Z.entries) (after_held M.words M.bytes s ns lent h.fits)
             ∙ by (eqb (entered S s ns lent).number 0) (leb 5 (entered S s ns lent).number && leb (entered S s ns lent).number 21) (entered S s ns lent).globals _
-            ∙ ap (λ (o : Outcome). backward (stacked es ((if eqb o.number 0 then accepted (new_entry S s ns) else refusal) ∷ [])))
+            ∙ ap (λ (o : Outcome). backward (stacked es ((when eqb o.number 0 then accepted (new_entry S s ns) else refusal) ∷ [])))
             (sym (outcome_in whole (omega arith) (omega arith) M.words M.bytes h.fits s ns lent));
       }
     where
       by : (t u : Bool) (g k : ℕ)
-          → (if t then record { globals = g; entries = S.entries ++ new_entry S s ns ∷ [] } else if u then record { globals = k; entries = S.entries } else S).entries
-          ≡ backward (stacked es ((if t then accepted (new_entry S s ns) else refusal) ∷ []))
+          → (when t then record { globals = g; entries = S.entries ++ new_entry S s ns ∷ [] } else when u then record { globals = k; entries = S.entries } else S).entries
+          ≡ backward (stacked es ((when t then accepted (new_entry S s ns) else refusal) ∷ []))
       by true u g k = ap (λ (l : List Accepted). l ++ new_entry S s ns ∷ []) h.held
       by false true g k = h.held
       by false false g k = h.held
@@ -76,12 +76,12 @@ module _ (M : Memory) (es : List Accepted) (h : Holding M es) where
     where
       -- the question that gets a no, by whether the session fits and has no entry
       no : Bool → Bool → ℕ
-      no f t = if not f then 23 else if t then 25 else 0
+      no f t = when not f then 23 else when t then 25 else 0
 
       after : Bool → Bool → Session
-      after f t = session_in whole (if eqb (no f t) 0 then showing (withdrawn S) (words_without whole M.words M.bytes) else M.words) M.bytes
+      after f t = session_in whole (when eqb (no f t) 0 then showing (withdrawn S) (words_without whole M.words M.bytes) else M.words) M.bytes
 
-      by : (f t : Bool) → f ≡ true → after f t ≡ withdrawn S → (after f t).entries ≡ backward (stacked es ((if eqb (no f t) 0 then withdrew else refusal) ∷ []))
+      by : (f t : Bool) → f ≡ true → after f t ≡ withdrawn S → (after f t).entries ≡ backward (stacked es ((when eqb (no f t) 0 then withdrew else refusal) ∷ []))
       by true true q k = h.held
       by true false q k = ap (λ (Z : Session). Z.entries) k ∙ ap (λ (l : List Accepted). take (length l - 1) l) h.held ∙ popped es
       by false t q k = absurd (subst T (sym q) tt)

@@ -6,7 +6,7 @@ use Prim.Native.Nat.{ℕ, suc, ◌+◌, ◌-◌, ◌≤◌}
 use native.Mathlib.Omega.{arith}
 use lib.ListN.{get_or}
 use lib.Dec.{eqb}
-use Rattle.definition.specs.Basics.{if◌then◌else◌, any, every, from}
+use Rattle.definition.specs.Basics.{when◌then◌else◌, any, every, from}
 use Rattle.definition.specs.Outside.{is_recorded, core}
 use Rattle.definition.proofs.Lists.Members.{map_same}
 use Rattle.session.specs.Session.{Class}
@@ -16,7 +16,7 @@ use Rattle.session.proofs.Extended.{method_from, total_same, any_same, class_lis
 
 module _ (R : Room) (w n v : List ℕ) (globals : get_or v 0 0 ≡ get_or w 0 0) (later : (p : ℕ) → 8 ≤ p → get_or v p 0 ≡ get_or w p 0) where
   pub count_same : (e c : ℕ) → count_after R v n e c ≡ count_after R w n e c
-  count_same e c = ap (λ (x : ℕ). if eqb e 0 then 0 else x) (later (entry_place R (e - 1) + c) (omega arith))
+  count_same e c = ap (λ (x : ℕ). when eqb e 0 then 0 else x) (later (entry_place R (e - 1) + c) (omega arith))
 
   pub part_same : (e c : ℕ) → part_of R v n e c ≡ part_of R w n e c
   part_same e c = rw (count_same e c, count_same (suc e) c)

@@ -10,7 +10,7 @@ use native.Mathlib.Omega.{arith}
 use lib.ListN.{length, get_or, length-append, length-map}
 use lib.Dec.{eqb, leb, T, eqb→eq}
 use borrow.Author.Tests.{le-leb, leb-true}
-use Rattle.definition.specs.Basics.{if◌then◌else◌, all, unlike, from, concat_map, total}
+use Rattle.definition.specs.Basics.{when◌then◌else◌, all, unlike, from, concat_map, total}
 use Rattle.definition.specs.Meaning.{Named, function, class, global}
 use Rattle.definition.specs.Outside.{is_outward}
 use Rattle.definition.proofs.Lists.Tests.{and_both, and_left, and_right, T_true, true_of, pick, eqb_of, ℕ-trichotomy}
@@ -169,7 +169,7 @@ module _ (R : Room) (w n : List ℕ) (fit : T (runs_fit R w n)) where
       x : ℕ
       x = get_or w (laid_place R i + 2) 0
 
-      go : (t u : Bool) → T (is_outward (if t then function x else if u then class x else global x (get_or w (laid_place R i + 3) 0)))
+      go : (t u : Bool) → T (is_outward (when t then function x else when u then class x else global x (get_or w (laid_place R i + 3) 0)))
       go true u = tt
       go false true = tt
       go false false = tt

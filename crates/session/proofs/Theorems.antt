@@ -9,7 +9,7 @@ use lib.ListN.{length, get_or, set, take, replicate, length-append, length-set, 
 use lib.Seq.{get_or-set_same, get_or-set_other}
 use lib.Dec.{eqb, leb}
 use borrow.Author.Tests.{le-leb}
-use Rattle.definition.specs.Basics.{if◌then◌else◌, every, concat_map, from}
+use Rattle.definition.specs.Basics.{when◌then◌else◌, every, concat_map, from}
 use Rattle.definition.specs.Kind.{IMPORT}
 use Rattle.definition.specs.Names.{Name, fixed, listed, names_fit, name_count}
 use Rattle.definition.specs.Sheet.{Sheet, kind, next, child, file, line, column, a, b, kids, kids_of, rows}
@@ -51,7 +51,7 @@ module _ (ns : List ℕ) (fit : names_fit ns ≡ true) where
       ap (λ (f : ℕ → List ℕ). concat_map f (from 0 (rows s))) (fun_ext row)
       ∙ rows_whole (rows s) s (whole_rows s whole)
     where
-      kept : (t : Bool) (n : ℕ) → (if t then to_session fresh ns n else n) ≡ n
+      kept : (t : Bool) (n : ℕ) → (when t then to_session fresh ns n else n) ≡ n
       kept true n = fresh_number n
       kept false n = refl
 
@@ -61,15 +61,15 @@ module _ (ns : List ℕ) (fit : names_fit ns ≡ true) where
           ∙ ap (λ (x : ℕ). kind s r ∷ next s r ∷ child s r ∷ file s r ∷ line s r ∷ column s r ∷ a s r ∷ x ∷ []) (kept (holds_name (shape_of (kind s r)).b) (b s r))
         where
           b' : ℕ
-          b' = if holds_name (shape_of (kind s r)).b then to_session fresh ns (b s r) else b s r
+          b' = when holds_name (shape_of (kind s r)).b then to_session fresh ns (b s r) else b s r
 
 -- what is asked of an entry after question 4, over an outcome x of questions 5 to 22
 settled : (to : ℕ → ℕ) (x : Outcome) (t : Bool) → to x.name ≡ x.name
-    → ((if not (eqb x.number 0) then renamed to x else if t then x else refused 24).number ≡ 24 → ⊥)
-    → (if not (eqb x.number 0) then renamed to x else if t then x else refused 24) ≡ x
+    → ((when not (eqb x.number 0) then renamed to x else when t then x else refused 24).number ≡ 24 → ⊥)
+    → (when not (eqb x.number 0) then renamed to x else when t then x else refused 24) ≡ x
 settled to x t e h = go (not (eqb x.number 0)) t h
   where
-    go : (u t : Bool) → ((if u then renamed to x else if t then x else refused 24).number ≡ 24 → ⊥) → (if u then renamed to x else if t then x else refused 24) ≡ x
+    go : (u t : Bool) → ((when u then renamed to x else when t then x else refused 24).number ≡ 24 → ⊥) → (when u then renamed to x else when t then x else refused 24) ≡ x
     go true t h = ap (λ (n : ℕ). renamed (λ m. n) x) e
     go false true h = refl
     go false false h = absurd (h refl)
@@ -95,11 +95,11 @@ fresh_plain s ns lent one none = go (rows_fit s) refl (names_fit ns) refl (sheet
     fits = rw (one, none, le-leb 0 (a s 0) (omega arith))
 
     go : (t : Bool) → rows_fit s ≡ t → (u : Bool) → names_fit ns ≡ u → (v w : Bool)
-        → ((if not t then refused 1 else if not u then refused 2 else if not v then refused 3 else if not w then refused 4
-        else if not (eqb (length (kids s 0)) 1 && eqb (length (kids_of s IMPORT (child s 0))) 0 && leb 0 (a s 0)) then refused 23 else inside).number ≡ 24 → ⊥)
-        → (if not t then refused 1 else if not u then refused 2 else if not v then refused 3 else if not w then refused 4
-        else if not (eqb (length (kids s 0)) 1 && eqb (length (kids_of s IMPORT (child s 0))) 0 && leb 0 (a s 0)) then refused 23 else inside)
-        ≡ (if not t then refused 1 else if not u then refused 2 else if not v then refused 3 else if not w then refused 4 else asked core lent s)
+        → ((when not t then refused 1 else when not u then refused 2 else when not v then refused 3 else when not w then refused 4
+        else when not (eqb (length (kids s 0)) 1 && eqb (length (kids_of s IMPORT (child s 0))) 0 && leb 0 (a s 0)) then refused 23 else inside).number ≡ 24 → ⊥)
+        → (when not t then refused 1 else when not u then refused 2 else when not v then refused 3 else when not w then refused 4
+        else when not (eqb (length (kids s 0)) 1 && eqb (length (kids_of s IMPORT (child s 0))) 0 && leb 0 (a s 0)) then refused 23 else inside)
+        ≡ (when not t then refused 1 else when not u then refused 2 else when not v then refused 3 else when not w then refused 4 else asked core lent s)
     go false e u f v w h = refl
     go true e false f v w h = refl
     go true e true f false w h = refl

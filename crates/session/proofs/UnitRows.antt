@@ -7,7 +7,7 @@ use Prim.Native.Nat.{ℕ, zero, suc, ◌<◌}
 use native.Mathlib.Omega.{arith}
 use lib.ListN.{length}
 use lib.Dec.{eqb, leb, T, eqb→eq}
-use Rattle.definition.specs.Basics.{if◌then◌else◌, ◌⇒◌, filter, all, head, ◌∈?◌}
+use Rattle.definition.specs.Basics.{when◌then◌else◌, ◌⇒◌, filter, all, head, ◌∈?◌}
 use Rattle.definition.specs.Sheet.{Sheet, kind, child, rows, chain, kids, kids_of, is}
 use Rattle.definition.specs.Shape.{Part, only, many}
 use Rattle.definition.specs.Walk.{is_part, parts}
@@ -59,7 +59,7 @@ module _ (s : Sheet) where
       let q = T_and (kind s x ∈? wide) (all (λ r. kind s r ∈? wide) xs) h in
       go (p (kind s x)) (by_kind (λ k. T (not (p k))) (kind s x) p3 p7 p8 p4 q.0) (none_of p p3 p7 p8 p4 xs q.1)
     where
-      go : (t : Bool) → T (not t) → filter (λ r. p (kind s r)) xs ≡ [] → (if t then x ∷ filter (λ r. p (kind s r)) xs else filter (λ r. p (kind s r)) xs) ≡ []
+      go : (t : Bool) → T (not t) → filter (λ r. p (kind s r)) xs ≡ [] → (when t then x ∷ filter (λ r. p (kind s r)) xs else filter (λ r. p (kind s r)) xs) ≡ []
       go true f e = absurd f
       go false f e = e
 

@@ -9,7 +9,7 @@ use lib.ListN.{length, get_or, set, take, length-append, length-set}
 use lib.Seq.{length-sets, get_or-set_same, get_or-set_other, take_at}
 use lib.Dec.{eqb, leb, leb→le}
 use borrow.Author.Tests.{eqb-true}
-use Rattle.definition.specs.Basics.{if◌then◌else◌, from, concat_map, total}
+use Rattle.definition.specs.Basics.{when◌then◌else◌, from, concat_map, total}
 use Rattle.definition.specs.Names.{Name, fixed, listed, names_fit}
 use Rattle.definition.proofs.Lists.Tests.{T_true, true_of, pick}
 use Rattle.machine.proofs.Words.{sets_out, sets_in}
@@ -73,7 +73,7 @@ module _ (R : Room) (w n : List ℕ) (fit : session_fits R w n ≡ true) where
 
   -- by whether an entry is left
   by_entries : (t : Bool) → eqb (get_or w 1 0) 0 ≡ t
-      → Holds R (if eqb (if t then 25 else 0) 0 then showing (withdrawn (session_in R w n)) (words_without R w n) else w) n (withdrawn (session_in R w n))
+      → Holds R (when eqb (when t then 25 else 0) 0 then showing (withdrawn (session_in R w n)) (words_without R w n) else w) n (withdrawn (session_in R w n))
   by_entries true q = record { fits = fit; held = sym (rw (eqb-true (get_or w 1 0) 0 q)) }
   by_entries false q = showing_holds R (words_without R w n) n without_runs
 
@@ -90,7 +90,7 @@ withdraw_other R w n p h = go (eqb (withdraw_no R w n) 0)
     cs : List ℕ
     cs = map (count_after R w n (get_or w 1 0 - 1)) (from 0 5)
 
-    go : (t : Bool) → get_or (if t then showing (withdrawn (session_in R w n)) (words_without R w n) else w) p 0 ≡ get_or w p 0
+    go : (t : Bool) → get_or (when t then showing (withdrawn (session_in R w n)) (words_without R w n) else w) p 0 ≡ get_or w p 0
     go true =
         get_or-set_other (words_without R w n) 2 p (names_shown (withdrawn (session_in R w n))) 0 (λ q. omega (arith, q))
         ∙ sets_out cs (set w 1 e) 3 p (inr (omega arith)) ∙ get_or-set_other w 1 p e 0 (λ q. omega (arith, q))
@@ -127,6 +127,6 @@ module _ (R : Room) (w n v m : List ℕ) (fit : runs_fit R w n ≡ true) (fit' :
       -- by whether the session's names fit, and their bytes
       told : Bool → List ℕ → Name
       told t b =
-          if own && leb 25 k then (if names_fit ns then get_or (listed ns) (k - 25) [] else [])
-          else if eqb k 0 || not t then []
+          when own && leb 25 k then (when names_fit ns then get_or (listed ns) (k - 25) [] else [])
+          else when eqb k 0 || not t then []
           else get_or (fixed ++ listed b) (k - 1) []

@@ -1,6 +1,6 @@
 -- What comes of entering a sheet into a session, and the session after it.
 use Rattle.std.specs.Prelude.{Bool, true, false, not, ◌&&◌, List, [], ◌∷◌, ◌++◌, map, ℕ, ◌+◌, length, eqb, leb}
-use Rattle.definition.specs.Basics.{if◌then◌else◌, filter, final, concat_map, from, head, bit}
+use Rattle.definition.specs.Basics.{when◌then◌else◌, filter, final, concat_map, from, head, bit}
 use Rattle.definition.specs.Kind.{IMPORT, CLASS, FUNCTION}
 use Rattle.definition.specs.Names.{names_fit, name_count}
 use Rattle.definition.specs.Sheet.{Sheet, child, a, b, rows, kids, is, kids_of}
@@ -110,24 +110,24 @@ module _ (S : Session) (s : Sheet) (ns : List ℕ) (lent : ℕ) where
   abbrev pub asked_in : Outcome
   asked_in =
       let x : Outcome = asked (outside_of S) lent (entry_sheet S ns s) in
-      if not (eqb x.number 0) then renamed (to_entry S ns) x
-      else if within (accepting x) then x
+      when not (eqb x.number 0) then renamed (to_entry S ns) x
+      else when within (accepting x) then x
       else refused 24
 
   -- the outcome of an entry into a session past question 23: 1 to 4 of the entry by itself, 23 of it, then the rest
   abbrev pub entered : Outcome
   entered =
-      if not (rows_fit s) then refused 1
-      else if not (names_fit ns) then refused 2
-      else if not (sheet_fits (name_count ns) s) then refused 3
-      else if not (depths_fit s) then refused 4
-      else if not (entry_fits S s) then refused 23
+      when not (rows_fit s) then refused 1
+      else when not (names_fit ns) then refused 2
+      else when not (sheet_fits (name_count ns) s) then refused 3
+      else when not (depths_fit s) then refused 4
+      else when not (entry_fits S s) then refused 23
       else asked_in
 
   -- the session after it: an accepted entry is added; after 5 to 21 the global count is the walk's next one; else nothing changes
   abbrev pub after_entry : Session
   after_entry =
-      if eqb entered.number 0 then accepting entered
-      else if leb 5 entered.number && leb entered.number 21
+      when eqb entered.number 0 then accepting entered
+      else when leb 5 entered.number && leb entered.number 21
       then record { globals = next_global (outside_of S) (entry_sheet S ns s); entries = S.entries }
       else S

@@ -1,6 +1,6 @@
 -- An entry's sheet with the session's name numbers: after it, document 01 is asked as of any sheet.
 use Rattle.std.specs.Prelude.{Bool, true, false, not, ◌&&◌, List, [], ◌∷◌, ◌++◌, ℕ, suc, ◌-◌, length, get_or, leb}
-use Rattle.definition.specs.Basics.{if◌then◌else◌, filter, any, place, from, concat_map}
+use Rattle.definition.specs.Basics.{when◌then◌else◌, filter, any, place, from, concat_map}
 use Rattle.definition.specs.Names.{Name, fixed, listed, same_name}
 use Rattle.definition.specs.Sheet.{Sheet, kind, next, child, file, line, column, a, b, rows}
 use Rattle.definition.specs.Shape.{Column, unread, up_to, name, row, global, mode, or_zero, shape_of}
@@ -20,7 +20,7 @@ names_with S ns = all_names S ++ new_names S ns
 
 -- the number in the list l of the name that has number n in the list k; a number that names nothing there, as 0, stays
 abbrev pub renumbered : List Name → List Name → ℕ → ℕ
-renumbered k l n = if leb 1 n && leb n (length k) then suc (place (same_name (get_or k (n - 1) [])) l) else n
+renumbered k l n = when leb 1 n && leb n (length k) then suc (place (same_name (get_or k (n - 1) [])) l) else n
 
 -- the session's number of the entry's name n, and the way back
 abbrev pub to_session : Session → List ℕ → ℕ → ℕ
@@ -43,8 +43,8 @@ holds_name (or_zero c) = holds_name c
 abbrev pub entry_row : Session → List ℕ → Sheet → ℕ → List ℕ
 entry_row S ns s r =
     kind s r ∷ next s r ∷ child s r ∷ file s r ∷ line s r ∷ column s r
-    ∷ (if holds_name (shape_of (kind s r)).a then to_session S ns (a s r) else a s r)
-    ∷ (if holds_name (shape_of (kind s r)).b then to_session S ns (b s r) else b s r)
+    ∷ (when holds_name (shape_of (kind s r)).a then to_session S ns (a s r) else a s r)
+    ∷ (when holds_name (shape_of (kind s r)).b then to_session S ns (b s r) else b s r)
     ∷ []
 
 -- the whole sheet so

@@ -1,6 +1,6 @@
 -- Runs of entries, refused entries and withdrawals, and the accepted entries that one leaves (request F-7 of document 02).
 use Rattle.std.specs.Prelude.{List, [], ◌∷◌, ℕ, drop, eqb}
-use Rattle.definition.specs.Basics.{if◌then◌else◌}
+use Rattle.definition.specs.Basics.{when◌then◌else◌}
 use Rattle.definition.specs.Sheet.{Sheet}
 use Rattle.session.specs.Session.{Accepted, backward}
 use Rattle.session.specs.Enter.{new_entry}
@@ -27,8 +27,8 @@ module _ (R : Room) where
   -- what a request does, by its outcome
   abbrev pub effect : Memory → Request → Effect
   effect M (entry s ns lent) =
-      if eqb (enter_outcome R M.words M.bytes s ns lent).number 0 then accepted (new_entry (session_in R M.words M.bytes) s ns) else refusal
-  effect M withdrawal = if eqb (withdraw_outcome R M.words M.bytes).number 0 then withdrew else refusal
+      when eqb (enter_outcome R M.words M.bytes s ns lent).number 0 then accepted (new_entry (session_in R M.words M.bytes) s ns) else refusal
+  effect M withdrawal = when eqb (withdraw_outcome R M.words M.bytes).number 0 then withdrew else refusal
 
   -- the words and bytes after it
   abbrev pub after_request : Memory → Request → Memory

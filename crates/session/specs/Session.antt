@@ -1,6 +1,6 @@
 -- A session: what the accepted entries left, and what an entry sees of it.
 use Rattle.std.specs.Prelude.{Bool, ◌&&◌, List, [], ◌∷◌, ◌++◌, map, ℕ, suc, ◌+◌, ◌*◌, length, eqb, leb, ltb}
-use Rattle.definition.specs.Basics.{if◌then◌else◌, concat_map, distinct, total}
+use Rattle.definition.specs.Basics.{when◌then◌else◌, concat_map, distinct, total}
 use Rattle.definition.specs.Names.{Name, fixed}
 use Rattle.definition.specs.Meaning.{Meaning, Named, named, nothing, function, class, global, toplevel, variable}
 use Rattle.definition.specs.Outside.{Outside, Method, ClassRecord, core}
@@ -67,7 +67,7 @@ past_rows n = n + 2048
 abbrev pub earlier : Meaning → Meaning
 earlier nothing = nothing
 earlier (function f) = function (past_rows f)
-earlier (class c) = class (if ltb c 256 then c else past_rows c)
+earlier (class c) = class (when ltb c 256 then c else past_rows c)
 earlier (global g m) = global g m
 earlier (toplevel r) = nothing
 earlier (variable r f) = nothing

@@ -1,7 +1,7 @@
 -- A withdrawal, request F-7 of document 02: the latest accepted entry is taken back. Its globals stay used, since a running script may hold values there.
 use Rattle.std.specs.Prelude.{Bool, not, List, map, ℕ, ◌-◌, length, get_or, set, take, eqb}
 use Rattle.std.proofs.lemmas.List.Edits.{sets}
-use Rattle.definition.specs.Basics.{if◌then◌else◌, any, from}
+use Rattle.definition.specs.Basics.{when◌then◌else◌, any, from}
 use Rattle.definition.specs.Outcome.{Outcome, refused}
 use Rattle.session.specs.Session.{Session, all_classes}
 use Rattle.session.specs.Words.{Room, count_after, session_in, session_fits, showing}
@@ -24,7 +24,7 @@ module _ (R : Room) (w n : List ℕ) where
 
   -- the question that gets a no, or 0: 23 for a bad session, then 25 if no entry is left
   abbrev pub withdraw_no : ℕ
-  withdraw_no = if not (session_fits R w n) then 23 else if eqb (get_or w 1 0) 0 then 25 else 0
+  withdraw_no = when not (session_fits R w n) then 23 else when eqb (get_or w 1 0) 0 then 25 else 0
 
   -- the outcome: position, name, rows and globals are 0, also where no question gets a no
   abbrev pub withdraw_outcome : Outcome
@@ -32,4 +32,4 @@ module _ (R : Room) (w n : List ℕ) where
 
   -- the words after it, with the names on show counted again
   abbrev pub withdraw_words : List ℕ
-  withdraw_words = if eqb withdraw_no 0 then showing (withdrawn (session_in R w n)) words_without else w
+  withdraw_words = when eqb withdraw_no 0 then showing (withdrawn (session_in R w n)) words_without else w

@@ -7,7 +7,7 @@
 -- fixed names and then the listed ones, each with its end.
 use Rattle.std.specs.Prelude.{Bool, not, ◌&&◌, ◌||◌, List, [], ◌∷◌, ◌++◌, map, ℕ, suc, ◌+◌, ◌-◌, ◌*◌, ◌/◌, length, get_or, set, take, drop, replicate, eqb, leb, ltb}
 use Rattle.std.proofs.lemmas.List.Edits.{sets}
-use Rattle.definition.specs.Basics.{if◌then◌else◌, all, any, every, unlike, from, concat_map, total}
+use Rattle.definition.specs.Basics.{when◌then◌else◌, all, any, every, unlike, from, concat_map, total}
 use Rattle.definition.specs.Names.{Name, fixed, listed, same_name, names_fit}
 use Rattle.definition.specs.Sheet.{Sheet}
 use Rattle.definition.specs.Meaning.{Meaning, Named, named, nothing, function, class, global, toplevel, variable}
@@ -57,7 +57,7 @@ module _ (R : Room) where
   module _ (w n : List ℕ) where
     -- count c after the first e entries: 0 names, 1 name bytes, 2 declarations, 3 classes, 4 members
     abbrev pub count_after : ℕ → ℕ → ℕ
-    count_after e c = if eqb e 0 then 0 else get_or w (entry_place (e - 1) + c) 0
+    count_after e c = when eqb e 0 then 0 else get_or w (entry_place (e - 1) + c) 0
 
     -- the numbers from what was there before entry e on to what was there after it
     abbrev pub part_of : ℕ → ℕ → List ℕ
@@ -73,7 +73,7 @@ module _ (R : Room) where
         let p : ℕ = laid_place i in
         let code : ℕ = get_or w (p + 1) 0 in
         named (get_or w p 0)
-        (if eqb code 1 then function (get_or w (p + 2) 0) else if eqb code 2 then class (get_or w (p + 2) 0) else global (get_or w (p + 2) 0) (get_or w (p + 3) 0))
+        (when eqb code 1 then function (get_or w (p + 2) 0) else when eqb code 2 then class (get_or w (p + 2) 0) else global (get_or w (p + 2) 0) (get_or w (p + 3) 0))
 
     -- how many fields and methods class i has, and how many members stand before its own
     abbrev pub fields_in : ℕ → ℕ
@@ -244,22 +244,22 @@ bytes_with w n e = sets n (length fixed_bytes + get_or w 4 0) (concat_map ended 
 -- Entering sheet s with names ns into the session of words w and bytes n, with a buffer of `lent` words: the outcome, and the words and bytes after it.
 module _ (R : Room) (w n : List ℕ) (s : Sheet) (ns : List ℕ) (lent : ℕ) where
   abbrev pub enter_outcome : Outcome
-  enter_outcome = if not (session_fits R w n) then refused 23 else entered (session_in R w n) s ns lent
+  enter_outcome = when not (session_fits R w n) then refused 23 else entered (session_in R w n) s ns lent
 
   abbrev pub enter_words : List ℕ
   enter_words =
-      if eqb enter_outcome.number 0
+      when eqb enter_outcome.number 0
       then showing (after_entry (session_in R w n) s ns lent) (words_with R w enter_outcome.globals (new_entry (session_in R w n) s ns))
-      else if leb 5 enter_outcome.number && leb enter_outcome.number 21 then set w 0 (after_entry (session_in R w n) s ns lent).globals
+      else when leb 5 enter_outcome.number && leb enter_outcome.number 21 then set w 0 (after_entry (session_in R w n) s ns lent).globals
       else w
 
   abbrev pub enter_bytes : List ℕ
-  enter_bytes = if eqb enter_outcome.number 0 then bytes_with w n (new_entry (session_in R w n) s ns) else n
+  enter_bytes = when eqb enter_outcome.number 0 then bytes_with w n (new_entry (session_in R w n) s ns) else n
 
 -- The text of name k, the session's or the entry's: fixed ones stand in the session's bytes. Empty for a number that is not there, and where the list that it
 -- stands in is refused.
 abbrev pub name_text : Room → List ℕ → List ℕ → List ℕ → Bool → ℕ → Name
 name_text R w n ns of_entry k =
-    if of_entry && leb 25 k then (if names_fit ns then get_or (listed ns) (k - 25) [] else [])
-    else if eqb k 0 || not (session_names_fit R w n) then []
+    when of_entry && leb 25 k then (when names_fit ns then get_or (listed ns) (k - 25) [] else [])
+    else when eqb k 0 || not (session_names_fit R w n) then []
     else get_or (fixed ++ listed (name_bytes R w n)) (k - 1) []

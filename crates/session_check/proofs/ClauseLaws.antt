@@ -7,7 +7,7 @@ use native.Mathlib.Omega.{arith}
 use lib.Dec.{eqb, leb, ltb, eqb→eq}
 use lib.ListN.{get_or}
 use borrow.Author.Tests.{eqb-true, not-true, not-false}
-use Rattle.definition.specs.Basics.{if◌then◌else◌, all, any, from, total}
+use Rattle.definition.specs.Basics.{when◌then◌else◌, all, any, from, total}
 use Rattle.definition.proofs.Lists.Tests.{T_true, and_right}
 use Rattle.session.specs.Words.{whole, laid_place, part_of, fields_in, methods_in, members_before, is_function_up_to, is_name_up_to, laid_fits}
 use Rattle.session_rows.specs.Rows.{after, number_of}
@@ -20,11 +20,11 @@ or_false false = refl
 
 -- a declaration by its code
 means_by : (k : ℕ) (F G M A L N : Bool)
-    → ((eqb k 1 && F && G && M) || (eqb k 2 && A && M) || (eqb k 3 && L && N)) ≡ (if eqb k 1 then F && G && M else if eqb k 2 then A && M else if eqb k 3 then L && N else false)
+    → ((eqb k 1 && F && G && M) || (eqb k 2 && A && M) || (eqb k 3 && L && N)) ≡ (when eqb k 1 then F && G && M else when eqb k 2 then A && M else when eqb k 3 then L && N else false)
 means_by k F G M A L N = go (eqb k 1) refl (eqb k 2) refl (eqb k 3) refl
   where
     go : (a : Bool) → eqb k 1 ≡ a → (b : Bool) → eqb k 2 ≡ b → (c : Bool) → eqb k 3 ≡ c
-        → ((a && F && G && M) || (b && A && M) || (c && L && N)) ≡ (if a then F && G && M else if b then A && M else if c then L && N else false)
+        → ((a && F && G && M) || (b && A && M) || (c && L && N)) ≡ (when a then F && G && M else when b then A && M else when c then L && N else false)
     go true x true y c z = absurd (omega (arith, eqb-true k 1 x, eqb-true k 2 y))
     go true x false y true z = absurd (omega (arith, eqb-true k 1 x, eqb-true k 3 z))
     go true x false y false z = or_false (F && G && M || false) ∙ or_false (F && G && M)

@@ -9,7 +9,7 @@ use lib.Dec.{eqb, leb, T}
 use lib.ListN.{length, get_or, set, replicate, length-set, length-replicate}
 use lib.Seq.{get_or-set_same, get_or-set_other}
 use borrow.Author.Tests.{eq-eqb, ne_eqb, leb-true}
-use Rattle.definition.specs.Basics.{if◌then◌else◌, all, any, unlike, from}
+use Rattle.definition.specs.Basics.{when◌then◌else◌, all, any, unlike, from}
 use Rattle.definition.proofs.Lists.Tests.{ℕ-trichotomy}
 use Rattle.session_check.specs.Clauses.{is_fresh, are_fresh, Under, member_name, names_apart}
 use Rattle.session_rows.proofs.RunLaws.{and_true, all_map, from_step, from_end}
@@ -135,11 +135,11 @@ module _ (w : List ℕ) (last v : ℕ) where
   left_done m a b l i = sym (ap (λ (xs : List ℕ). are_fresh last v m (map (member_name w) xs)) (from_end a b l)) ∙ i
 
 -- the marks after one name
-pub marked_if : (m u : List ℕ) (x v : ℕ) {t : Bool} → u ≡ (if t then set m x v else m) → t ≡ true → u ≡ set m x v
-marked_if m u x v e y = e ∙ ap (λ (b : Bool). if b then set m x v else m) y
+pub marked_if : (m u : List ℕ) (x v : ℕ) {t : Bool} → u ≡ (when t then set m x v else m) → t ≡ true → u ≡ set m x v
+marked_if m u x v e y = e ∙ ap (λ (b : Bool). when b then set m x v else m) y
 
-pub unmarked_if : (m u : List ℕ) (x v : ℕ) {t : Bool} → u ≡ (if t then set m x v else m) → t ≡ false → u ≡ m
-unmarked_if m u x v e y = e ∙ ap (λ (b : Bool). if b then set m x v else m) y
+pub unmarked_if : (m u : List ℕ) (x v : ℕ) {t : Bool} → u ≡ (when t then set m x v else m) → t ≡ false → u ≡ m
+unmarked_if m u x v e y = e ∙ ap (λ (b : Bool). when b then set m x v else m) y
 
 -- bounds of marks
 pub under_le : {m : List ℕ} {v u : ℕ} → Under m v → v ≤ u → Under m u

@@ -1,6 +1,6 @@
 -- The program's own order of question 23, second part: declarations, classes and members, each entry by itself.
 use Rattle.std.specs.Prelude.{Bool, true, false, not, ◌&&◌, ◌||◌, List, [], ◌∷◌, map, ℕ, suc, ◌+◌, ◌-◌, ◌/◌, ◌<◌, get_or, set, eqb, leb, ltb}
-use Rattle.definition.specs.Basics.{if◌then◌else◌, all, any, unlike, from}
+use Rattle.definition.specs.Basics.{when◌then◌else◌, all, any, unlike, from}
 use Rattle.session.specs.Words.{whole, class_place, member_place, part_of, fields_in, methods_in, members_before, is_function_up_to, is_name_up_to, is_class_up_to, laid_fits}
 use Rattle.session_rows.specs.Rows.{after, number_of, order_right}
 
@@ -48,9 +48,9 @@ members_right w e i x =
 -- is what a declaration of entry e means there: a function or class of the entry, or a global below the count?
 unfoldable pub means_right : List ℕ → ℕ → ℕ → ℕ → ℕ → Bool
 means_right w e code x m =
-    if eqb code 1 then is_function_up_to whole w [] e x && eqb (x / 2048) e && eqb m 0
-    else if eqb code 2 then any (λ j. eqb (number_of w j) x) (part_of whole w [] e 3) && eqb m 0
-    else if eqb code 3 then ltb x (get_or w 0 0) && leb m 1
+    when eqb code 1 then is_function_up_to whole w [] e x && eqb (x / 2048) e && eqb m 0
+    else when eqb code 2 then any (λ j. eqb (number_of w j) x) (part_of whole w [] e 3) && eqb m 0
+    else when eqb code 3 then ltb x (get_or w 0 0) && leb m 1
     else false
 
 -- is the parent of class i none, or another class of the entries up to e?

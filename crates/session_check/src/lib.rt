@@ -3,7 +3,7 @@
 #![tactic(auto)]
 
 ghost use Rattle.std.specs.Prelude.{◌≡◌, true, [], suc, ◌+◌, ◌-◌, ◌*◌, ◌^◌, ◌<◌, ◌≤◌, eqb, length, get_or, set, replicate};
-ghost use Rattle.definition.specs.Basics.{if◌then◌else◌, any, all, from};
+ghost use Rattle.definition.specs.Basics.{when◌then◌else◌, any, all, from};
 ghost use Rattle.definition.specs.Outside.{is_recorded, core};
 ghost use Rattle.session.specs.Words.{whole, part_of, fields_in, methods_in, members_before, is_class_up_to, laid_fits};
 ghost use Rattle.session_rows.specs.Rows.{after, number_of, Limited, Ordered};
@@ -117,7 +117,7 @@ fn declarations_fit(words: &[u32], e: usize) -> bool
 fn mark_name(x: usize, last: usize, mark: u32, marks: &mut [u32]) -> bool
     requires { last < length marks.old }
     ensures { (result ≡ is_fresh last mark marks.old x)
-        × (marks.new ≡ (if result then set marks.old x mark else marks.old)) }
+        × (marks.new ≡ (when result then set marks.old x mark else marks.old)) }
 {
     if !is_name(x, last) {
         return false;

@@ -8,7 +8,7 @@ use lib.Dec.{eqb}
 use lib.ListN.{length, get_or, take, drop, length-append}
 use lib.Seq.{get_or-take}
 use borrow.Author.Tests.{eq-eqb, ne_eqb, eqb-true, not-true, not-false}
-use Rattle.definition.specs.Basics.{if◌then◌else◌, concat_map}
+use Rattle.definition.specs.Basics.{when◌then◌else◌, concat_map}
 use Rattle.definition.specs.Names.{Name, listed, same_name, names_fit}
 use Rattle.definition.proofs.Lists.Tests.{T_true}
 use Rattle.names.specs.Listed.{starts_from, starts, numbered}
@@ -29,7 +29,7 @@ module _ {fits : Bool} {ns : List ℕ} {t i : List ℕ} where
   pub listing_no : fits ≡ false → Listing fits ns 0 t i
   listing_no e =
       record {
-        counted = sym (ap (λ (u : Bool). if u then length (listed ns) + 1 else 0) e);
+        counted = sym (ap (λ (u : Bool). when u then length (listed ns) + 1 else 0) e);
         few = omega arith;
         started = λ a. absurd (T_true false (sym e ∙ a));
         held = λ a. absurd (T_true false (sym e ∙ a));
@@ -38,14 +38,14 @@ module _ {fits : Bool} {ns : List ℕ} {t i : List ℕ} where
   pub listing_some : {k : ℕ} → Listing fits ns k t i → (k ≡ 0 → ⊥) → fits ≡ true
   listing_some {k} x f = go fits x.counted
     where
-      go : (u : Bool) → k ≡ (if u then length (listed ns) + 1 else 0) → u ≡ true
+      go : (u : Bool) → k ≡ (when u then length (listed ns) + 1 else 0) → u ≡ true
       go true e = refl
       go false e = absurd (f e)
 
   pub listing_none : {k : ℕ} → Listing fits ns k t i → k ≡ 0 → fits ≡ false
   listing_none {k} x z = go fits x.counted
     where
-      go : (u : Bool) → k ≡ (if u then length (listed ns) + 1 else 0) → u ≡ false
+      go : (u : Bool) → k ≡ (when u then length (listed ns) + 1 else 0) → u ≡ false
       go true e = absurd (omega arith)
       go false e = refl
 
@@ -53,7 +53,7 @@ module _ {fits : Bool} {ns : List ℕ} {t i : List ℕ} where
 pub listing_also : {fits also : Bool} {ns : List ℕ} {k : ℕ} {t i : List ℕ} → Listing fits ns k t i → fits ≡ true → also ≡ true → Listing also ns k t i
 listing_also {ns = ns} x e a =
     record {
-      counted = x.counted ∙ ap (λ (u : Bool). if u then length (listed ns) + 1 else 0) (e ∙ sym a);
+      counted = x.counted ∙ ap (λ (u : Bool). when u then length (listed ns) + 1 else 0) (e ∙ sym a);
       few = x.few;
       started = λ y. x.started e;
       held = λ y. x.held e;
@@ -85,22 +85,22 @@ module _ (w n : List ℕ) where
   pub names_no : {x : Bool} {s k m : ℕ} {t i : List ℕ} → x ≡ same → not x ≡ false → s ≡ get_or w 4 0 → Indexed (take s (drop 168 n)) k t i → m ≡ get_or w 3 0 → (k ≡ m + 1 → ⊥)
       → session_names_fit whole w n ≡ false
   names_no {k = k} {m = m} e y a ix b f =
-      rest_of e y ∙ go (names_fit ns) (ix.counted ∙ ap (λ (l : List ℕ). if names_fit l then length (listed l) + 1 else 0) (part_is a))
+      rest_of e y ∙ go (names_fit ns) (ix.counted ∙ ap (λ (l : List ℕ). when names_fit l then length (listed l) + 1 else 0) (part_is a))
     where
-      go : (u : Bool) → k ≡ (if u then length (listed ns) + 1 else 0) → (u && eqb (length (listed ns)) (get_or w 3 0)) ≡ false
+      go : (u : Bool) → k ≡ (when u then length (listed ns) + 1 else 0) → (u && eqb (length (listed ns)) (get_or w 3 0)) ≡ false
       go true c = ne_eqb (length (listed ns)) (get_or w 3 0) (λ z. f (omega arith))
       go false c = refl
 
   pub names_yes : {x : Bool} {s k m : ℕ} {t i : List ℕ} → x ≡ same → not x ≡ false → s ≡ get_or w 4 0 → Indexed (take s (drop 168 n)) k t i → m ≡ get_or w 3 0 → k ≡ m + 1
       → Listing (session_names_fit whole w n) ns k t i
   names_yes {x} {s} {k} {m} {t} {i} e y a ix b f =
-      go (names_fit ns) refl (ix.counted ∙ ap (λ (l : List ℕ). if names_fit l then length (listed l) + 1 else 0) (part_is a))
+      go (names_fit ns) refl (ix.counted ∙ ap (λ (l : List ℕ). when names_fit l then length (listed l) + 1 else 0) (part_is a))
     where
-      go : (u : Bool) → names_fit ns ≡ u → k ≡ (if u then length (listed ns) + 1 else 0) → Listing (session_names_fit whole w n) ns k t i
+      go : (u : Bool) → names_fit ns ≡ u → k ≡ (when u then length (listed ns) + 1 else 0) → Listing (session_names_fit whole w n) ns k t i
       go true z c =
           let p : session_names_fit whole w n ≡ true = rest_of e y ∙ ap (λ (u : Bool). u && eqb (length (listed ns)) (get_or w 3 0)) z ∙ eq-eqb (length (listed ns)) (get_or w 3 0) (omega arith) in
           record {
-            counted = c ∙ sym (ap (λ (u : Bool). if u then length (listed ns) + 1 else 0) p);
+            counted = c ∙ sym (ap (λ (u : Bool). when u then length (listed ns) + 1 else 0) p);
             few = ix.few;
             started = λ h. ix.started (ap names_fit (part_is a) ∙ z) ∙ ap starts (part_is a);
             held = λ h. ix.held (ap names_fit (part_is a) ∙ z) ∙ ap (λ (l : List ℕ). index_of (numbered l)) (part_is a);
@@ -111,7 +111,7 @@ module _ (w n : List ℕ) where
   pub start_bytes : {k : ℕ} {t i : List ℕ} → Listing (session_names_fit whole w n) ns k t i → session_names_fit whole w n ≡ true → (j : ℕ) → j ≤ get_or w 3 0
       → get_or t j 0 ≡ bytes_of whole w n j
   start_bytes {k} {t} {i} x y j l =
-      let c : k ≡ length (listed ns) + 1 = x.counted ∙ ap (λ (u : Bool). if u then length (listed ns) + 1 else 0) y in
+      let c : k ≡ length (listed ns) + 1 = x.counted ∙ ap (λ (u : Bool). when u then length (listed ns) + 1 else 0) y in
       let h : length (listed ns) ≡ get_or w 3 0 = eqb-true (length (listed ns)) (get_or w 3 0) (right (same && names_fit ns) (eqb (length (listed ns)) (get_or w 3 0)) y) in
       omega (arith, get_or-take k t j 0 (omega arith), ap (λ (u : List ℕ). get_or u j 0) (x.started y), start_at (listed ns) 0 j (omega arith))
     where

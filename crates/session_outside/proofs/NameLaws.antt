@@ -10,7 +10,7 @@ use lib.ListN.{length, get_or, set, drop, length-set, drop_of_length-le}
 use lib.Seq.{sets, get_or-set_same, get_or-set_other, drop-cons}
 use lib.Dec.{eqb, ltb}
 use borrow.Author.Tests.{eq-eqb, ne_eqb, eqb-true, eqb-false}
-use Rattle.definition.specs.Basics.{if◌then◌else◌, filter, distinct, concat_map, from}
+use Rattle.definition.specs.Basics.{when◌then◌else◌, filter, distinct, concat_map, from}
 use Rattle.definition.specs.Meaning.{Meaning, Named, named, nothing, function, class, global}
 use Rattle.definition.specs.Outside.{core}
 use Rattle.definition.proofs.Lists.Members.{map_append}
@@ -42,8 +42,8 @@ module _ (i : ℕ) (m w : List ℕ) (y : Named) (ys : List Named) where
       same_rows (omega arith) (stored (concat_map name_row (map seen rest)))
       ∙ sym (ap
       (λ (t : Bool). record {
-        end = i + length (if t then y ∷ rest else firsts m ys);
-        words = sets w (8 * i) (concat_map name_row (map seen (if t then y ∷ rest else firsts m ys)));
+        end = i + length (when t then y ∷ rest else firsts m ys);
+        words = sets w (8 * i) (concat_map name_row (map seen (when t then y ∷ rest else firsts m ys)));
       }) (eq-eqb (get_or m y.name 0) 0 h))
 
 -- the same of a name told by words
@@ -90,9 +90,9 @@ filter_two p q r h [] = refl
 filter_two p q r h (y ∷ ys) = go (q y) (h y) (filter_two p q r h ys)
   where
     go : (s : Bool) → r y ≡ (s && p y) → filter r ys ≡ filter p (filter q ys)
-        → (if r y then y ∷ filter r ys else filter r ys) ≡ filter p (if s then y ∷ filter q ys else filter q ys)
-    go true e i = ap (λ (b : Bool). if b then y ∷ filter r ys else filter r ys) e ∙ ap (λ (l : List Named). if p y then y ∷ l else l) i
-    go false e i = ap (λ (b : Bool). if b then y ∷ filter r ys else filter r ys) e ∙ i
+        → (when r y then y ∷ filter r ys else filter r ys) ≡ filter p (when s then y ∷ filter q ys else filter q ys)
+    go true e i = ap (λ (b : Bool). when b then y ∷ filter r ys else filter r ys) e ∙ ap (λ (l : List Named). when p y then y ∷ l else l) i
+    go false e i = ap (λ (b : Bool). when b then y ∷ filter r ys else filter r ys) e ∙ i
 
 abbrev pub same_name : Named → Named → Bool
 same_name x y = eqb x.name y.name
@@ -130,8 +130,8 @@ firsts_are (x ∷ xs) m l =
     other y = not (same_name x y)
 
     go : (t : Bool) → unmarked m x ≡ t → firsts (set m x.name 1) xs ≡ filter (unmarked (set m x.name 1)) ds → firsts m xs ≡ filter (unmarked m) ds
-        → (if t then x ∷ firsts (set m x.name 1) xs else firsts m xs)
-        ≡ (if t then x ∷ filter (unmarked m) (filter other ds) else filter (unmarked m) (filter other ds))
+        → (when t then x ∷ firsts (set m x.name 1) xs else firsts m xs)
+        ≡ (when t then x ∷ filter (unmarked m) (filter other ds) else filter (unmarked m) (filter other ds))
     go true e i j =
         ap (λ (ys : List Named). x ∷ ys)
         (i ∙ filter_two (unmarked m) other (unmarked (set m x.name 1)) (λ y. marked_more m x y (l x (here refl))) ds)
@@ -142,8 +142,8 @@ module _ (w : List ℕ) (i : ℕ) {n k x : ℕ} (en : n ≡ get_or w (laid_place
     (ex : x ≡ get_or w (laid_place whole i + 2) 0) where
   means : Bool → Bool → Meaning
   means t u =
-      if t then function (get_or w (laid_place whole i + 2) 0)
-      else if u then class (get_or w (laid_place whole i + 2) 0)
+      when t then function (get_or w (laid_place whole i + 2) 0)
+      else when u then class (get_or w (laid_place whole i + 2) 0)
       else global (get_or w (laid_place whole i + 2) 0) (get_or w (laid_place whole i + 3) 0)
 
   row : Bool → Bool → List ℕ
@@ -155,12 +155,12 @@ module _ (w : List ℕ) (i : ℕ) {n k x : ℕ} (en : n ≡ get_or w (laid_place
       let z : n ∷ 1 ∷ (x + 2048) ∷ 0 ∷ 0 ∷ 0 ∷ 0 ∷ 0 ∷ [] ≡ row true false = cc in
       z ∙ sym (ap (λ (t : Bool). row t (eqb (get_or w (laid_place whole i + 1) 0) 2)) (eq-eqb (get_or w (laid_place whole i + 1) 0) 1 (sym ek ∙ h)))
 
-  pub class_told : (k ≡ 1 → ⊥) → k ≡ 2 → {y : ℕ} → y ≡ (if ltb x 256 then x else past_rows x)
+  pub class_told : (k ≡ 1 → ⊥) → k ≡ 2 → {y : ℕ} → y ≡ (when ltb x 256 then x else past_rows x)
       → n ∷ 2 ∷ y ∷ 0 ∷ 0 ∷ 0 ∷ 0 ∷ 0 ∷ [] ≡ name_row (seen (laid_in whole w [] i))
   unfolding name_row row means
   class_told g h {y} e =
-      let f : y ≡ (if ltb (get_or w (laid_place whole i + 2) 0) 256 then get_or w (laid_place whole i + 2) 0 else past_rows (get_or w (laid_place whole i + 2) 0)) =
-      e ∙ ap (λ (j : ℕ). if ltb j 256 then j else past_rows j) ex in
+      let f : y ≡ (when ltb (get_or w (laid_place whole i + 2) 0) 256 then get_or w (laid_place whole i + 2) 0 else past_rows (get_or w (laid_place whole i + 2) 0)) =
+      e ∙ ap (λ (j : ℕ). when ltb j 256 then j else past_rows j) ex in
       let z : n ∷ 2 ∷ y ∷ 0 ∷ 0 ∷ 0 ∷ 0 ∷ 0 ∷ [] ≡ row false true = cc in
       z ∙ sym (ap (λ (t : Bool). row t (eqb (get_or w (laid_place whole i + 1) 0) 2)) (ne_eqb (get_or w (laid_place whole i + 1) 0) 1 (λ q. g (ek ∙ q)))
       ∙ ap (row false) (eq-eqb (get_or w (laid_place whole i + 1) 0) 2 (sym ek ∙ h)))

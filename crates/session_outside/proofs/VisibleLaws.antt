@@ -12,7 +12,7 @@ use lib.ListN.{length, get_or, replicate, length-append, length-map, length-repl
 use lib.Dec.{eqb, leb, T}
 use lib.Seq.{sets}
 use borrow.Author.Tests.{leb-true}
-use Rattle.definition.specs.Basics.{if◌then◌else◌, all, distinct, concat_map, from}
+use Rattle.definition.specs.Basics.{when◌then◌else◌, all, distinct, concat_map, from}
 use Rattle.definition.specs.Meaning.{Named, function, class, global}
 use Rattle.definition.specs.Outside.{is_outward, core}
 use Rattle.definition.proofs.Lists.Tests.{and_both, and_left, and_right, true_of, T_true}
@@ -55,7 +55,7 @@ laid_outward w i = go (eqb (get_or w (laid_place whole i + 1) 0) 1) (eqb (get_or
     x : ℕ
     x = get_or w (laid_place whole i + 2) 0
 
-    go : (t u : Bool) → T (is_outward (earlier (if t then function x else if u then class x else global x (get_or w (laid_place whole i + 3) 0))))
+    go : (t u : Bool) → T (is_outward (earlier (when t then function x else when u then class x else global x (get_or w (laid_place whole i + 3) 0))))
     go true u = tt
     go false true = tt
     go false false = tt

@@ -1,7 +1,7 @@
 -- The words of an outside, and how those of a session's names come about.
 use Rattle.std.specs.Prelude.{List, [], ◌∷◌, ◌++◌, map, ℕ, suc, ◌+◌, ◌-◌, ◌*◌, length, get_or, set, eqb}
 use Rattle.std.proofs.lemmas.List.Edits.{sets}
-use Rattle.definition.specs.Basics.{if◌then◌else◌, concat_map, distinct, from}
+use Rattle.definition.specs.Basics.{when◌then◌else◌, concat_map, distinct, from}
 use Rattle.definition.specs.Meaning.{Named, named, nothing}
 use Rattle.definition.specs.Outside.{Outside, Method, ClassRecord, core}
 use Rattle.session.specs.Session.{backward, earlier, past_rows, earlier_record}
@@ -48,7 +48,7 @@ seen x = named x.name (earlier x.means)
 -- the first of each name that has no mark
 unfoldable pub firsts : List ℕ → List Named → List Named
 firsts marks [] = []
-firsts marks (x ∷ xs) = if eqb (get_or marks x.name 0) 0 then x ∷ firsts (set marks x.name 1) xs else firsts marks xs
+firsts marks (x ∷ xs) = when eqb (get_or marks x.name 0) 0 then x ∷ firsts (set marks x.name 1) xs else firsts marks xs
 
 -- Rows of names: the row after the last, and the words.
 pub record NameRows : Type 0 where

@@ -1,7 +1,7 @@
 // The visible names: the latest declaration of each name, and the core names that no declaration hides.
 ghost use Rattle.std.specs.Prelude.{◌≡◌, List, [], ◌∷◌, suc, ◌+◌, ◌*◌, ◌<◌, ◌≤◌, length, get_or, replicate, ltb};
 ghost use Rattle.std.proofs.lemmas.List.Edits.{sets};
-ghost use Rattle.definition.specs.Basics.{if◌then◌else◌, concat_map};
+ghost use Rattle.definition.specs.Basics.{when◌then◌else◌, concat_map};
 ghost use Rattle.definition.specs.Meaning.{Named};
 ghost use Rattle.definition.specs.Outside.{core};
 ghost use Rattle.session.specs.Session.{past_rows};
@@ -46,7 +46,7 @@ struct SeenName {
 // A class's number in an entry's walk; those of the core stay.
 fn earlier_class(c: u32) -> u32
     requires { c < 4294965248 }
-    ensures { result ≡ (if ltb c 256 then c else past_rows c) }
+    ensures { result ≡ (when ltb c 256 then c else past_rows c) }
 {
     if c < FIRST_CLASS {
         c

@@ -8,7 +8,7 @@ use native.Mathlib.Omega.{arith}
 use lib.Dec.{eqb, leb, ltb, T, T_not, eqb→eq, leb→le, ltb→lt}
 use lib.ListN.{length, get_or}
 use borrow.Author.Tests.{eq-eqb, ne_eqb}
-use Rattle.definition.specs.Basics.{if◌then◌else◌, all, from}
+use Rattle.definition.specs.Basics.{when◌then◌else◌, all, from}
 use Rattle.definition.proofs.Lists.Counts.{all_below}
 use Rattle.definition.proofs.Lists.Tests.{T_and, T_true, true_of, or_cases, ℕ-trichotomy}
 use Rattle.session.specs.Words.{whole, counts_fit, is_function_up_to}
@@ -39,7 +39,7 @@ module _ (w n : List ℕ) where
 pub after_suc : (w : List ℕ) (e c : ℕ) → after w (suc e) c ≡ get_or w (8 + 5 * e + c) 0
 after_suc w e c =
     let k : suc e - 1 ≡ e = omega arith in
-    ap (λ (t : Bool). if t then 0 else get_or w (8 + 5 * (suc e - 1) + c) 0) (ne_eqb (suc e) 0 (λ z. omega arith)) ∙ ap (λ (i : ℕ). get_or w (8 + 5 * i + c) 0) k
+    ap (λ (t : Bool). when t then 0 else get_or w (8 + 5 * (suc e - 1) + c) 0) (ne_eqb (suc e) 0 (λ z. omega arith)) ∙ ap (λ (i : ℕ). get_or w (8 + 5 * i + c) 0) k
 
 pub after_before : (w : List ℕ) (e c : ℕ) → (e ≡ 0 → ⊥) → after w (suc (e - 1)) c ≡ after w e c
 after_before w e c f = ap (λ (i : ℕ). after w i c) (back e f)

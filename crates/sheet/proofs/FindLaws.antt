@@ -6,7 +6,7 @@ use Prim.Native.Nat.{ℕ, zero, suc, ◌+◌, ◌-◌, ◌<◌, ◌≤◌}
 use native.Mathlib.Omega.{arith}
 use lib.Dec.{eqb, leb}
 use borrow.Author.Tests.{eq-eqb, ne_eqb, eqb-true, eqb-false, le-leb, lt-leb, leb-true}
-use Rattle.definition.specs.Basics.{if◌then◌else◌, filter, first, head, ◌∈?◌}
+use Rattle.definition.specs.Basics.{when◌then◌else◌, filter, first, head, ◌∈?◌}
 use Rattle.definition.specs.Sheet.{Sheet, kind, next, child, a, b, rows, is, kids_of}
 use Rattle.definition.specs.Meaning.{Meaning, Named, named, nothing, function, class, global}
 use Rattle.definition.specs.Outside.{Method}
@@ -36,11 +36,11 @@ module _ (s : Sheet) (j m : ℕ) where
   searched (suc n) zero = none
   searched (suc n) (suc k) = by_kind (is s j (suc k)) (chain_of s j n (next s (suc k))) refl (searched n (next s (suc k)))
     where
-      by_name : (u : Bool) (ks : List ℕ) → kind s (suc k) ≡ j → Searched s j ks → Searched s j (if u then suc k ∷ ks else ks)
+      by_name : (u : Bool) (ks : List ℕ) → kind s (suc k) ≡ j → Searched s j ks → Searched s j (when u then suc k ∷ ks else ks)
       by_name true ks e h = some (suc k) ks (λ z. omega arith) e
       by_name false ks e h = h
 
-      by_kind : (t : Bool) (ks : List ℕ) → is s j (suc k) ≡ t → Searched s j (all_named s m ks) → Searched s j (all_named s m (if t then suc k ∷ ks else ks))
+      by_kind : (t : Bool) (ks : List ℕ) → is s j (suc k) ≡ t → Searched s j (all_named s m ks) → Searched s j (all_named s m (when t then suc k ∷ ks else ks))
       by_kind true ks e h = by_name (eqb (a s (suc k)) m) (all_named s m ks) (eqb-true (kind s (suc k)) j e) h
       by_kind false ks e h = h
 
@@ -67,7 +67,7 @@ module _ {ℓ} {A : Type ℓ} (s : Sheet) (m : ℕ) (q : A → Bool) (g : ℕ �
   first_pick [] = refl
   first_pick (k ∷ ks) = rw (names k) (go (eqb (a s k) m) (first_pick ks))
     where
-      go : (t : Bool) → first q d (map g ks) ≡ pick d g (all_named s m ks) → (if t then g k else first q d (map g ks)) ≡ pick d g (if t then k ∷ all_named s m ks else all_named s m ks)
+      go : (t : Bool) → first q d (map g ks) ≡ pick d g (all_named s m ks) → (when t then g k else first q d (map g ks)) ≡ pick d g (when t then k ∷ all_named s m ks else all_named s m ks)
       go true e = refl
       go false e = e
 
@@ -88,7 +88,7 @@ listed_pick : (s : Sheet) (m : ℕ) (ks : List ℕ) → (m ∈? map (a s) ks) �
 listed_pick s m [] = refl
 listed_pick s m (k ∷ ks) = rw (eqb_flip m (a s k)) (go (eqb (a s k) m) (listed_pick s m ks))
   where
-    go : (t : Bool) → (m ∈? map (a s) ks) ≡ pick false (λ _. true) (all_named s m ks) → (t || (m ∈? map (a s) ks)) ≡ pick false (λ _. true) (if t then k ∷ all_named s m ks else all_named s m ks)
+    go : (t : Bool) → (m ∈? map (a s) ks) ≡ pick false (λ _. true) (all_named s m ks) → (t || (m ∈? map (a s) ks)) ≡ pick false (λ _. true) (when t then k ∷ all_named s m ks else all_named s m ks)
     go true e = refl
     go false e = e
 
@@ -125,13 +125,13 @@ module _ (s : Sheet) (m r x : ℕ) (e : x ≡ first_named s m (kids_of s 6 r)) w
       go [] = refl
       go (k ∷ ks) = refl
 
-  pub method_params : (if eqb x 0 then 0 else arity s x) ≡ (method_of m (map (method_at s) (kids_of s 6 r))).params
+  pub method_params : (when eqb x 0 then 0 else arity s x) ≡ (method_of m (map (method_at s) (kids_of s 6 r))).params
   method_params =
-      ap (λ (k : ℕ). if eqb k 0 then 0 else arity s k) e ∙ go (all_named s m (kids_of s 6 r)) (search s 6 m r) ∙ sym (ap (λ (y : Method). y.params) by_row)
+      ap (λ (k : ℕ). when eqb k 0 then 0 else arity s k) e ∙ go (all_named s m (kids_of s 6 r)) (search s 6 m r) ∙ sym (ap (λ (y : Method). y.params) by_row)
     where
-      go : (ks : List ℕ) → Searched s 6 ks → (if eqb (head ks) 0 then 0 else arity s (head ks)) ≡ (pick no_method (method_at s) ks).params
+      go : (ks : List ℕ) → Searched s 6 ks → (when eqb (head ks) 0 then 0 else arity s (head ks)) ≡ (pick no_method (method_at s) ks).params
       go _ none = refl
-      go _ (some k ks f h) = ap (λ (t : Bool). if t then 0 else arity s k) (ne_eqb k 0 f)
+      go _ (some k ks f h) = ap (λ (t : Bool). when t then 0 else arity s k) (ne_eqb k 0 f)
 
 -- Exports.
 
@@ -145,12 +145,12 @@ module _ (m : ℕ) where
 
 -- a unit sees nothing of itself, and the exports of another
 pub seen_own : (s : Sheet) (u i m w : ℕ) → w ≡ a s i → w ≡ u → nothing ≡ sought m (seen s u i)
-seen_own s u i m w e h = sym (ap (λ (t : Bool). sought m (if t then [] else exports s (a s i))) (eq-eqb (a s i) u (sym e ∙ h)))
+seen_own s u i m w e h = sym (ap (λ (t : Bool). sought m (when t then [] else exports s (a s i))) (eq-eqb (a s i) u (sym e ∙ h)))
 
 pub seen_other : (s : Sheet) (u i m w : ℕ) → w ≡ a s i → (w ≡ u → ⊥) → sought m (exports s w) ≡ sought m (seen s u i)
 seen_other s u i m w e f =
     ap (λ (k : ℕ). sought m (exports s k)) e
-    ∙ sym (ap (λ (t : Bool). sought m (if t then [] else exports s (a s i))) (ne_eqb (a s i) u (λ h. f (e ∙ h))))
+    ∙ sym (ap (λ (t : Bool). sought m (when t then [] else exports s (a s i))) (ne_eqb (a s i) u (λ h. f (e ∙ h))))
 
 -- an export row by its kind
 module _ (s : Sheet) (x : ℕ) (f : x ≡ 0 → ⊥) where

@@ -9,7 +9,7 @@ use lib.Dec.{T, T_not, eqb}
 use lib.ListN.{length, get_or, set, length-set}
 use lib.Seq.{get_or-set_same, get_or-set_other}
 use borrow.Author.Tests.{eq-eqb, ne_eqb, eqb-true, eqb-false}
-use Rattle.definition.specs.Basics.{if◌then◌else◌, ◌∈?◌}
+use Rattle.definition.specs.Basics.{when◌then◌else◌, ◌∈?◌}
 use Rattle.definition.specs.Kind.{UNIT, IMPORT}
 use Rattle.definition.specs.Sheet.{Sheet, kind, next, child, a, rows, is}
 use Rattle.definition.proofs.Lists.Tests.{T_true}
@@ -23,20 +23,20 @@ use Rattle.start_units.proofs.ReadyLaws.{from_none, from_step, from_child, same_
 module _ (s : Sheet) (u k : ℕ) (low : List ℕ) where
   pub note_other : (kind s k ≡ IMPORT → ⊥) → low ≡ noted_at s u k low
   unfolding noted_at
-  note_other f = sym (ap (λ (t : Bool). if t then noted u (a s k ∷ []) low else low) (ne_eqb (kind s k) IMPORT f))
+  note_other f = sym (ap (λ (t : Bool). when t then noted u (a s k ∷ []) low else low) (ne_eqb (kind s k) IMPORT f))
 
   module _ (e : kind s k ≡ IMPORT) (v : ℕ) (to : v ≡ a s k) where
-    at_import : (if eqb (get_or low v 0) 0 then set low v u else low) ≡ noted_at s u k low
+    at_import : (when eqb (get_or low v 0) 0 then set low v u else low) ≡ noted_at s u k low
     unfolding noted_at noted
     at_import =
-        ap (λ (i : ℕ). if eqb (get_or low i 0) 0 then set low i u else low) to
-        ∙ sym (ap (λ (t : Bool). if t then noted u (a s k ∷ []) low else low) (eq-eqb (kind s k) IMPORT e))
+        ap (λ (i : ℕ). when eqb (get_or low i 0) 0 then set low i u else low) to
+        ∙ sym (ap (λ (t : Bool). when t then noted u (a s k ∷ []) low else low) (eq-eqb (kind s k) IMPORT e))
 
     pub note_new : {x : List ℕ} → get_or low v 0 ≡ 0 → x ≡ set low v u → x ≡ noted_at s u k low
-    note_new free done = done ∙ sym (ap (λ (t : Bool). if t then set low v u else low) (eq-eqb (get_or low v 0) 0 free)) ∙ at_import
+    note_new free done = done ∙ sym (ap (λ (t : Bool). when t then set low v u else low) (eq-eqb (get_or low v 0) 0 free)) ∙ at_import
 
     pub note_old : (get_or low v 0 ≡ 0 → ⊥) → low ≡ noted_at s u k low
-    note_old f = sym (ap (λ (t : Bool). if t then set low v u else low) (ne_eqb (get_or low v 0) 0 f)) ∙ at_import
+    note_old f = sym (ap (λ (t : Bool). when t then set low v u else low) (ne_eqb (get_or low v 0) 0 f)) ∙ at_import
 
 -- A child list: from row k on, what is noted at k and then from the next row on.
 note_step : (s : Sheet) → Importing s → (u k : ℕ) (low : List ℕ) → (k ≡ 0 → ⊥) → k < rows s
@@ -44,8 +44,8 @@ note_step : (s : Sheet) → Importing s → (u k : ℕ) (low : List ℕ) → (k 
 unfolding noted noted_at
 note_step s ok u k low f l = go (is s IMPORT k) ∙ ap (λ (vs : List ℕ). noted u vs low) (sym (from_step s ok k f l))
   where
-    go : (t : Bool) → noted u (imports_from s (next s k)) (if t then noted u (a s k ∷ []) low else low)
-        ≡ noted u (if t then a s k ∷ imports_from s (next s k) else imports_from s (next s k)) low
+    go : (t : Bool) → noted u (imports_from s (next s k)) (when t then noted u (a s k ∷ []) low else low)
+        ≡ noted u (when t then a s k ∷ imports_from s (next s k) else imports_from s (next s k)) low
     go true = refl
     go false = refl
 
@@ -61,11 +61,11 @@ pub note_start : (s : Sheet) (u k : ℕ) (low : List ℕ) → kind s u ≡ UNIT 
 unfolding noted_unit
 note_start s u k low e to =
     ap (λ (i : ℕ). noted u (imports_from s i) low) to ∙ ap (λ (vs : List ℕ). noted u vs low) (sym (from_child s u))
-    ∙ sym (ap (λ (t : Bool). if t then noted u (imports_of s u) low else low) (eq-eqb (kind s u) UNIT e))
+    ∙ sym (ap (λ (t : Bool). when t then noted u (imports_of s u) low else low) (eq-eqb (kind s u) UNIT e))
 
 pub note_none : (s : Sheet) (u : ℕ) (low : List ℕ) → (kind s u ≡ UNIT → ⊥) → low ≡ noted_unit s u low
 unfolding noted_unit
-note_none s u low f = sym (ap (λ (t : Bool). if t then noted u (imports_of s u) low else low) (ne_eqb (kind s u) UNIT f))
+note_none s u low f = sym (ap (λ (t : Bool). when t then noted u (imports_of s u) low else low) (ne_eqb (kind s u) UNIT f))
 
 set_either : (l : List ℕ) (i y x : ℕ) → (get_or (set l i y) x 0 ≡ y) ⊎ (get_or (set l i y) x 0 ≡ get_or l x 0)
 set_either [] i y x = inr refl
@@ -77,33 +77,33 @@ set_either (z ∷ zs) (suc i) y (suc x) = set_either zs i y x
 -- What is noted at a list of units.
 module _ (u : ℕ) where
   abbrev note_one : ℕ → List ℕ → List ℕ
-  note_one v low = if eqb (get_or low v 0) 0 then set low v u else low
+  note_one v low = when eqb (get_or low v 0) 0 then set low v u else low
 
   one_long : (v : ℕ) (low : List ℕ) → length (note_one v low) ≡ length low
   one_long v low = go (eqb (get_or low v 0) 0)
     where
-      go : (t : Bool) → length (if t then set low v u else low) ≡ length low
+      go : (t : Bool) → length (when t then set low v u else low) ≡ length low
       go true = length-set low v u
       go false = refl
 
   one_kept : (v : ℕ) (low : List ℕ) (x : ℕ) → 0 < get_or low x 0 → get_or (note_one v low) x 0 ≡ get_or low x 0
   one_kept v low x l = go (eqb (get_or low v 0) 0) refl
     where
-      go : (t : Bool) → eqb (get_or low v 0) 0 ≡ t → get_or (if t then set low v u else low) x 0 ≡ get_or low x 0
+      go : (t : Bool) → eqb (get_or low v 0) 0 ≡ t → get_or (when t then set low v u else low) x 0 ≡ get_or low x 0
       go true e = get_or-set_other low v x u 0 (λ q. omega (arith, ap (λ (i : ℕ). get_or low i 0) q, eqb-true (get_or low v 0) 0 e))
       go false e = refl
 
   one_below : (v : ℕ) (low : List ℕ) (b : ℕ) → u ≤ b → ((x : ℕ) → get_or low x 0 ≤ b) → (x : ℕ) → get_or (note_one v low) x 0 ≤ b
   one_below v low b l h x = go (eqb (get_or low v 0) 0)
     where
-      go : (t : Bool) → get_or (if t then set low v u else low) x 0 ≤ b
+      go : (t : Bool) → get_or (when t then set low v u else low) x 0 ≤ b
       go true = ⊎_elim (λ (e : get_or (set low v u) x 0 ≡ u). omega arith) (λ (e : get_or (set low v u) x 0 ≡ get_or low x 0). omega (arith, h x)) (set_either low v u x)
       go false = h x
 
   one_new : (v : ℕ) (low : List ℕ) → 0 < u → v < length low → 0 < get_or (note_one v low) v 0
   one_new v low p l = go (eqb (get_or low v 0) 0) refl
     where
-      go : (t : Bool) → eqb (get_or low v 0) 0 ≡ t → 0 < get_or (if t then set low v u else low) v 0
+      go : (t : Bool) → eqb (get_or low v 0) 0 ≡ t → 0 < get_or (when t then set low v u else low) v 0
       go true e = rw (get_or-set_same low v u 0 l) p
       go false e = let f : get_or low v 0 ≡ 0 → ⊥ = eqb-false (get_or low v 0) 0 e in omega arith
 

@@ -9,7 +9,7 @@ use lib.Dec.{T, T_not, eqb}
 use lib.ListN.{length, get_or, set, length-set}
 use lib.Seq.{get_or-set_same, get_or-set_other}
 use borrow.Author.Tests.{eq-eqb, ne_eqb, eqb-true, eqb-false}
-use Rattle.definition.specs.Basics.{if◌then◌else◌, filter, all, ◌∈?◌}
+use Rattle.definition.specs.Basics.{when◌then◌else◌, filter, all, ◌∈?◌}
 use Rattle.definition.specs.Kind.{UNIT, IMPORT}
 use Rattle.definition.specs.Sheet.{Sheet, kind, next, child, a, rows, chain, is}
 use Rattle.definition.proofs.Format.Passes.{chain_on}
@@ -57,12 +57,12 @@ unfolding imports_from
 from_none s k e = ap (λ (i : ℕ). map (a s) (filter (is s IMPORT) (chain (rows s) s i))) e ∙ ap (λ (ks : List ℕ). map (a s) (filter (is s IMPORT) ks)) (chain_none (rows s) s)
 
 module _ (s : Sheet) (ok : Importing s) (k : ℕ) (f : k ≡ 0 → ⊥) (l : k < rows s) where
-  pub from_step : imports_from s k ≡ (if is s IMPORT k then a s k ∷ imports_from s (next s k) else imports_from s (next s k))
+  pub from_step : imports_from s k ≡ (when is s IMPORT k then a s k ∷ imports_from s (next s k) else imports_from s (next s k))
   unfolding imports_from
   from_step = ap (λ (ks : List ℕ). map (a s) (filter (is s IMPORT) ks)) (chain_on s ok.nexts k (omega arith) l) ∙ go (is s IMPORT k)
     where
-      go : (t : Bool) → map (a s) (if t then k ∷ filter (is s IMPORT) (chain (rows s) s (next s k)) else filter (is s IMPORT) (chain (rows s) s (next s k)))
-          ≡ (if t then a s k ∷ map (a s) (filter (is s IMPORT) (chain (rows s) s (next s k))) else map (a s) (filter (is s IMPORT) (chain (rows s) s (next s k))))
+      go : (t : Bool) → map (a s) (when t then k ∷ filter (is s IMPORT) (chain (rows s) s (next s k)) else filter (is s IMPORT) (chain (rows s) s (next s k)))
+          ≡ (when t then a s k ∷ map (a s) (filter (is s IMPORT) (chain (rows s) s (next s k))) else map (a s) (filter (is s IMPORT) (chain (rows s) s (next s k))))
       go true = refl
       go false = refl
 
@@ -77,7 +77,7 @@ module _ (s : Sheet) (ok : Importing s) (k : ℕ) (f : k ≡ 0 → ⊥) (l : k <
   row_passed m e = go (is s IMPORT k) (eqb (get_or m (a s k) 0) 0) refl e from_step
     where
       go : (t w : Bool) → eqb (get_or m (a s k) 0) 0 ≡ w → (t && w) ≡ false
-          → imports_from s k ≡ (if t then a s k ∷ imports_from s (next s k) else imports_from s (next s k))
+          → imports_from s k ≡ (when t then a s k ∷ imports_from s (next s k) else imports_from s (next s k))
           → (passed : List ℕ) × (imports_from s k ≡ passed ++ imports_from s (next s k)) × T (all (marked m) passed)
       go false w q h g = ([], g, tt)
       go true false q h g = (a s k ∷ [], g, and_both (marked m (a s k)) true (T_true (marked m (a s k)) (ap not q)) tt)
@@ -138,11 +138,11 @@ module _ (s : Sheet) (ok : Importing s) (m : List ℕ) (from k : ℕ) (h : Passe
 module _ (s : Sheet) (w : List ℕ) (u : ℕ) {x : ℕ} (at : x ≡ get_or w u 0) where
   pub waiting_child : {k : ℕ} → x ≡ 0 → k ≡ child s u → k ≡ waiting_from s w u
   unfolding waiting_from
-  waiting_child e to = to ∙ sym (ap (λ (t : Bool). if t then child s u else get_or w u 0) (eq-eqb (get_or w u 0) 0 (sym at ∙ e)))
+  waiting_child e to = to ∙ sym (ap (λ (t : Bool). when t then child s u else get_or w u 0) (eq-eqb (get_or w u 0) 0 (sym at ∙ e)))
 
   pub waiting_kept : (x ≡ 0 → ⊥) → x ≡ waiting_from s w u
   unfolding waiting_from
-  waiting_kept f = at ∙ sym (ap (λ (t : Bool). if t then child s u else get_or w u 0) (ne_eqb (get_or w u 0) 0 (λ e. f (at ∙ e))))
+  waiting_kept f = at ∙ sym (ap (λ (t : Bool). when t then child s u else get_or w u 0) (ne_eqb (get_or w u 0) 0 (λ e. f (at ∙ e))))
 
 -- Whether a unit is ready, by the import that it waits for.
 pub from_child : (s : Sheet) (u : ℕ) → imports_of s u ≡ imports_from s (child s u)
@@ -154,7 +154,7 @@ module _ (s : Sheet) (ok : Importing s) (m w : List ℕ) (u : ℕ) (l : u < rows
   unfolding waiting_from
   waiting_row = go (eqb (get_or w u 0) 0)
     where
-      go : (t : Bool) → (if t then child s u else get_or w u 0) < rows s
+      go : (t : Bool) → (when t then child s u else get_or w u 0) < rows s
       go true = ⊎_elim (λ (e : child s u ≡ 0). omega (arith, ok.some)) (λ q. q.1) (ok.children u l)
       go false = h.row u l
 
@@ -164,7 +164,7 @@ module _ (s : Sheet) (ok : Importing s) (m w : List ℕ) (u : ℕ) (l : u < rows
     waiting_rest = go (eqb (get_or w u 0) 0) refl
       where
         go : (t : Bool) → eqb (get_or w u 0) 0 ≡ t
-            → (passed : List ℕ) × (imports_of s u ≡ passed ++ imports_from s (if t then child s u else get_or w u 0)) × T (all (marked m) passed)
+            → (passed : List ℕ) × (imports_of s u ≡ passed ++ imports_from s (when t then child s u else get_or w u 0)) × T (all (marked m) passed)
         go true e = ([], from_child s u, tt)
         go false e = h.rest u (row_unit s u l unit) (eqb-false (get_or w u 0) 0 e)
 

@@ -10,7 +10,7 @@ use lib.Dec.{T, T_not, not_T, eqb, ltb}
 use lib.ListN.{length, get_or, set, take, replicate, length-set, length-append, length-replicate}
 use lib.Seq.{sets, get_or-set_same, get_or-set_other}
 use borrow.Author.Tests.{eq-eqb, ne_eqb, eqb-true, eqb-false, lt-ltb, le-ltb, ltb-true, ltb-false}
-use Rattle.definition.specs.Basics.{if◌then◌else◌, filter, all, ◌∈?◌}
+use Rattle.definition.specs.Basics.{when◌then◌else◌, filter, all, ◌∈?◌}
 use Rattle.definition.specs.Kind.{UNIT}
 use Rattle.definition.specs.Sheet.{Sheet, kind, next, rows, is}
 use Rattle.definition.proofs.Lists.Tests.{T_and, and_both, true_of, T_true, decide}
@@ -47,7 +47,7 @@ module _ (s : Sheet) (u : ℕ) where
         rise f = ⊎_elim (λ e. absurd (f e)) (λ q. q) (ok.nexts u l)
 
         go : (t w : Bool) → eqb (next s u) 0 ≡ w
-            → (u < (if t then (if w then 4294967295 else next s u) else u + 1)) × ((if t then (if w then 4294967295 else next s u) else u + 1) ≤ 4294967295)
+            → (u < (when t then (when w then 4294967295 else next s u) else u + 1)) × ((when t then (when w then 4294967295 else next s u) else u + 1) ≤ 4294967295)
         go false w e = (omega arith, omega (arith, ok.few))
         go true true e = (omega (arith, ok.few), omega arith)
         go true false e = let q = rise (eqb-false (next s u) 0 e) in (q.0, omega (arith, q.1, ok.few))
@@ -56,7 +56,7 @@ module _ (s : Sheet) (u : ℕ) where
     unfolding following
     following_most v m b = go (is s UNIT u) refl (eqb (next s u) 0) refl
       where
-        go : (t : Bool) → is s UNIT u ≡ t → (w : Bool) → eqb (next s u) 0 ≡ w → (if t then (if w then 4294967295 else next s u) else u + 1) ≤ v
+        go : (t : Bool) → is s UNIT u ≡ t → (w : Bool) → eqb (next s u) 0 ≡ w → (when t then (when w then 4294967295 else next s u) else u + 1) ≤ v
         go false p w e = omega arith
         go true p true e = absurd ((ok.in_line u v (row_unit s u l (T_true (is s UNIT u) p)) m b).0 (eqb-true (next s u) 0 e))
         go true p false e = (ok.in_line u v (row_unit s u l (T_true (is s UNIT u) p)) m b).1
@@ -80,7 +80,7 @@ after_most : (s low : List ℕ) (u : ℕ) → u < following s u → after_start 
 unfolding after_start
 after_most s low u l = go (eqb (get_or low u 0) 0) (ltb (get_or low u 0) u) refl
   where
-    go : (t w : Bool) → ltb (get_or low u 0) u ≡ w → (if t then following s u else if w then get_or low u 0 else following s u) ≤ following s u
+    go : (t w : Bool) → ltb (get_or low u 0) u ≡ w → (when t then following s u else when w then get_or low u 0 else following s u) ≤ following s u
     go true w e = omega arith
     go false true e = omega (arith, ltb-true (get_or low u 0) u e)
     go false false e = omega arith

@@ -1,7 +1,7 @@
 -- The program's own: what its tables tell while units are started. A reader need not believe these; the contract of the entry cites the definition alone.
 use Rattle.std.specs.Prelude.{◌≡◌, Bool, not, ◌&&◌, List, [], ◌∷◌, ◌++◌, map, ℕ, ◌+◌, ◌<◌, ◌≤◌, T, eqb, ltb, length, get_or, set}
 use Rattle.std.proofs.lemmas.List.Edits.{sets}
-use Rattle.definition.specs.Basics.{if◌then◌else◌, filter, all, ◌∈?◌}
+use Rattle.definition.specs.Basics.{when◌then◌else◌, filter, all, ◌∈?◌}
 use Rattle.definition.specs.Kind.{UNIT, IMPORT}
 use Rattle.definition.specs.Sheet.{Sheet, next, child, a, rows, chain, is}
 use Rattle.definition.proofs.Format.Links.{Rises}
@@ -48,11 +48,11 @@ pub record Waits (s : Sheet) (m w : List ℕ) : Type 0 where
 
 -- the row from which the imports of unit u are looked at
 unfoldable pub waiting_from : Sheet → List ℕ → ℕ → ℕ
-waiting_from s w u = if eqb (get_or w u 0) 0 then child s u else get_or w u 0
+waiting_from s w u = when eqb (get_or w u 0) 0 then child s u else get_or w u 0
 
 -- the row to look at after row u for a unit: after a unit the next one, or none; else the row after it
 unfoldable pub following : Sheet → ℕ → ℕ
-following s u = if is s UNIT u then (if eqb (next s u) 0 then 4294967295 else next s u) else u + 1
+following s u = when is s UNIT u then (when eqb (next s u) 0 then 4294967295 else next s u) else u + 1
 
 -- x is the lowest unit from row `start` on that is ready, or 0
 pub record LowestFrom (s : Sheet) (m : List ℕ) (start x : ℕ) : Type 0 where
@@ -68,15 +68,15 @@ pub record Unnoted (s : Sheet) (w : List ℕ) : Type 0 where
 -- unit u noted at each of the units vs where none is noted yet
 unfoldable pub noted : ℕ → List ℕ → List ℕ → List ℕ
 noted u [] low = low
-noted u (v ∷ vs) low = noted u vs (if eqb (get_or low v 0) 0 then set low v u else low)
+noted u (v ∷ vs) low = noted u vs (when eqb (get_or low v 0) 0 then set low v u else low)
 
 -- the same for row k of a child list: if it is an import, at its unit
 unfoldable pub noted_at : Sheet → ℕ → ℕ → List ℕ → List ℕ
-noted_at s u k low = if is s IMPORT k then noted u (a s k ∷ []) low else low
+noted_at s u k low = when is s IMPORT k then noted u (a s k ∷ []) low else low
 
 -- the same for row u: if it is a unit, at all that it imports
 unfoldable pub noted_unit : Sheet → ℕ → List ℕ → List ℕ
-noted_unit s u low = if is s UNIT u then noted u (imports_of s u) low else low
+noted_unit s u low = when is s UNIT u then noted u (imports_of s u) low else low
 
 -- the table `low` tells of each unit that is imported the lowest that imports it, or one below that
 pub record Importers (s : Sheet) (low : List ℕ) : Type 0 where
@@ -84,7 +84,7 @@ pub record Importers (s : Sheet) (low : List ℕ) : Type 0 where
 
 -- the row from which the next ready unit is looked for, after unit u has started: none below it has become ready
 unfoldable pub after_start : Sheet → List ℕ → ℕ → ℕ
-after_start s low u = if eqb (get_or low u 0) 0 then following s u else if ltb (get_or low u 0) u then get_or low u 0 else following s u
+after_start s low u = when eqb (get_or low u 0) 0 then following s u else when ltb (get_or low u 0) u then get_or low u 0 else following s u
 
 -- the marks are those of the units that have started
 pub record Marks (s : Sheet) (m started : List ℕ) : Type 0 where

@@ -8,7 +8,7 @@ use lib.Dec.{eqb, leb, ltb}
 use lib.ListN.{get_or, set}
 use lib.Seq.{sets}
 use borrow.Author.Tests.{lt-ltb, le-ltb, le-leb, leb-true, eq-eqb, ne_eqb, eqb-true, eqb-false}
-use Rattle.definition.specs.Basics.{if◌then◌else◌}
+use Rattle.definition.specs.Basics.{when◌then◌else◌}
 use Rattle.definition.specs.Sheet.{Sheet, is, word}
 use Rattle.machine.specs.Machine.{entry_word, node_room, chain_to, list_at, has_key, Store, Node, function_marks, appended, appended_call, append_node, append_call, add_new, add_capture}
 use Rattle.machine.proofs.CodeSteps.{four_stores, capture_name, capture_mark, capture_own, capture_there, capture_other}
@@ -17,17 +17,17 @@ use Rattle.store.specs.Stored.{used_pushed, nodes_pushed}
 -- a node pushed where there is room, and where there is none
 module _ (q : List ℕ) (n : ℕ) where
   pub pushed_used : n < node_room q → n + 1 ≡ used_pushed q n
-  pushed_used l = let e : n + 1 ≡ suc n = omega arith in e ∙ sym (ap (λ (b : Bool). if b then suc n else n) (lt-ltb n (node_room q) l))
+  pushed_used l = let e : n + 1 ≡ suc n = omega arith in e ∙ sym (ap (λ (b : Bool). when b then suc n else n) (lt-ltb n (node_room q) l))
 
   pub pushed_nodes : (p k x y : ℕ) → n < node_room q → set (set (set (set q (4 * n) p) (4 * n + 1) k) (4 * n + 2) x) (4 * n + 3) y ≡ nodes_pushed q n (p ∷ k ∷ x ∷ y ∷ [])
   pushed_nodes p k x y l =
-      four_stores q (4 * n) p k x y ∙ sym (ap (λ (b : Bool). if b then sets q (4 * n) (p ∷ k ∷ x ∷ y ∷ []) else q) (lt-ltb n (node_room q) l))
+      four_stores q (4 * n) p k x y ∙ sym (ap (λ (b : Bool). when b then sets q (4 * n) (p ∷ k ∷ x ∷ y ∷ []) else q) (lt-ltb n (node_room q) l))
 
   pub full_used : node_room q ≤ n → n ≡ used_pushed q n
-  full_used l = sym (ap (λ (b : Bool). if b then suc n else n) (le-ltb n (node_room q) l))
+  full_used l = sym (ap (λ (b : Bool). when b then suc n else n) (le-ltb n (node_room q) l))
 
   pub full_nodes : (ws : List ℕ) → node_room q ≤ n → q ≡ nodes_pushed q n ws
-  full_nodes ws l = sym (ap (λ (b : Bool). if b then sets q (4 * n) ws else q) (le-ltb n (node_room q) l))
+  full_nodes ws l = sym (ap (λ (b : Bool). when b then sets q (4 * n) ws else q) (le-ltb n (node_room q) l))
 
 -- the store of two counters and two buffers
 abbrev stored : ℕ → ℕ → List ℕ → List ℕ → Store
@@ -35,7 +35,7 @@ stored n c t q = record { used = n; calls = c; table = t; nodes = q }
 
 -- A node pushed after n nodes: the store does not change if n', the number then, is n, and has the node in its list otherwise.
 module _ (x : Node) (n c n' : ℕ) (q q' : List ℕ) (e : n' ≡ used_pushed q n) where
-  same_used : {A : Type 0} (b : Bool) → n' ≡ (if b then suc n else n) → n' ≡ n → (y z : A) → z ≡ (if b then y else z)
+  same_used : {A : Type 0} (b : Bool) → n' ≡ (when b then suc n else n) → n' ≡ n → (y z : A) → z ≡ (when b then y else z)
   same_used true d s y z = absurd (omega arith)
   same_used false d s y z = refl
 
@@ -59,7 +59,7 @@ module _ (x : Node) (n c n' : ℕ) (q q' : List ℕ) (e : n' ≡ used_pushed q n
   unfolding append_node
   append_more t t' j p d w s m = go (ltb n (node_room q)) e w
     where
-      go : (b : Bool) → n' ≡ (if b then suc n else n) → q' ≡ (if b then sets q (4 * n) (words p) else q) → stored n' c t' q' ≡ (if b then appended j x (stored n c t q) else stored n c t q)
+      go : (b : Bool) → n' ≡ (when b then suc n else n) → q' ≡ (when b then sets q (4 * n) (words p) else q) → stored n' c t' q' ≡ (when b then appended j x (stored n c t q) else stored n c t q)
       go true u v = rw (m, v, u, d)
       go false u v = absurd (s u)
 
@@ -67,7 +67,7 @@ module _ (x : Node) (n c n' : ℕ) (q q' : List ℕ) (e : n' ≡ used_pushed q n
   unfolding append_call
   call_more t w s = go (ltb n (node_room q)) e w
     where
-      go : (b : Bool) → n' ≡ (if b then suc n else n) → q' ≡ (if b then sets q (4 * n) (words c) else q) → stored n' n' t q' ≡ (if b then appended_call x (stored n c t q) else stored n c t q)
+      go : (b : Bool) → n' ≡ (when b then suc n else n) → q' ≡ (when b then sets q (4 * n) (words c) else q) → stored n' n' t q' ≡ (when b then appended_call x (stored n c t q) else stored n c t q)
       go true u v = rw (v, u)
       go false u v = absurd (s u)
 

@@ -1,6 +1,6 @@
 // Declarations in the open scopes: found by name, made from a row, and pushed.
 ghost use Rattle.std.specs.Prelude.{◌≡◌, List, ℕ, ◌≤◌, length};
-ghost use Rattle.definition.specs.Basics.{if◌then◌else◌};
+ghost use Rattle.definition.specs.Basics.{when◌then◌else◌};
 ghost use Rattle.definition.specs.Sheet.{word as word_at};
 ghost use Rattle.definition.specs.Meaning.{Meaning, class_number, is_declared, is_toplevel};
 ghost use Rattle.definition.specs.Slots.{is_local, is_mutable};
@@ -213,14 +213,14 @@ pub fn declared_by(sheet: &[u32], row: u32, env: Env) -> OpenDecl
 
 // The next slot after `d` is declared: a local takes one.
 fn slot_after(sheet: &[u32], d: OpenDecl, n: u32) -> u32
-    ensures { result ≡ (if is_local sheet.now (means d) then one_more n else n) }
+    ensures { result ≡ (when is_local sheet.now (means d) then one_more n else n) }
 {
     if is_local(sheet, d) { one_more(n) } else { n }
 }
 
 // The next global number after `d` is declared: a let of a unit takes one.
 fn global_after(d: OpenDecl, n: u32) -> u32
-    ensures { result ≡ (if is_toplevel (means d) then one_more n else n) }
+    ensures { result ≡ (when is_toplevel (means d) then one_more n else n) }
 {
     if d.tag == tag::TOPLEVEL {
         one_more(n)

@@ -1,7 +1,7 @@
 // The open scopes: entries of five words in a lent buffer, the innermost last. Searches go from the last entry down.
 ghost use Rattle.std.specs.Prelude.{◌≡◌, [], ◌∷◌, ◌≤◌, ◌/◌, length};
 ghost use Rattle.definition.specs.Walk.{enter, leave, loop};
-ghost use Rattle.definition.specs.Basics.{if◌then◌else◌};
+ghost use Rattle.definition.specs.Basics.{when◌then◌else◌};
 ghost use Rattle.definition.specs.Sheet.{Sheet, is};
 ghost use Rattle.machine.specs.Machine.{entry_word, find_name, taken_in, loop_in, marks_after, last_mark, count_pushed, words_pushed, step_scopes};
 ghost use Rattle.symbols.specs.OpenScopes.{scopes_of};
@@ -153,7 +153,7 @@ pub fn push_entry(
 
 // The innermost function inside the scope of `row`.
 fn fun_inside(sheet: &[u32], row: u32, fun: FunId) -> FunId
-    ensures { result.0 ≡ (if is sheet.now 6 row then row else fun.0) }
+    ensures { result.0 ≡ (when is sheet.now 6 row then row else fun.0) }
 {
     if word(sheet, row, column::KIND) == kind::FUNCTION {
         FunId(row)

@@ -11,7 +11,7 @@ use borrow.Author.Tests.{eq-eqb, le-leb, lt-leb}
 use lib.Dec.{T, leb, ltb, eqb, leb→le, ltb→lt, eqb→eq, le→leb, lt→ltb, T_not, not_T}
 use lib.ListN.{length, get_or, take, drop, replicate, length-append, length-map, length-take, length-drop}
 use lib.Seq.{take_at, ext_get_or, get_or_at}
-use Rattle.definition.specs.Basics.{if◌then◌else◌, all, from, concat_map}
+use Rattle.definition.specs.Basics.{when◌then◌else◌, all, from, concat_map}
 use Rattle.definition.specs.Sheet.{rows}
 use Rattle.definition.specs.Text.{is_digit, trimmed, digits, value, is_shortest, is_number, lines, is_sheet_text, sheet_of, digit_byte, in_ten, text_of}
 use Rattle.definition.proofs.Lists.Tests.{and_both, and_left, and_right, or_left, or_right, decide, eqb_of, if_true, if_false}
@@ -242,7 +242,7 @@ module _ (t : List ℕ) (lent : ℕ) where
   unfolding lines_read
   lines_good = go (is_readable t lent) (readable t lent)
     where
-      go : (b : Bool) → (T b → T (is_sheet_text t)) → 1 ≤ (if b then lines t else 0) → T (is_sheet_text t)
+      go : (b : Bool) → (T b → T (is_sheet_text t)) → 1 ≤ (when b then lines t else 0) → T (is_sheet_text t)
       go true f h = f tt
       go false f h = absurd (omega arith)
 
@@ -250,8 +250,8 @@ module _ (t : List ℕ) (lent : ℕ) where
   unfolding lines_read words_read
   sheet_words = go (is_readable t lent) (readable t lent)
     where
-      go : (b : Bool) → (T b → T (is_sheet_text t)) → 1 ≤ (if b then lines t else 0)
-          → take (8 * (if b then lines t else 0)) (if b then sheet_of t ++ replicate (lent - 8 * lines t) 0 else replicate lent 0) ≡ sheet_of t
+      go : (b : Bool) → (T b → T (is_sheet_text t)) → 1 ≤ (when b then lines t else 0)
+          → take (8 * (when b then lines t else 0)) (when b then sheet_of t ++ replicate (lent - 8 * lines t) 0 else replicate lent 0) ≡ sheet_of t
       go true f h = take_at (sheet_of t) (replicate (lent - 8 * lines t) 0) (8 * lines t) (ap length (text_numbers t (f tt)) ∙ numbers_length t (lines t))
       go false f h = absurd (omega arith)
 
@@ -259,12 +259,12 @@ module _ (t : List ℕ) (lent : ℕ) where
   unfolding lines_read is_readable
   rows_read h = ap rows_fit (sheet_is t) ∙ asked (is_sheet_text t) (numbers_in t (lines t)) (lines t) (numbers_length t (lines t))
     where
-      asked : (b : Bool) (s : List ℕ) (n : ℕ) → length s ≡ 8 * n → rows_fit (if b then s else []) ≡ leb 1 (if b && leb n 2048 && leb (8 * n) lent then n else 0)
+      asked : (b : Bool) (s : List ℕ) (n : ℕ) → length s ≡ 8 * n → rows_fit (when b then s else []) ≡ leb 1 (when b && leb n 2048 && leb (8 * n) lent then n else 0)
       asked true s n e =
           let q : length s / 8 ≡ n = omega arith in
           rw (eq-eqb (8 * (length s / 8)) (length s) (omega arith), q) (go (dec_le n 2048))
         where
-          go : Dec (n ≤ 2048) → (leb 1 n && leb n 2048) ≡ leb 1 (if leb n 2048 && leb (8 * n) lent then n else 0)
+          go : Dec (n ≤ 2048) → (leb 1 n && leb n 2048) ≡ leb 1 (when leb n 2048 && leb (8 * n) lent then n else 0)
           go (yes l) = rw (le-leb n 2048 l, le-leb (8 * n) lent (omega arith)) (and_true (leb 1 n))
           go (no l) = rw (lt-leb n 2048 (omega arith)) (and_false (leb 1 n))
       asked false s n e = refl

@@ -8,7 +8,7 @@ use native.Mathlib.Omega.{arith}
 use lib.ListN.{length, take}
 use lib.Dec.{T, eqb, leb, eqb→eq, leb→le}
 use lib.Seq.{take_all, length-take-le}
-use Rattle.definition.specs.Basics.{if◌then◌else◌, all, from}
+use Rattle.definition.specs.Basics.{when◌then◌else◌, all, from}
 use Rattle.definition.specs.Text.{lines, is_sheet_text, sheet_of}
 use Rattle.definition.specs.Outcome.{rows_fit}
 use Rattle.definition.proofs.Lists.Tests.{and_left, and_right}
@@ -37,14 +37,14 @@ pub sheet_long : (t : List ℕ) → 165888 < length t → rows_fit (sheet_of t) 
 unfolding lines_read
 sheet_long t l =
     let none : is_readable t 16384 ≡ false = no_t (is_readable t 16384) (λ h. omega (arith, sheet_small t h)) in
-    rows_read t 16384 (omega arith) ∙ ap (λ (b : Bool). leb 1 (if b then lines t else 0)) none
+    rows_read t 16384 (omega arith) ∙ ap (λ (b : Bool). leb 1 (when b then lines t else 0)) none
 
 -- what is read fits its words
 pub read_few : (t : List ℕ) (lent k : ℕ) → k ≡ lines_read t lent → 8 * k ≤ lent
 unfolding lines_read is_readable
 read_few t lent k e = subst (λ (n : ℕ). 8 * n ≤ lent) (sym e) (go (is_readable t lent) (λ h. h))
   where
-    go : (b : Bool) → (T b → T (is_readable t lent)) → 8 * (if b then lines t else 0) ≤ lent
+    go : (b : Bool) → (T b → T (is_readable t lent)) → 8 * (when b then lines t else 0) ≤ lent
     go true f = leb→le (8 * lines t) lent (and_right (is_sheet_text t && leb (lines t) 2048) (leb (8 * lines t) lent) (f tt))
     go false f = omega arith
 

@@ -11,7 +11,7 @@ use borrow.Rule.Slice.PartMut.{put_mid}
 use lib.Dec.{T, leb, eqb, leb→le}
 use lib.ListN.{length, get_or, take, drop, set, replicate, drop_of_length-le, length-drop}
 use lib.Seq.{take_all}
-use Rattle.definition.specs.Basics.{if◌then◌else◌, all, from}
+use Rattle.definition.specs.Basics.{when◌then◌else◌, all, from}
 use Rattle.definition.specs.Text.{is_digit, trimmed, digits, is_shortest, is_number, value, lines, column_text, is_sheet_text, sheet_of}
 use Rattle.definition.proofs.Lists.Tests.{and_left, and_right, if_true}
 use Rattle.definition.proofs.Format.Passes.{all_fails}
@@ -69,13 +69,13 @@ ten_power i h = (pow-le-pow_right {n = 10} (omega arith) {i = i} {j = 9} (omega 
 
 -- the number that the bytes after the spaces write
 abbrev number_of : List ℕ → ℕ
-number_of ds = if leb 1 (length ds) && all is_digit ds && is_shortest ds && leb (digits 0 ds) 4294967295 then digits 0 ds else 4294967296
+number_of ds = when leb 1 (length ds) && all is_digit ds && is_shortest ds && leb (digits 0 ds) 4294967295 then digits 0 ds else 4294967296
 
 -- it is none where a zero stands before another digit, or where it is too large
 zero_padded : (x : ℕ) (xs : List ℕ) → number_of (48 ∷ x ∷ xs) ≡ 4294967296
 zero_padded x xs = rw (ne_eqb (suc (suc (length xs))) 1 (λ e. omega arith)) (go (leb 1 (suc (suc (length xs)))) (all is_digit (48 ∷ x ∷ xs)))
   where
-    go : (n d : Bool) → (if n && d && false && leb (digits 0 (48 ∷ x ∷ xs)) 4294967295 then digits 0 (48 ∷ x ∷ xs) else 4294967296) ≡ 4294967296
+    go : (n d : Bool) → (when n && d && false && leb (digits 0 (48 ∷ x ∷ xs)) 4294967295 then digits 0 (48 ∷ x ∷ xs) else 4294967296) ≡ 4294967296
     go true true = refl
     go true false = refl
     go false d = refl
@@ -84,7 +84,7 @@ too_large : (ds : List ℕ) → 4294967295 < digits_from 0 ds → number_of ds �
 unfolding digits_from
 too_large ds = go (digits 0 ds) (leb 1 (length ds)) (all is_digit ds) (is_shortest ds)
   where
-    go : (v : ℕ) (n d s : Bool) → 4294967295 < (if d then v else 4294967296) → (if n && d && s && leb v 4294967295 then v else 4294967296) ≡ 4294967296
+    go : (v : ℕ) (n d s : Bool) → 4294967295 < (when d then v else 4294967296) → (when n && d && s && leb v 4294967295 then v else 4294967296) ≡ 4294967296
     go v true true true h = rw (lt-leb v 4294967295 h)
     go v true true false h = refl
     go v true false s h = refl
@@ -96,8 +96,8 @@ unfolding digits_from
 not_padded x xs n h =
     rw (ne_eqb x 48 n, le-leb 1 (suc (length xs)) (omega arith)) (go (digits 0 (x ∷ xs)) (all is_digit (x ∷ xs)) (eqb (suc (length xs)) 1) h)
   where
-    go : (v : ℕ) (d s : Bool) → (if d then v else 4294967296) ≤ 4294967295
-        → (if true && d && (s || true) && leb v 4294967295 then v else 4294967296) ≡ (if d then v else 4294967296)
+    go : (v : ℕ) (d s : Bool) → (when d then v else 4294967296) ≤ 4294967295
+        → (when true && d && (s || true) && leb v 4294967295 then v else 4294967296) ≡ (when d then v else 4294967296)
     go v true true h = rw (le-leb v 4294967295 h)
     go v true false h = rw (le-leb v 4294967295 h)
     go v false s h = refl
@@ -137,7 +137,7 @@ number_good : (xs : List ℕ) → number_in xs ≤ 4294967295 → (is_number xs 
 unfolding number_in
 number_good xs h = go (is_number xs) h
   where
-    go : (t : Bool) → (if t then value xs else 4294967296) ≤ 4294967295 → (t ≡ true) × ((if t then value xs else 4294967296) ≡ value xs)
+    go : (t : Bool) → (when t then value xs else 4294967296) ≤ 4294967295 → (t ≡ true) × ((when t then value xs else 4294967296) ≡ value xs)
     go true h = (refl, refl)
     go false h = absurd (omega arith)
 
@@ -146,7 +146,7 @@ unfolding number_in
 number_bad xs h = go (is_number xs) (λ w. leb→le (value xs) 4294967295
     (and_right (leb 1 (length (trimmed xs)) && all is_digit (trimmed xs) && is_shortest (trimmed xs)) (leb (value xs) 4294967295) w)) h
   where
-    go : (t : Bool) → (T t → value xs ≤ 4294967295) → 4294967295 < (if t then value xs else 4294967296) → t ≡ false
+    go : (t : Bool) → (T t → value xs ≤ 4294967295) → 4294967295 < (when t then value xs else 4294967296) → t ≡ false
     go true f h = absurd (omega (arith, f tt))
     go false f h = refl
 
@@ -227,7 +227,7 @@ whole_fits : (b lent : ℕ) → (81 * whole_lines b lent ≤ b) × (8 * whole_li
 unfolding whole_lines
 whole_fits b lent = go (eqb (81 * (b / 81)) b && leb (b / 81) 2048) (leb (8 * (b / 81)) lent) (leb→le (8 * (b / 81)) lent)
   where
-    go : (x y : Bool) → (T y → 8 * (b / 81) ≤ lent) → (81 * (if x && y then b / 81 else 0) ≤ b) × (8 * (if x && y then b / 81 else 0) ≤ lent)
+    go : (x y : Bool) → (T y → 8 * (b / 81) ≤ lent) → (81 * (when x && y then b / 81 else 0) ≤ b) × (8 * (when x && y then b / 81 else 0) ≤ lent)
     go true true f = (omega arith, f tt)
     go true false f = (omega arith, omega arith)
     go false y f = (omega arith, omega arith)
@@ -236,7 +236,7 @@ good_fits : (t : List ℕ) (n : ℕ) → good_lines t n ≤ n
 unfolding good_lines
 good_fits t n = go (all (λ r. is_line (line_at t r)) (from 0 n))
   where
-    go : (x : Bool) → (if x then n else 0) ≤ n
+    go : (x : Bool) → (when x then n else 0) ≤ n
     go true = omega arith
     go false = omega arith
 
@@ -269,10 +269,10 @@ module _ (t : List ℕ) where
       ap (λ (b : Bool). eqb (81 * lines t) (length t) && b)
       (all_alike (λ r. all (λ c. is_number (column_text t r c)) (from 0 8) && eqb (get_or t (81 * r + 80) 0) 10) (λ r. is_line (line_at t r)) 0 (lines t) (λ r h. line_same r))
 
-  pub sheet_is : sheet_of t ≡ (if is_sheet_text t then numbers_in t (lines t) else [])
+  pub sheet_is : sheet_of t ≡ (when is_sheet_text t then numbers_in t (lines t) else [])
   unfolding numbers_in
   sheet_is =
-      ap (λ (l : List ℕ). if is_sheet_text t then l else [])
+      ap (λ (l : List ℕ). when is_sheet_text t then l else [])
       (concat_alike (λ r. map (λ c. value (column_text t r c)) (from 0 8)) (λ r. numbers_of (line_at t r)) 0 (lines t) (λ r h. numbers_same r))
 
   pub text_numbers : T (is_sheet_text t) → sheet_of t ≡ numbers_in t (lines t)
@@ -284,19 +284,19 @@ module _ (t : List ℕ) (lent : ℕ) where
   unfolding good_lines whole_lines lines_read is_readable
   lines_read_lem =
       go (eqb (81 * lines t) (length t)) (all (λ r. is_line (line_at t r)) (from 0 (lines t))) (leb (lines t) 2048) (leb (8 * lines t) lent) (lines t) (good_lines t) refl refl
-      ∙ ap (λ (b : Bool). if b && leb (lines t) 2048 && leb (8 * lines t) lent then lines t else 0) (sym (text_lines t))
+      ∙ ap (λ (b : Bool). when b && leb (lines t) 2048 && leb (8 * lines t) lent then lines t else 0) (sym (text_lines t))
     where
-      go : (e a b c : Bool) (n : ℕ) (g : ℕ → ℕ) → g 0 ≡ 0 → g n ≡ (if a then n else 0) → g (if e && b && c then n else 0) ≡ (if e && a && b && c then n else 0)
+      go : (e a b c : Bool) (n : ℕ) (g : ℕ → ℕ) → g 0 ≡ 0 → g n ≡ (when a then n else 0) → g (when e && b && c then n else 0) ≡ (when e && a && b && c then n else 0)
       go true true true true n g z s = s
       go true false true true n g z s = s
       go true a true false n g z s = z ∙ none a
         where
-          none : (a : Bool) → 0 ≡ (if a && true && false then n else 0)
+          none : (a : Bool) → 0 ≡ (when a && true && false then n else 0)
           none true = refl
           none false = refl
       go true a false c n g z s = z ∙ none a
         where
-          none : (a : Bool) → 0 ≡ (if a && false && c then n else 0)
+          none : (a : Bool) → 0 ≡ (when a && false && c then n else 0)
           none true = refl
           none false = refl
       go false a b c n g z s = z
@@ -310,7 +310,7 @@ module _ (t : List ℕ) (lent : ℕ) where
   words_read_lem = go (is_readable t lent) readable
     where
       go : (b : Bool) → (T b → T (is_sheet_text t))
-          → numbers_in t (if b then lines t else 0) ++ replicate (lent - 8 * (if b then lines t else 0)) 0 ≡ (if b then sheet_of t ++ replicate (lent - 8 * lines t) 0 else replicate lent 0)
+          → numbers_in t (when b then lines t else 0) ++ replicate (lent - 8 * (when b then lines t else 0)) 0 ≡ (when b then sheet_of t ++ replicate (lent - 8 * lines t) 0 else replicate lent 0)
       go true f = ap (λ (l : List ℕ). l ++ replicate (lent - 8 * lines t) 0) (sym (text_numbers t (f tt)))
       go false f = cc (sym (none_read t), sub-zero lent)
 

@@ -12,7 +12,7 @@ use borrow.Rule.Slice.PartMut.{put_mid, drop_put, mid_len}
 use lib.Dec.{leb, ltb, eqb}
 use lib.ListN.{length, get_or, take, drop, set, length-set, take-append-drop, drop_of_length-le}
 use lib.Seq.{drop-drop, drop-set-lt, get_or-set_same, set_split, take-suc, take_all}
-use Rattle.definition.specs.Basics.{if◌then◌else◌, from, concat_map}
+use Rattle.definition.specs.Basics.{when◌then◌else◌, from, concat_map}
 use Rattle.definition.specs.Sheet.{rows}
 use Rattle.definition.specs.Text.{digit_byte, in_ten, text_of}
 use Rattle.text.specs.Lines.{place_byte, line_of, lines_of}
@@ -33,7 +33,7 @@ module _ (n i : ℕ) where
   unfolding place_byte
   place_digit e = rw (ne_eqb n 0 e) (go (leb 1 (9 - i)))
     where
-      go : (t : Bool) → (if t && false then 32 else 48 + n % 10) ≡ 48 + n % 10
+      go : (t : Bool) → (when t && false then 32 else 48 + n % 10) ≡ 48 + n % 10
       go true = refl
       go false = refl
 
@@ -52,7 +52,7 @@ module _ (n : ℕ) where
   place_is : (i : ℕ) → i < 10 → place_byte (n / 10 ^ (9 - i)) i ≡ get_or (in_ten n) i 0
   unfolding place_byte
   place_is i h =
-      ap (λ (t : Bool). if leb 1 (9 - i) && t then 32 else 48 + n / 10 ^ (9 - i) % 10) (quotient_zero n (10 ^ (9 - i)) (one-le-pow (9 - i) 10 (omega arith)))
+      ap (λ (t : Bool). when leb 1 (9 - i) && t then 32 else 48 + n / 10 ^ (9 - i) % 10) (quotient_zero n (10 ^ (9 - i)) (one-le-pow (9 - i) 10 (omega arith)))
       ∙ sym (map_at (λ j. digit_byte n (9 - j)) 0 10 i h)
 
   pub digits_left : (i m : ℕ) → 0 < i → i ≤ 10 → m ≡ n / 10 ^ (10 - i) → m / 10 ≡ n / 10 ^ (10 - (i - 1))

@@ -1,6 +1,6 @@
 -- What the inner routines promise of a column, a line and a run of lines.
 use Rattle.std.specs.Prelude.{Bool, ◌&&◌, List, [], ◌∷◌, ◌++◌, map, ℕ, ◌+◌, ◌-◌, ◌*◌, ◌/◌, ◌%◌, get_or, take, drop, eqb, leb}
-use Rattle.definition.specs.Basics.{if◌then◌else◌, all, from, concat_map}
+use Rattle.definition.specs.Basics.{when◌then◌else◌, all, from, concat_map}
 use Rattle.definition.specs.Text.{is_digit, digits, is_number, value, in_ten}
 use Rattle.text.specs.Writing.{row_at}
 
@@ -14,11 +14,11 @@ column_at l c = take 10 (drop (10 * c) l)
 
 -- the number that digits write, after v, or 4,294,967,296 where not all are digits
 unfoldable pub digits_from : ℕ → List ℕ → ℕ
-digits_from v xs = if all is_digit xs then digits v xs else 4294967296
+digits_from v xs = when all is_digit xs then digits v xs else 4294967296
 
 -- the number in a column, or 4,294,967,296 where there is none
 unfoldable pub number_in : List ℕ → ℕ
-number_in xs = if is_number xs then value xs else 4294967296
+number_in xs = when is_number xs then value xs else 4294967296
 
 -- is a line eight numbers and a newline?
 unfoldable pub is_line : List ℕ → Bool
@@ -30,7 +30,7 @@ numbers_of l = map (λ c. value (column_at l c)) (from 0 8)
 
 -- n where each of the first n lines is eight numbers and a newline, else 0
 unfoldable pub good_lines : List ℕ → ℕ → ℕ
-good_lines t n = if all (λ r. is_line (line_at t r)) (from 0 n) then n else 0
+good_lines t n = when all (λ r. is_line (line_at t r)) (from 0 n) then n else 0
 
 -- the numbers of the first n lines
 unfoldable pub numbers_in : List ℕ → ℕ → List ℕ
@@ -39,7 +39,7 @@ numbers_in t n = concat_map (λ r. numbers_of (line_at t r)) (from 0 n)
 -- the lines of so many bytes, where they are whole, at most 2,048, and so many words are enough for them; else 0
 unfoldable pub whole_lines : ℕ → ℕ → ℕ
 whole_lines bytes lent =
-    if eqb (81 * (bytes / 81)) bytes && leb (bytes / 81) 2048 && leb (8 * (bytes / 81)) lent then bytes / 81 else 0
+    when eqb (81 * (bytes / 81)) bytes && leb (bytes / 81) 2048 && leb (8 * (bytes / 81)) lent then bytes / 81 else 0
 
 -- a row as a line of text
 unfoldable pub line_of : List ℕ → List ℕ
@@ -47,7 +47,7 @@ line_of row = concat_map in_ten row ++ 10 ∷ []
 
 -- the byte at place i of ten, of a number whose digits up to there write n
 unfoldable pub place_byte : ℕ → ℕ → ℕ
-place_byte n i = if leb 1 (9 - i) && eqb n 0 then 32 else 48 + n % 10
+place_byte n i = when leb 1 (9 - i) && eqb n 0 then 32 else 48 + n % 10
 
 -- the first n rows of a list of words as text
 unfoldable pub lines_of : List ℕ → ℕ → List ℕ

@@ -6,7 +6,7 @@ use mathlib.Core.List.{List, [], ◌∷◌}
 use Prim.Native.Nat.{ℕ, zero, suc, ◌<◌, ◌≤◌}
 use native.Mathlib.Omega.{arith}
 use lib.Dec.{T, T_not, ltb, ltb→lt}
-use Rattle.definition.specs.Basics.{if◌then◌else◌, filter, any, first, from, ◌∈?◌}
+use Rattle.definition.specs.Basics.{when◌then◌else◌, filter, any, first, from, ◌∈?◌}
 use Rattle.definition.specs.Kind.{UNIT, IMPORT}
 use Rattle.definition.specs.Sheet.{Sheet, next, child, a, rows, chain, kids, is, kids_of}
 use Rattle.definition.proofs.Lists.Tests.{T_and}
@@ -31,7 +31,7 @@ pub rising_filter : (p : ℕ → Bool) {xs : List ℕ} → Rising xs → Rising 
 rising_filter p rising_none = rising_none
 rising_filter p (rising_one {u} {us} above rise) = go (p u) (rising_filter p rise)
   where
-    go : (t : Bool) → Rising (filter p us) → Rising (if t then u ∷ filter p us else filter p us)
+    go : (t : Bool) → Rising (filter p us) → Rising (when t then u ∷ filter p us else filter p us)
     go true r = rising_one (λ v m. above v (mem_test v us (filter_mem p v us (test_mem v (filter p us) m)).0)) r
     go false r = r
 
@@ -111,7 +111,7 @@ first_lowest p d rising_none h = absurd h
 first_lowest p d (rising_one {u} {us} above rise) h = go (p u) (λ k. k) (λ k. k) h (first_lowest p d rise)
   where
     go : (t : Bool) → (T t → T (p u)) → (T (p u) → T t) → T (t || any p us) → (T (any p us) → Lowest p us (first p d us))
-        → Lowest p (u ∷ us) (if t then u else first p d us)
+        → Lowest p (u ∷ us) (when t then u else first p d us)
     go true f g k later =
         record {
           listed = in_head u u us refl;

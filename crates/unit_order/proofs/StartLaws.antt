@@ -7,7 +7,7 @@ use Prim.Native.Nat.{ℕ, zero, suc, ◌<◌, ◌≤◌}
 use native.Mathlib.Omega.{arith}
 use lib.Dec.{T, T_not}
 use lib.ListN.{length, take, length-append}
-use Rattle.definition.specs.Basics.{if◌then◌else◌, filter, all, ◌∈?◌}
+use Rattle.definition.specs.Basics.{when◌then◌else◌, filter, all, ◌∈?◌}
 use Rattle.definition.proofs.Lists.Tests.{T_and, and_both, decide}
 use Rattle.definition.proofs.Lists.Counts.{in_head, in_tail, in_cases}
 use Rattle.definition.proofs.Lists.Members.{Nodup, nodup_none, nodup_one, nodup_append, test_mem, mem_test, mem_filter, filter_mem, pigeonhole}
@@ -46,8 +46,8 @@ passing p (rising_one {u} {us} above rise) = go (p u) (λ h. h) (λ h. h) (passi
     yes h v m = ⊎_elim (λ (e : v ≡ u). omega arith) (λ k. let l : u < v = above v k in omega arith) (in_cases v u us m)
 
     go : (t : Bool) → (T t → T (p u)) → (T (p u) → T t) → Passing p us
-        → (((v : ℕ) → T (v ∈? (u ∷ us)) → T (p v) → ⊥) × (take 1 (if t then u ∷ filter p us else filter p us) ≡ []))
-        ⊎ ((x : ℕ) × (take 1 (if t then u ∷ filter p us else filter p us) ≡ x ∷ []) × Lowest p (u ∷ us) x)
+        → (((v : ℕ) → T (v ∈? (u ∷ us)) → T (p v) → ⊥) × (take 1 (when t then u ∷ filter p us else filter p us) ≡ []))
+        ⊎ ((x : ℕ) × (take 1 (when t then u ∷ filter p us else filter p us) ≡ x ∷ []) × Lowest p (u ∷ us) x)
     go true f g r = inr (u, refl, record { listed = in_head u u us refl; passes = f tt; least = λ v m h. yes (f tt) v m })
     go false f g (inl r) =
         inl (λ v m h. ⊎_elim (λ (e : v ≡ u). g (subst (λ (x : ℕ). T (p x)) e h)) (λ k. r.0 v k h) (in_cases v u us m), r.1)

@@ -8,7 +8,7 @@ use Prim.Native.Nat.{ℕ}
 use native.Mathlib.Omega.{arith}
 use lib.Dec.{T, leb}
 use lib.ListN.{length}
-use Rattle.definition.specs.Basics.{if◌then◌else◌, any, first, head, ◌∈?◌}
+use Rattle.definition.specs.Basics.{when◌then◌else◌, any, first, head, ◌∈?◌}
 use Rattle.definition.specs.Sheet.{Sheet, rows}
 use Rattle.definition.specs.Names.{names_fit, name_count}
 use Rattle.definition.specs.Format.{sheet_fits, depths_fit}
@@ -69,12 +69,12 @@ module _ (n : ℕ) (s : Sheet) (ok : SheetFacts n s) where
       told = record { number = 0; file = 0; line = 0; column = 0; name = 0; rows = map unit_row (order s); globals = 0 }
 
       rest : Outcome
-      rest = if leb (length (order s)) lent then told else refused 22
+      rest = when leb (length (order s)) lent then told else refused 22
 
       at : ℕ
       at = first (circles s) 0 (units s)
 
-      refusing : T (any (circles s) (units s)) → OrderClaims s (if any (circles s) (units s) then refused_at 29 s at 0 else rest)
+      refusing : T (any (circles s) (units s)) → OrderClaims s (when any (circles s) (units s) then refused_at 29 s at 0 else rest)
       refusing h =
           subst (OrderClaims s) (sym (if_true (any (circles s) (units s)) (refused_at 29 s at 0) rest h))
           (record {
@@ -83,7 +83,7 @@ module _ (n : ℕ) (s : Sheet) (ok : SheetFacts n s) where
             free = λ e u m c. ⊎_elim (λ z. omega (arith, z)) (λ z. omega (arith, z)) e;
           })
 
-      granted : T (not (any (circles s) (units s))) → (t : Bool) → OrderClaims s (if t then told else refused 22)
+      granted : T (not (any (circles s) (units s))) → (t : Bool) → OrderClaims s (when t then told else refused 22)
       granted f true =
           record {
             order = λ e. subst (OrderFrom (imports_of s) (units s) []) (sym (told_units (order s))) (order_there (none_circles f));
@@ -92,7 +92,7 @@ module _ (n : ℕ) (s : Sheet) (ok : SheetFacts n s) where
           }
       granted f false = record { order = λ e. absurd (omega (arith, e)); circle = λ e. absurd (omega (arith, e)); free = λ e. none_circles f }
 
-      granting : T (not (any (circles s) (units s))) → OrderClaims s (if any (circles s) (units s) then refused_at 29 s at 0 else rest)
+      granting : T (not (any (circles s) (units s))) → OrderClaims s (when any (circles s) (units s) then refused_at 29 s at 0 else rest)
       granting f =
           subst (OrderClaims s) (sym (if_false (any (circles s) (units s)) (refused_at 29 s at 0) rest f)) (granted f (leb (length (order s)) lent))
 
@@ -105,7 +105,7 @@ order_claims s ns lent = go (rows_fit s) (names_fit ns) (sheet_fits (name_count 
     early q x y z = record { order = λ e. absurd (x e); circle = λ e. absurd (z e); free = λ e u m c. ⊎_elim x y e }
 
     go : (x y z : Bool) → sheet_fits (name_count ns) s ≡ z → (w : Bool)
-        → OrderClaims s (if not x then refused 1 else if not y then refused 2 else if not z then refused 3 else if not w then refused 4 else order_asked lent s)
+        → OrderClaims s (when not x then refused 1 else when not y then refused 2 else when not z then refused 3 else when not w then refused 4 else order_asked lent s)
     go false y z e w = early 1 (λ q. omega (arith, q)) (λ q. omega (arith, q)) (λ q. omega (arith, q))
     go true false z e w = early 2 (λ q. omega (arith, q)) (λ q. omega (arith, q)) (λ q. omega (arith, q))
     go true true false e w = early 3 (λ q. omega (arith, q)) (λ q. omega (arith, q)) (λ q. omega (arith, q))

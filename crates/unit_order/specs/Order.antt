@@ -1,6 +1,6 @@
 -- The order of a sheet's units, and what comes of asking for it (document 02, F-10).
 use Rattle.std.specs.Prelude.{Bool, not, List, ◌∷◌, ◌++◌, map, ℕ, ◌-◌, length, replicate, leb}
-use Rattle.definition.specs.Basics.{if◌then◌else◌, filter, any, first, from, head}
+use Rattle.definition.specs.Basics.{when◌then◌else◌, filter, any, first, from, head}
 use Rattle.definition.specs.Kind.{UNIT, IMPORT}
 use Rattle.definition.specs.Sheet.{Sheet, a, rows, is, kids_of}
 use Rattle.definition.specs.Names.{names_fit, name_count}
@@ -31,18 +31,18 @@ unit_row u = u ∷ replicate 7 0
 -- questions 29 and 22, with a list of `lent` words: the order if no unit is on a circle and the list has a word for each unit
 unfoldable pub order_asked : ℕ → Sheet → Outcome
 order_asked lent s =
-    if any (circles s) (units s) then refused_at 29 s (first (circles s) 0 (units s)) 0
-    else if leb (length (order s)) lent
+    when any (circles s) (units s) then refused_at 29 s (first (circles s) 0 (units s)) 0
+    else when leb (length (order s)) lent
     then record { number = 0; file = 0; line = 0; column = 0; name = 0; rows = map unit_row (order s); globals = 0 }
     else refused 22
 
 -- what comes of a sheet and a byte list of names, with a list of `lent` words: questions 1 to 4, then 29 and 22
 unfoldable pub order_outcome : Sheet → List ℕ → ℕ → Outcome
 order_outcome s ns lent =
-    if not (rows_fit s) then refused 1
-    else if not (names_fit ns) then refused 2
-    else if not (sheet_fits (name_count ns) s) then refused 3
-    else if not (depths_fit s) then refused 4
+    when not (rows_fit s) then refused 1
+    else when not (names_fit ns) then refused 2
+    else when not (sheet_fits (name_count ns) s) then refused 3
+    else when not (depths_fit s) then refused 4
     else order_asked lent s
 
 -- what the list then holds: a word for each unit of the order, zeros to its end

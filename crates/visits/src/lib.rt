@@ -3,7 +3,7 @@
 #![tactic(auto)]
 
 ghost use Rattle.std.specs.Prelude.{◌≡◌, ◌||◌, true, not, List, [], ◌∷◌, ℕ, eqb};
-ghost use Rattle.definition.specs.Basics.{if◌then◌else◌};
+ghost use Rattle.definition.specs.Basics.{when◌then◌else◌};
 ghost use Rattle.definition.specs.Sheet.{kind, is, b};
 ghost use Rattle.definition.specs.Walk.{visit};
 ghost use Rattle.definition.specs.Outside.{Outside};
@@ -62,7 +62,7 @@ pub fn check_instanceof(
 
 // Code 7 in the main unit's function itself, else 8.
 fn main_unit_code(sheet: &[u32], fun: FunId) -> u32
-    ensures { result ≡ (if eqb fun.0 (b sheet.now 0) then 7 else 8) }
+    ensures { result ≡ (when eqb fun.0 (b sheet.now 0) then 7 else 8) }
 {
     if fun.0 == word(sheet, 0, column::B) {
         code::TRUE
@@ -118,7 +118,7 @@ fn names_class(m: u32, class: ClassId) -> bool
 // The parent of class row `c`, stored with it.
 fn write_parent(sheet: &[u32], c: u32, class: ClassId, results: &mut [u32])
     ensures { (o : Store) (nodes : List ℕ) → store_of o results.new nodes
-        ≡ (if is sheet.now 4 c then write_row_at c (2 ∷ class.0 ∷ []) (store_of o results.old nodes) else store_of o
+        ≡ (when is sheet.now 4 c then write_row_at c (2 ∷ class.0 ∷ []) (store_of o results.old nodes) else store_of o
         results.old nodes) }
 {
     if word(sheet, c, column::KIND) == kind::CLASS {

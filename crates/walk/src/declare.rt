@@ -1,6 +1,6 @@
 // Declarations: the names of classes, parameters and lets.
 ghost use Rattle.std.specs.Prelude.{◌≡◌, ◌&&◌, not, true, List, [], ◌∷◌, map, ℕ, ◌≤◌, length};
-ghost use Rattle.definition.specs.Basics.{if◌then◌else◌, filter};
+ghost use Rattle.definition.specs.Basics.{when◌then◌else◌, filter};
 ghost use Rattle.definition.specs.Sheet.{is, kids, kids_of};
 ghost use Rattle.definition.specs.Meaning.{is_declared};
 ghost use Rattle.definition.specs.Slots.{is_local};
@@ -33,7 +33,7 @@ fn is_literal_let(sheet: &[u32], row: u32) -> bool
 
 // The question on a name that is taken: 7 for a let whose value is no function literal, 16 for any other row.
 fn declare_question(sheet: &[u32], row: u32) -> u32
-    ensures { result ≡ (if is sheet.now 29 row && not (literal_let sheet.now row) then 7 else 16) }
+    ensures { result ≡ (when is sheet.now 29 row && not (literal_let sheet.now row) then 7 else 16) }
 {
     if word(sheet, row, column::KIND) != kind::LET {
         return question::NAME_FREE;
@@ -48,7 +48,7 @@ fn declare_question(sheet: &[u32], row: u32) -> u32
 // A local is counted in the innermost function.
 fn count_local(sheet: &[u32], env: Env, d: OpenDecl, results: &mut [u32])
     ensures { (o : Store) (nodes : List ℕ) → store_of o results.new nodes
-        ≡ (if is_local sheet.now (means d) then raise_locals env.fun.0 (one_more env.slot)
+        ≡ (when is_local sheet.now (means d) then raise_locals env.fun.0 (one_more env.slot)
         (store_of o results.old nodes) else store_of o results.old nodes) }
 {
     if is_local(sheet, d) {
@@ -109,7 +109,7 @@ fn declare_if(
 ) -> Walk
     requires { length sheet.now ≤ 16384 }
     ensures { (O : Outside) (nodes : List ℕ) → state_of result entries.new results.new nodes
-        ≡ run_state O sheet.now (if is sheet.now kind k then declare k ∷ [] else [])
+        ≡ run_state O sheet.now (when is sheet.now kind k then declare k ∷ [] else [])
         (state_of walk entries.old results.old nodes) }
 {
     if word(sheet, k, column::KIND) != kind {
@@ -156,7 +156,7 @@ fn declare_literal(
 ) -> Walk
     requires { length sheet.now ≤ 16384 }
     ensures { (O : Outside) (nodes : List ℕ) → state_of result entries.new results.new nodes
-        ≡ run_state O sheet.now (if literal_let sheet.now k then declare k ∷ [] else [])
+        ≡ run_state O sheet.now (when literal_let sheet.now k then declare k ∷ [] else [])
         (state_of walk entries.old results.old nodes) }
 {
     if !is_literal_let(sheet, k) {

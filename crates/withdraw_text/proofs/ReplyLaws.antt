@@ -7,7 +7,7 @@ use native.Mathlib.Omega.{arith}
 use lib.ListN.{length, get_or, drop, length-append, length-take, length-replicate}
 use lib.Dec.{leb}
 use borrow.Author.Tests.{le-leb, lt-leb}
-use Rattle.definition.specs.Basics.{if◌then◌else◌}
+use Rattle.definition.specs.Basics.{when◌then◌else◌}
 use Rattle.definition.specs.Sheet.{rows}
 use Rattle.definition.specs.Text.{text_of}
 use Rattle.definition.proofs.Format.Accepted.{Eights}
@@ -68,8 +68,8 @@ module _ (w b before : List ℕ) where
   not_replied l =
       let e : leb 162 (length before) ≡ false = lt-leb 162 (length before) l in
       record {
-        text = subst (λ (u : Bool). Begins (if u then printed_withdrawal w b else []) before 0 before) (sym e) (record { count = refl; text = refl });
-        session = sym (ap (λ (u : Bool). if u then withdraw_words whole w b else w) e);
+        text = subst (λ (u : Bool). Begins (when u then printed_withdrawal w b else []) before 0 before) (sym e) (record { count = refl; text = refl });
+        session = sym (ap (λ (u : Bool). when u then withdraw_words whole w b else w) e);
       }
 
   -- room for it
@@ -81,7 +81,7 @@ module _ (w b before : List ℕ) where
       ap (λ (k : ℕ). text_of (line k ∷ fitted 8 w' ∷ [])) h.tells.number ∙ ap (λ (v : List ℕ). text_of (line (withdraw_no whole w b) ∷ fitted 8 v ∷ [])) h.session in
       record {
         text =
-            subst (λ (u : Bool). Begins (if u then printed_withdrawal w b else []) before 162 after) (sym e)
+            subst (λ (u : Bool). Begins (when u then printed_withdrawal w b else []) before 162 after) (sym e)
             (subst (λ (t : List ℕ). Begins t before 162 after) told p);
-        session = h.session ∙ sym (ap (λ (u : Bool). if u then withdraw_words whole w b else w) e);
+        session = h.session ∙ sym (ap (λ (u : Bool). when u then withdraw_words whole w b else w) e);
       }

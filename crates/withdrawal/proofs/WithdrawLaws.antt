@@ -8,7 +8,7 @@ use lib.ListN.{length, get_or, set}
 use lib.Seq.{sets}
 use lib.Dec.{eqb, T, leb→le}
 use borrow.Author.Tests.{ne_eqb, eqb-false}
-use Rattle.definition.specs.Basics.{if◌then◌else◌}
+use Rattle.definition.specs.Basics.{when◌then◌else◌}
 use Rattle.definition.specs.Outcome.{refused}
 use Rattle.definition.proofs.Lists.Tests.{T_true, pick}
 use Rattle.lexer.proofs.Laws.{file_none, line_none, column_none}
@@ -42,7 +42,7 @@ module _ (w n : List ℕ) where
   both_there : withdraw_no whole w n ≡ 0 → (session_fits whole w n ≡ true) × (get_or w 1 0 ≡ 0 → ⊥)
   both_there = go (session_fits whole w n) (eqb (get_or w 1 0) 0) refl refl
     where
-      go : (f t : Bool) → session_fits whole w n ≡ f → eqb (get_or w 1 0) 0 ≡ t → ◌≡◌ {A = ℕ} (if not f then 23 else if t then 25 else 0) 0
+      go : (f t : Bool) → session_fits whole w n ≡ f → eqb (get_or w 1 0) 0 ≡ t → ◌≡◌ {A = ℕ} (when not f then 23 else when t then 25 else 0) 0
           → (session_fits whole w n ≡ true) × (get_or w 1 0 ≡ 0 → ⊥)
       go true true e q z = absurd (omega (arith, z))
       go true false e q z = (e, eqb-false (get_or w 1 0) 0 q)
@@ -84,7 +84,7 @@ module _ (w n : List ℕ) where
       → w' ≡ withdraw_words whole w n
   words_cut {w₁} {w'} {k} z e c p =
       p ∙ ap (λ (v : List ℕ). set v 2 k) e ∙ ap (set (words_without whole w n) 2) (c ∙ ap (λ (v : List ℕ). length (visible_names v)) e ∙ shown)
-      ∙ sym (ap (λ (k : ℕ). if eqb k 0 then showing (withdrawn (session_in whole w n)) (words_without whole w n) else w) z)
+      ∙ sym (ap (λ (k : ℕ). when eqb k 0 then showing (withdrawn (session_in whole w n)) (words_without whole w n) else w) z)
     where
       x : Runs whole (words_without whole w n) n (withdrawn (session_in whole w n))
       x = without_runs whole w n (session_there z)
@@ -94,7 +94,7 @@ module _ (w n : List ℕ) where
 
   pub words_kept : (withdraw_no whole w n ≡ 0 → ⊥) → w ≡ withdraw_words whole w n
   words_kept f =
-      sym (ap (λ (t : Bool). if t then showing (withdrawn (session_in whole w n)) (words_without whole w n) else w) (ne_eqb (withdraw_no whole w n) 0 f))
+      sym (ap (λ (t : Bool). when t then showing (withdrawn (session_in whole w n)) (words_without whole w n) else w) (ne_eqb (withdraw_no whole w n) 0 f))
 
 -- the words written, by the counts read
 pub counts_cut : (w : List ℕ) {e a b c d m : ℕ} {w₁ w₂ : List ℕ} → e ≡ get_or w 1 0

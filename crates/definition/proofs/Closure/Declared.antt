@@ -6,7 +6,7 @@ use mathlib.Core.Bool.{Bool, true, false, not, ◌||◌, ◌&&◌}
 use Prim.Native.Nat.{ℕ, zero, suc, ◌+◌, ◌-◌, ◌<◌, ◌≤◌}
 use native.Mathlib.Omega.{arith}
 use lib.Dec.{eqb, leb, T, T_not, le→leb}
-use Rattle.definition.specs.Basics.{if◌then◌else◌, all, filter, first, concat_map, largest, bit}
+use Rattle.definition.specs.Basics.{when◌then◌else◌, all, filter, first, concat_map, largest, bit}
 use Rattle.definition.specs.Sheet.{Sheet, rows, child, a, b, is, kids, kids_of}
 use Rattle.definition.specs.Outside.{Outside, OutsideFits, is_outward}
 use Rattle.definition.specs.Meaning.{Meaning, nothing, variable, row_of, owner_of, is_variable, global, function, class, toplevel, Named, named}
@@ -34,7 +34,7 @@ plain_append : {xs ys : List Event} → Plain xs → Plain ys → Plain (xs ++ y
 plain_append none q = q
 plain_append (one e p) q = one e (plain_append p q)
 
-plain_if : (t : Bool) {xs ys : List Event} → Plain xs → Plain ys → Plain (if t then xs else ys)
+plain_if : (t : Bool) {xs ys : List Event} → Plain xs → Plain ys → Plain (when t then xs else ys)
 plain_if true p q = p
 plain_if false p q = q
 
@@ -54,7 +54,7 @@ exports_map : (f : ℕ → Named) → ((r : ℕ) → T (not (is_variable (f r).m
 exports_map f h [] = no_more
 exports_map f h (r ∷ rs) = export (h r) (exports_map f h rs)
 
-exports_if : (t : Bool) {xs ys : List Named} → PlainNameds xs → PlainNameds ys → PlainNameds (if t then xs else ys)
+exports_if : (t : Bool) {xs ys : List Named} → PlainNameds xs → PlainNameds ys → PlainNameds (when t then xs else ys)
 exports_if true p q = p
 exports_if false p q = q
 
@@ -68,7 +68,7 @@ plain_all : (i : ℕ) {xs : List Named} → PlainNameds xs → Plain (map (λ e.
 plain_all i no_more = none
 plain_all i (export h p) = one (p_bring h) (plain_all i p)
 
-plain_choice : (t : Bool) (x y : Named) → T (not (is_variable x.means)) → T (not (is_variable y.means)) → T (not (is_variable (if t then x else y).means))
+plain_choice : (t : Bool) (x y : Named) → T (not (is_variable x.means)) → T (not (is_variable y.means)) → T (not (is_variable (when t then x else y).means))
 plain_choice true x y p q = p
 plain_choice false x y p q = q
 
@@ -120,8 +120,8 @@ open_closed (bound m e ∷ S) j n d st p = let q = open_closed S j n d st p in (
 
 -- what a row declares as a variable, it declares as its own, and it is no class and no let of a unit function
 as_variable : (t4 tc tg tf : Bool) (c k g f r o : ℕ)
-    → T (is_variable (if t4 then class c else if tc then global k 0 else if tg then toplevel g else if tf then function f else variable r o))
-    → ((if t4 then class c else if tc then global k 0 else if tg then toplevel g else if tf then function f else variable r o) ≡ variable r o) × T (not t4) × T (not tf)
+    → T (is_variable (when t4 then class c else when tc then global k 0 else when tg then toplevel g else when tf then function f else variable r o))
+    → ((when t4 then class c else when tc then global k 0 else when tg then toplevel g else when tf then function f else variable r o) ≡ variable r o) × T (not t4) × T (not tf)
 as_variable true tc tg tf c k g f r o h = absurd h
 as_variable false true tg tf c k g f r o h = absurd h
 as_variable false false true tf c k g f r o h = absurd h
@@ -130,7 +130,7 @@ as_variable false false false false c k g f r o h = (refl, tt, tt)
 
 -- a let that declares a local or argument is no constant: its mutability is 0 or 1
 no_constant : (t4 t29 t2 tg tf : Bool) (c k g f r o : ℕ) → T t29
-    → T (is_variable (if t4 then class c else if t29 && t2 then global k 0 else if tg then toplevel g else if tf then function f else variable r o)) → T (not t2)
+    → T (is_variable (when t4 then class c else when t29 && t2 then global k 0 else when tg then toplevel g else when tf then function f else variable r o)) → T (not t2)
 no_constant true t29 t2 tg tf c k g f r o t h = absurd h
 no_constant false true true tg tf c k g f r o t h = absurd h
 no_constant false true false tg tf c k g f r o t h = tt

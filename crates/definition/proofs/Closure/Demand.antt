@@ -8,7 +8,7 @@ use Prim.Native.Nat.{ℕ, suc, ◌<◌}
 use native.Mathlib.Omega.{arith}
 use lib.ListN.{length, get_or, take, drop, length-map}
 use lib.Dec.{eqb, T, eqb→eq}
-use Rattle.definition.specs.Basics.{if◌then◌else◌, filter, place, count, bit, largest, ◌∈?◌}
+use Rattle.definition.specs.Basics.{when◌then◌else◌, filter, place, count, bit, largest, ◌∈?◌}
 use Rattle.definition.specs.Sheet.{Sheet, a, child, rows, is, kids, holder, functions_of, function_of}
 use Rattle.definition.specs.Outside.{Outside}
 use Rattle.definition.specs.Meaning.{row_of, owner_of, is_variable}
@@ -54,7 +54,7 @@ lets_open s (looping ∷ st) = lets_open s st
 lets_open s (bound n d ∷ st) = go (is_variable d) (is s 29 (row_of d)) refl (lets_open s st)
   where
     go : (t u : Bool) → is s 29 (row_of d) ≡ u → open_locals s st ≡ open_lets s st
-        → (if t && u then suc (open_locals s st) else open_locals s st) ≡ count (is s 29) (if t then row_of d ∷ open_rows st else open_rows st)
+        → (when t && u then suc (open_locals s st) else open_locals s st) ≡ count (is s 29) (when t then row_of d ∷ open_rows st else open_rows st)
     go true true h e = omega (arith, e, ap bit h)
     go true false h e = omega (arith, e, ap bit h)
     go false u h e = e

@@ -9,7 +9,7 @@ use Prim.Native.Nat.{ℕ, zero, suc, ◌+◌}
 use native.Mathlib.Omega.{arith}
 use lib.ListN.{drop}
 use lib.Dec.{eqb, T, eqb→eq}
-use Rattle.definition.specs.Basics.{if◌then◌else◌, bit, count}
+use Rattle.definition.specs.Basics.{when◌then◌else◌, bit, count}
 use Rattle.definition.specs.Meaning.{Meaning, is_variable, row_of}
 use Rattle.definition.specs.Scope.{Entry, Stack, scope, looping, bound}
 use Rattle.definition.specs.Claims.{open_rows}
@@ -44,7 +44,7 @@ open_row (scope r ∷ S) d m = under (scope r) S d (open_row S d m)
 open_row (looping ∷ S) d m = under looping S d (open_row S d m)
 open_row (bound n e ∷ S) d m = go (is_variable e) (λ t. t) m (open_row S d)
   where
-    go : (t : Bool) → (T t → T (is_variable e)) → Mem d (if t then row_of e ∷ open_rows S else open_rows S) → (Mem d (open_rows S) → OpenRow S d) → OpenRow (bound n e ∷ S) d
+    go : (t : Bool) → (T t → T (is_variable e)) → Mem d (when t then row_of e ∷ open_rows S else open_rows S) → (Mem d (open_rows S) → OpenRow S d) → OpenRow (bound n e ∷ S) d
     go true v (here q) up = record { at = 0; name = n; means = e; before = S; is_open = refl; is_variable_lem = v tt; row_is_lem = sym q }
     go true v (there q) up = under (bound n e) S d (up q)
     go false v q up = under (bound n e) S d (up q)
@@ -54,14 +54,14 @@ row_open [] zero n e st p v = let z : ◌≡◌ {A = ℕ} 0 1 = cc in absurd (om
 row_open [] (suc i) n e st p v = let z : ◌≡◌ {A = ℕ} 0 1 = cc in absurd (omega arith)
 row_open (x ∷ S) zero n e st p v = subst (λ (l : Stack). Mem (row_of e) (open_rows l)) (sym p) (go (is_variable e) v)
   where
-    go : (t : Bool) → T t → Mem (row_of e) (if t then row_of e ∷ open_rows st else open_rows st)
+    go : (t : Bool) → T t → Mem (row_of e) (when t then row_of e ∷ open_rows st else open_rows st)
     go true h = here refl
     go false h = absurd h
 row_open (scope r ∷ S) (suc i) n e st p v = row_open S i n e st p v
 row_open (looping ∷ S) (suc i) n e st p v = row_open S i n e st p v
 row_open (bound k d ∷ S) (suc i) n e st p v = go (is_variable d) (row_open S i n e st p v)
   where
-    go : (t : Bool) → Mem (row_of e) (open_rows S) → Mem (row_of e) (if t then row_of d ∷ open_rows S else open_rows S)
+    go : (t : Bool) → Mem (row_of e) (open_rows S) → Mem (row_of e) (when t then row_of d ∷ open_rows S else open_rows S)
     go true m = there m
     go false m = m
 
@@ -95,7 +95,7 @@ count_open (bound n e ∷ S) d f m = go (is_variable e) (λ t. t) m (count_open 
     rest false on off v (here q) up = absurd (off (eqb_of d (row_of e) q))
     rest false on off v (there k) up = omega (arith, up k)
 
-    go : (t : Bool) → (T t → T (is_variable e)) → Mem d (if t then row_of e ∷ open_rows S else open_rows S) → (Mem d (open_rows S) → count (eqb d) (open_rows S) ≡ 1)
-        → count (eqb d) (if t then row_of e ∷ open_rows S else open_rows S) ≡ 1
+    go : (t : Bool) → (T t → T (is_variable e)) → Mem d (when t then row_of e ∷ open_rows S else open_rows S) → (Mem d (open_rows S) → count (eqb d) (open_rows S) ≡ 1)
+        → count (eqb d) (when t then row_of e ∷ open_rows S else open_rows S) ≡ 1
     go true v k up = rest (eqb d (row_of e)) (λ t. t) (λ t. t) (v tt) k up
     go false v k up = up k

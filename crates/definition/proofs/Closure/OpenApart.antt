@@ -7,7 +7,7 @@ use Prim.Native.Nat.{ℕ, suc}
 use native.Mathlib.Omega.{arith}
 use lib.ListN.{length, get_or, take, drop, length-drop}
 use lib.Dec.{eqb, T, T_not, eqb→eq, eqb_refl}
-use Rattle.definition.specs.Basics.{if◌then◌else◌, place, bit}
+use Rattle.definition.specs.Basics.{when◌then◌else◌, place, bit}
 use Rattle.definition.specs.Sheet.{Sheet, kind, kids, kids_of, is, b}
 use Rattle.definition.specs.Outside.{Outside}
 use Rattle.definition.specs.Meaning.{Meaning, nothing, variable, row_of, owner_of, is_variable, global, function, class, toplevel}
@@ -22,7 +22,7 @@ use Rattle.definition.proofs.Closure.Variables.{KindOf, parameter, local, Variab
 
 -- the code, the slot or index, and the function of a variable
 code_of_lem : (O : Outside) (s : Sheet) (d : Meaning) (k : ℕ) → T (is_variable d)
-    → code s (history O s) d k ≡ (if is s 11 (row_of d) then 4 ∷ place (eqb (row_of d)) (kids_of s 11 (owner_of d)) ∷ owner_of d ∷ [] else 5 ∷ k ∷ owner_of d ∷ bit (eqb (b s (row_of d)) 1) ∷ [])
+    → code s (history O s) d k ≡ (when is s 11 (row_of d) then 4 ∷ place (eqb (row_of d)) (kids_of s 11 (owner_of d)) ∷ owner_of d ∷ [] else 5 ∷ k ∷ owner_of d ∷ bit (eqb (b s (row_of d)) 1) ∷ [])
 code_of_lem O s nothing k h = absurd h
 code_of_lem O s (function f) k h = absurd h
 code_of_lem O s (class c) k h = absurd h

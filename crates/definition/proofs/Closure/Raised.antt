@@ -10,7 +10,7 @@ use native.Mathlib.Omega.{arith}
 use lib.ListN.{length, get_or, set, take, drop, length-map}
 use lib.Seq.{get_or-set_other}
 use lib.Dec.{eqb, T, eqb→eq}
-use Rattle.definition.specs.Basics.{if◌then◌else◌, count, bit, place}
+use Rattle.definition.specs.Basics.{when◌then◌else◌, count, bit, place}
 use Rattle.definition.specs.Sheet.{Sheet, b, rows, is, kids_of, holder, function_of}
 use Rattle.definition.specs.Outside.{Outside, based}
 use Rattle.definition.specs.Scope.{Moment, history, visited}
@@ -30,7 +30,7 @@ kept_word n x j f g = go (eqb c 1) (eqb c 2 || eqb c 22) (eqb c 4 || eqb c 5) (e
     c : ℕ
     c = get_or x 1 0
 
-    go : (t u v w : Bool) (k l p q : ℕ) → get_or (if t then set x 2 k else if u then set x 2 l else if v then set x 3 p else if w then set x 3 q else x) j 0 ≡ get_or x j 0
+    go : (t u v w : Bool) (k l p q : ℕ) → get_or (when t then set x 2 k else when u then set x 2 l else when v then set x 3 p else when w then set x 3 q else x) j 0 ≡ get_or x j 0
     go true u v w k l p q = get_or-set_other x 2 j k 0 f
     go false true v w k l p q = get_or-set_other x 2 j l 0 f
     go false false true w k l p q = get_or-set_other x 3 j p 0 g
@@ -53,8 +53,8 @@ raised_cons n a c = go (eqb k 1) (eqb k 2 || eqb k 22) (eqb k 4 || eqb k 5) (eqb
     k = get_or c 0 0
 
     go : (t u v w : Bool) (i l p q : ℕ)
-        → (if t then set (a ∷ c) 2 i else if u then set (a ∷ c) 2 l else if v then set (a ∷ c) 3 p else if w then set (a ∷ c) 3 q else a ∷ c)
-        ≡ a ∷ drop 1 (if t then set (0 ∷ c) 2 i else if u then set (0 ∷ c) 2 l else if v then set (0 ∷ c) 3 p else if w then set (0 ∷ c) 3 q else 0 ∷ c)
+        → (when t then set (a ∷ c) 2 i else when u then set (a ∷ c) 2 l else when v then set (a ∷ c) 3 p else when w then set (a ∷ c) 3 q else a ∷ c)
+        ≡ a ∷ drop 1 (when t then set (0 ∷ c) 2 i else when u then set (0 ∷ c) 2 l else when v then set (0 ∷ c) 3 p else when w then set (0 ∷ c) 3 q else 0 ∷ c)
     go true u v w i l p q = refl
     go false true v w i l p q = refl
     go false false true w i l p q = refl
@@ -86,11 +86,11 @@ map_by f g (x ∷ xs) h = ap (λ (r : Row). r ∷ map f xs) (h x) ∙ ap (λ (l 
 rows_raised : (n : ℕ) (out : List Row) (r : ℕ) → rows_for (map (raised_row n) out) r ≡ map (raised_row n) (rows_for out r)
 rows_raised n [] r = refl
 rows_raised n (x ∷ xs) r =
-    ap (λ (w : ℕ). if eqb w r then raised_row n x ∷ rows_for (map (raised_row n) xs) r else rows_for (map (raised_row n) xs) r) (kept_word n x 0 (λ e. omega arith) (λ e. omega arith))
+    ap (λ (w : ℕ). when eqb w r then raised_row n x ∷ rows_for (map (raised_row n) xs) r else rows_for (map (raised_row n) xs) r) (kept_word n x 0 (λ e. omega arith) (λ e. omega arith))
     ∙ go (eqb (get_or x 0 0) r) (rows_raised n xs r)
   where
     go : (t : Bool) → rows_for (map (raised_row n) xs) r ≡ map (raised_row n) (rows_for xs r)
-        → (if t then raised_row n x ∷ rows_for (map (raised_row n) xs) r else rows_for (map (raised_row n) xs) r) ≡ map (raised_row n) (if t then x ∷ rows_for xs r else rows_for xs r)
+        → (when t then raised_row n x ∷ rows_for (map (raised_row n) xs) r else rows_for (map (raised_row n) xs) r) ≡ map (raised_row n) (when t then x ∷ rows_for xs r else rows_for xs r)
     go true e = ap (λ (l : List Row). raised_row n x ∷ l) e
     go false e = e
 

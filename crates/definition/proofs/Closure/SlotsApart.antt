@@ -6,7 +6,7 @@ use Prim.Native.Nat.{ℕ, zero, suc, ◌<◌, ◌≤◌}
 use native.Mathlib.Omega.{arith}
 use native.Mathlib.Nat.{le_refl}
 use lib.Dec.{T}
-use Rattle.definition.specs.Basics.{if◌then◌else◌}
+use Rattle.definition.specs.Basics.{when◌then◌else◌}
 use Rattle.definition.specs.Sheet.{Sheet}
 use Rattle.definition.specs.Meaning.{Meaning}
 use Rattle.definition.specs.Scope.{Stack, Entry, scope, looping, bound}
@@ -14,7 +14,7 @@ use Rattle.definition.specs.Slots.{is_local, open_locals}
 use Rattle.definition.proofs.Closure.Open.{OpenAt}
 
 -- one more entry never lowers the number of open locals
-if_le : (t : Bool) (k : ℕ) → k ≤ (if t then suc k else k)
+if_le : (t : Bool) (k : ℕ) → k ≤ (when t then suc k else k)
 if_le true k = omega arith
 if_le false k = omega arith
 
@@ -23,7 +23,7 @@ open_le s (scope r) st = le_refl _
 open_le s looping st = le_refl _
 open_le s (bound n d) st = if_le (is_local s d) (open_locals s st)
 
-if_suc : (t : Bool) (k : ℕ) → T t → suc k ≤ (if t then suc k else k)
+if_suc : (t : Bool) (k : ℕ) → T t → suc k ≤ (when t then suc k else k)
 if_suc true k h = le_refl _
 if_suc false k h = absurd h
 

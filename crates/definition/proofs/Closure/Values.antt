@@ -7,7 +7,7 @@ use native.Mathlib.Omega.{arith}
 use lib.ListN.{length, get_or}
 use lib.Dec.{eqb, leb, T}
 use borrow.Author.Tests.{leb-true}
-use Rattle.definition.specs.Basics.{if◌then◌else◌, place, bit}
+use Rattle.definition.specs.Basics.{when◌then◌else◌, place, bit}
 use Rattle.definition.specs.Sheet.{Sheet, b, is, kids_of, holder, function_of}
 use Rattle.definition.specs.Meaning.{Meaning, nothing, function, class, global, toplevel, variable, owner_of, is_variable}
 use Rattle.definition.specs.Scope.{Moment}
@@ -28,14 +28,14 @@ code_short s h (global g m) k = refl
 code_short s h (toplevel r) k = refl
 code_short s h (variable r f) k = go (is s 11 r)
   where
-    go : (t : Bool) → short (if t then 4 ∷ place (eqb r) (kids_of s 11 f) ∷ f ∷ [] else 5 ∷ k ∷ f ∷ bit (eqb (b s r) 1) ∷ []) ≡ true
+    go : (t : Bool) → short (when t then 4 ∷ place (eqb r) (kids_of s 11 f) ∷ f ∷ [] else 5 ∷ k ∷ f ∷ bit (eqb (b s r) 1) ∷ []) ≡ true
     go true = refl
     go false = refl
 
 pub seen_short : (s : Sheet) (h : List Moment) (f : ℕ) (u : Use) → short (seen_from s h f u) ≡ true
 seen_short s h f u = go (is_variable u.means && not (eqb (owner_of u.means) f))
   where
-    go : (t : Bool) → short (if t then 6 ∷ place (same u) (captures s h f) ∷ 0 ∷ bit (is_mutable s u.means) ∷ [] else code s h u.means u.slot) ≡ true
+    go : (t : Bool) → short (when t then 6 ∷ place (same u) (captures s h f) ∷ 0 ∷ bit (is_mutable s u.means) ∷ [] else code s h u.means u.slot) ≡ true
     go true = refl
     go false = code_short s h u.means u.slot
 

@@ -7,7 +7,7 @@ use mathlib.Core.Bool.{Bool, true, false, not, ◌&&◌}
 use Prim.Native.Nat.{ℕ, zero, suc, ◌<◌}
 use native.Mathlib.Omega.{arith}
 use lib.Dec.{eqb, T, T_not, eqb→eq}
-use Rattle.definition.specs.Basics.{if◌then◌else◌, head}
+use Rattle.definition.specs.Basics.{when◌then◌else◌, head}
 use Rattle.definition.specs.Sheet.{Sheet, b, rows, kids, is, functions_of}
 use Rattle.definition.specs.Outside.{Outside}
 use Rattle.definition.specs.Meaning.{Meaning, variable, row_of, owner_of, is_variable}
@@ -109,7 +109,7 @@ around_open s [] (suc i) n d st g p m = let z : ◌≡◌ {A = ℕ} 0 1 = cc in 
 around_open s (x ∷ S) zero n d st g p m = subst (λ (l : Stack). Mem g (around s l)) (sym p) m
 around_open s (scope r ∷ S) (suc i) n d st g p m = go (is s 6 r) (around_open s S i n d st g p m)
   where
-    go : (t : Bool) → Mem g (around s S) → Mem g (if t then r ∷ around s S else around s S)
+    go : (t : Bool) → Mem g (around s S) → Mem g (when t then r ∷ around s S else around s S)
     go true k = there k
     go false k = k
 around_open s (looping ∷ S) (suc i) n d st g p m = around_open s S i n d st g p m
@@ -135,7 +135,7 @@ find_open s n (scope r ∷ S) v = deeper s n (scope r) S (find n S) (find_open s
 find_open s n (looping ∷ S) v = deeper s n looping S (find n S) (find_open s n S v)
 find_open s n (bound k e ∷ S) v = go (eqb k n) (λ t. t) v (find_open s n S)
   where
-    go : (t : Bool) → (T t → T (eqb k n)) → T (is_variable (top (if t then bound k e ∷ S else find n S))) → (T (is_variable (top (find n S))) → Opened s n S (find n S))
-        → Opened s n (bound k e ∷ S) (if t then bound k e ∷ S else find n S)
+    go : (t : Bool) → (T t → T (eqb k n)) → T (is_variable (top (when t then bound k e ∷ S else find n S))) → (T (is_variable (top (find n S))) → Opened s n S (find n S))
+        → Opened s n (bound k e ∷ S) (when t then bound k e ∷ S else find n S)
     go true t w up = record { at = 0; before = S; is_open = ap (λ (i : ℕ). bound i e ∷ S) (eqb→eq k n (t tt)); slot_is = refl }
     go false t w up = deeper s n (bound k e) S (find n S) (up w)

@@ -7,7 +7,7 @@ use native.Mathlib.Omega.{arith}
 use lib.ListN.{length, length-append, length-take, length-replicate, get_or, set, take, drop, length-set}
 use lib.Seq.{take_at, drop_at}
 use lib.Dec.{eqb, leb, T, T_not, eqb→eq, leb→le}
-use Rattle.definition.specs.Basics.{if◌then◌else◌, concat_map, from}
+use Rattle.definition.specs.Basics.{when◌then◌else◌, concat_map, from}
 use Rattle.definition.specs.Sheet.{Sheet, rows}
 use Rattle.definition.specs.Outside.{Outside, core}
 use Rattle.definition.specs.Names.{names_fit, name_count}
@@ -31,7 +31,7 @@ pub record Accepted (s : Sheet) (ns : List ℕ) (lent : ℕ) : Type 0 where
   pub globals : (outcome s ns lent).globals ≡ final_globals s (history core s)
 
 -- a choice that is no refusal is the other one
-chosen : (t : Bool) (x y : Outcome) → (x.number ≡ 0 → ⊥) → (if t then x else y).number ≡ 0 → T (not t) × ((if t then x else y) ≡ y)
+chosen : (t : Bool) (x y : Outcome) → (x.number ≡ 0 → ⊥) → (when t then x else y).number ≡ 0 → T (not t) × ((when t then x else y) ≡ y)
 chosen true x y f e = absurd (f e)
 chosen false x y f e = (tt, refl)
 
@@ -55,7 +55,7 @@ asked_accepted O lent s e = go (eqb (refusal O s (history O s)).number 0) refl e
 
     answer : Bool → Outcome
     answer u =
-        if u then record { number = 0; file = 0; line = 0; column = 0; name = 0; rows = out; globals = final_globals s (history O s) }
+        when u then record { number = 0; file = 0; line = 0; column = 0; name = 0; rows = out; globals = final_globals s (history O s) }
         else refused 22
 
     fit : (u : Bool) → leb (8 * length out) lent ≡ u → (answer u).number ≡ 0
@@ -64,10 +64,10 @@ asked_accepted O lent s e = go (eqb (refusal O s (history O s)).number 0) refl e
     fit false w e = absurd (never 21 e)
 
     go : (t : Bool) → eqb x.number 0 ≡ t
-        → (if t then answered lent out (final_globals s (history O s)) else refused_at x.number s x.at x.name).number ≡ 0
+        → (when t then answered lent out (final_globals s (history O s)) else refused_at x.number s x.at x.name).number ≡ 0
         → (x.number ≡ 0) × (8 * length out ≤ lent)
-        × ((if t then answered lent out (final_globals s (history O s)) else refused_at x.number s x.at x.name).rows ≡ out)
-        × ((if t then answered lent out (final_globals s (history O s)) else refused_at x.number s x.at x.name).globals ≡ final_globals s (history O s))
+        × ((when t then answered lent out (final_globals s (history O s)) else refused_at x.number s x.at x.name).rows ≡ out)
+        × ((when t then answered lent out (final_globals s (history O s)) else refused_at x.number s x.at x.name).globals ≡ final_globals s (history O s))
     go true w e =
         let f = fit (leb (8 * length out) lent) refl e in
         (eqb→eq x.number 0 (subst T (sym w) tt), f.0, f.1, f.2)
@@ -75,9 +75,9 @@ asked_accepted O lent s e = go (eqb (refusal O s (history O s)).number 0) refl e
 
 pub accepted : (s : Sheet) (ns : List ℕ) (lent : ℕ) → (outcome s ns lent).number ≡ 0 → Accepted s ns lent
 accepted s ns lent e =
-    let o4 : Outcome = if not (depths_fit s) then refused 4 else asked core lent s in
-    let o3 : Outcome = if not (sheet_fits (name_count ns) s) then refused 3 else o4 in
-    let o2 : Outcome = if not (names_fit ns) then refused 2 else o3 in
+    let o4 : Outcome = when not (depths_fit s) then refused 4 else asked core lent s in
+    let o3 : Outcome = when not (sheet_fits (name_count ns) s) then refused 3 else o4 in
+    let o2 : Outcome = when not (names_fit ns) then refused 2 else o3 in
     let c1 = chosen (not (rows_fit s)) (refused 1) o2 (never 0) e in
     let c2 = chosen (not (names_fit ns)) (refused 2) o3 (never 1) (ap (λ (o : Outcome). o.number) (sym c1.1) ∙ e) in
     let c3 = chosen (not (sheet_fits (name_count ns) s)) (refused 3) o4 (never 2) (ap (λ (o : Outcome). o.number) (sym (c1.1 ∙ c2.1)) ∙ e) in
@@ -131,7 +131,7 @@ raised_length n x = go (eqb c 1) (eqb c 2 || eqb c 22) (eqb c 4 || eqb c 5) (eqb
     c : ℕ
     c = get_or x 1 0
 
-    go : (t u v w : Bool) (k l p q : ℕ) → length (if t then set x 2 k else if u then set x 2 l else if v then set x 3 p else if w then set x 3 q else x) ≡ length x
+    go : (t u v w : Bool) (k l p q : ℕ) → length (when t then set x 2 k else when u then set x 2 l else when v then set x 3 p else when w then set x 3 q else x) ≡ length x
     go true u v w k l p q = length-set x 2 k
     go false true v w k l p q = length-set x 2 l
     go false false true w k l p q = length-set x 3 p
@@ -169,7 +169,7 @@ module _ (lent : ℕ) where
   good_refused : (q : ℕ) → Good (refused q)
   good_refused q = (none, omega arith)
 
-  good_if : (t : Bool) (x y : Outcome) → Good x → Good y → Good (if t then x else y)
+  good_if : (t : Bool) (x y : Outcome) → Good x → Good y → Good (when t then x else y)
   good_if true x y p q = p
   good_if false x y p q = q
 
@@ -177,7 +177,7 @@ module _ (lent : ℕ) where
   good_answered out g p = go (leb (8 * length out) lent) refl
     where
       go : (t : Bool) → leb (8 * length out) lent ≡ t
-          → Good (if t then record { number = 0; file = 0; line = 0; column = 0; name = 0; rows = out; globals = g } else refused 22)
+          → Good (when t then record { number = 0; file = 0; line = 0; column = 0; name = 0; rows = out; globals = g } else refused 22)
       go true e = (p, leb→le (8 * length out) lent (subst T (sym e) tt))
       go false e = good_refused 22
 

@@ -7,7 +7,7 @@ use Prim.Native.Nat.{ℕ, zero, suc, ◌+◌, ◌*◌, ◌/◌, ◌<◌, ◌≤�
 use native.Mathlib.Omega.{arith}
 use lib.ListN.{length, get_or}
 use lib.Dec.{eqb, T, eqb→eq}
-use Rattle.definition.specs.Basics.{if◌then◌else◌, count, first, from, ◌∈?◌}
+use Rattle.definition.specs.Basics.{when◌then◌else◌, count, first, from, ◌∈?◌}
 use Rattle.definition.specs.Sheet.{Sheet, next, child, rows, chain, kids, is, holder}
 use Rattle.definition.specs.Format.{tables, at, parent_table, depth_entry, unit_entry, function_entry, class_entry, parent, unit, function, class, links}
 use Rattle.definition.proofs.Lists.Tests.{T_true, eqb_of, ℕ-trichotomy}
@@ -260,7 +260,7 @@ module _ (s : Sheet) (ok : LinkFacts s) where
       none : (p : ℕ) → p < rows s → T (0 ∈? kids s p) → ⊥
       none p l h = omega (arith, (kid_bounds p 0 l h).0)
 
-      pass : (t : Bool) (k x : ℕ) → (T t → ⊥) → x ≡ 0 → (if t then k else x) ≡ 0
+      pass : (t : Bool) (k x : ℕ) → (T t → ⊥) → x ≡ 0 → (when t then k else x) ≡ 0
       pass true k x f e = absurd (f tt)
       pass false k x f e = e
 
@@ -280,31 +280,31 @@ module _ (s : Sheet) (ok : LinkFacts s) where
 
   pub depth_step : (r : ℕ) → 0 < r → r < rows s → at (tables s).depths r ≡ suc (at (tables s).depths (holder s r))
   depth_step r z l =
-      table_from (depth_entry (parent_table s)) (rows s) r (parent (tables s) r) l (local_entry r z l) (λ t u e. ap (λ (x : ℕ). if eqb r 0 then 0 else suc x) e)
+      table_from (depth_entry (parent_table s)) (rows s) r (parent (tables s) r) l (local_entry r z l) (λ t u e. ap (λ (x : ℕ). when eqb r 0 then 0 else suc x) e)
       ∙ go (eqb r 0) refl ∙ ap (λ (p : ℕ). suc (at (tables s).depths p)) (parent_is r l)
     where
-      go : (t : Bool) → eqb r 0 ≡ t → (if t then 0 else suc (at (tables s).depths (parent (tables s) r))) ≡ suc (at (tables s).depths (parent (tables s) r))
+      go : (t : Bool) → eqb r 0 ≡ t → (when t then 0 else suc (at (tables s).depths (parent (tables s) r))) ≡ suc (at (tables s).depths (parent (tables s) r))
       go true e = absurd (omega (arith, eqb→eq r 0 (T_true _ e)))
       go false e = refl
 
-  pub unit_step : (r : ℕ) → 0 < r → r < rows s → unit (tables s) r ≡ (if is s 2 r then r else unit (tables s) (holder s r))
+  pub unit_step : (r : ℕ) → 0 < r → r < rows s → unit (tables s) r ≡ (when is s 2 r then r else unit (tables s) (holder s r))
   unit_step r z l =
-      table_from (unit_entry s (parent_table s)) (rows s) r (parent (tables s) r) l (local_entry r z l) (λ t u e. ap (λ (x : ℕ). if is s 2 r then r else x) e)
-      ∙ ap (λ (p : ℕ). if is s 2 r then r else unit (tables s) p) (parent_is r l)
+      table_from (unit_entry s (parent_table s)) (rows s) r (parent (tables s) r) l (local_entry r z l) (λ t u e. ap (λ (x : ℕ). when is s 2 r then r else x) e)
+      ∙ ap (λ (p : ℕ). when is s 2 r then r else unit (tables s) p) (parent_is r l)
 
   pub function_step : (r : ℕ) → 0 < r → r < rows s
-      → function (tables s) r ≡ (if is s 6 (holder s r) then holder s r else function (tables s) (holder s r))
+      → function (tables s) r ≡ (when is s 6 (holder s r) then holder s r else function (tables s) (holder s r))
   function_step r z l =
       table_from (function_entry s (parent_table s)) (rows s) r (parent (tables s) r) l (local_entry r z l)
-      (λ t u e. ap (λ (x : ℕ). if is s 6 (parent (tables s) r) then parent (tables s) r else x) e)
-      ∙ ap (λ (p : ℕ). if is s 6 p then p else function (tables s) p) (parent_is r l)
+      (λ t u e. ap (λ (x : ℕ). when is s 6 (parent (tables s) r) then parent (tables s) r else x) e)
+      ∙ ap (λ (p : ℕ). when is s 6 p then p else function (tables s) p) (parent_is r l)
 
   pub class_step : (r : ℕ) → 0 < r → r < rows s
-      → class (tables s) r ≡ (if is s 6 r && is s 4 (holder s r) then holder s r else class (tables s) (holder s r))
+      → class (tables s) r ≡ (when is s 6 r && is s 4 (holder s r) then holder s r else class (tables s) (holder s r))
   class_step r z l =
       table_from (class_entry s (parent_table s)) (rows s) r (parent (tables s) r) l (local_entry r z l)
-      (λ t u e. ap (λ (x : ℕ). if is s 6 r && is s 4 (parent (tables s) r) then parent (tables s) r else x) e)
-      ∙ ap (λ (p : ℕ). if is s 6 r && is s 4 p then p else class (tables s) p) (parent_is r l)
+      (λ t u e. ap (λ (x : ℕ). when is s 6 r && is s 4 (parent (tables s) r) then parent (tables s) r else x) e)
+      ∙ ap (λ (p : ℕ). when is s 6 r && is s 4 p then p else class (tables s) p) (parent_is r l)
 
 -- The holder by one link: that of a row's child is the row, that of a row's next is the row's.
 module _ (s : Sheet) (ok : LinkFacts s) where

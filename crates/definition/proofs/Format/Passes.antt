@@ -8,7 +8,7 @@ use native.Mathlib.Omega.{arith}
 use native.Mathlib.Nat.{zero-add, add-zero}
 use lib.ListN.{get_or}
 use lib.Dec.{eqb, ltb, T, eqb→eq, ltb→lt}
-use Rattle.definition.specs.Basics.{if◌then◌else◌, every, all, count, first, concat_map, from, ◌∈?◌}
+use Rattle.definition.specs.Basics.{when◌then◌else◌, every, all, count, first, concat_map, from, ◌∈?◌}
 use Rattle.definition.specs.Sheet.{Sheet, next, child, rows, chain, kids, holder}
 use Rattle.definition.specs.Shape.{Shape, shape, never, nought, shapes, shape_of}
 use Rattle.definition.specs.Format.{tables, links, header_first, main_marked, row_clauses, sheet_fits}
@@ -129,7 +129,7 @@ beyond_all k d (x ∷ xs) h l =
     let q = T_and (ltb x.of 60) (every (map (λ x. ltb x.of 60) xs)) h in
     go (eqb x.of k) refl (ltb→lt x.of 60 q.0) (beyond_all k d xs q.1 l)
   where
-    go : (t : Bool) → eqb x.of k ≡ t → x.of < 60 → first (λ x. eqb x.of k) d xs ≡ d → (if t then x else first (λ x. eqb x.of k) d xs) ≡ d
+    go : (t : Bool) → eqb x.of k ≡ t → x.of < 60 → first (λ x. eqb x.of k) d xs ≡ d → (when t then x else first (λ x. eqb x.of k) d xs) ≡ d
     go true e b r = absurd (omega (arith, eqb→eq x.of k (T_true _ e)))
     go false e b r = r
 

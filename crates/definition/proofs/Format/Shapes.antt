@@ -5,7 +5,7 @@ use mathlib.Core.List.{List, [], ◌∷◌, ◌++◌, map}
 use mathlib.Core.Bool.{Bool, true, false, ◌&&◌, ◌||◌}
 use Prim.Native.Nat.{ℕ}
 use lib.Dec.{eqb, T, eqb→eq}
-use Rattle.definition.specs.Basics.{if◌then◌else◌, any, all, first, ◌∈?◌}
+use Rattle.definition.specs.Basics.{when◌then◌else◌, any, all, first, ◌∈?◌}
 use Rattle.definition.specs.Shape.{Part, one, perhaps, many, never, rest, fits, Shape, shape, nought, shapes, shape_of}
 use Rattle.definition.proofs.Lists.Tests.{T_and, or_cases, T_true, or_left, or_right}
 use Rattle.definition.proofs.Lists.Counts.{in_cases}
@@ -31,7 +31,7 @@ fits_never (k ∷ ks) h = fits_never ks h
 -- what is left after a child was there before
 module _ (j k : ℕ) where
   left : (t : Bool) (xs ys ps : List Part) → (T (in_parts j xs) → T (in_parts j ps)) → (T (in_parts j ys) → T (in_parts j ps))
-      → T (in_parts j (if t then xs else ys)) → T (in_parts j ps)
+      → T (in_parts j (when t then xs else ys)) → T (in_parts j ps)
   left true xs ys ps f g h = f h
   left false xs ys ps f g h = g h
 
@@ -45,7 +45,7 @@ module _ (j k : ℕ) where
 
 -- a child that fits is named
 named_if : (k : ℕ) (ks js : List ℕ) (xs ys : List Part) (tail : T (fits ys js) → T (in_parts k xs))
-    → (zs : List Part) → (t : Bool) → k ∈? ks ≡ t → T (fits (if t then zs else ys) js) → T (k ∈? ks || in_parts k xs)
+    → (zs : List Part) → (t : Bool) → k ∈? ks ≡ t → T (fits (when t then zs else ys) js) → T (k ∈? ks || in_parts k xs)
 named_if k ks js xs ys tail zs true e h = or_left (k ∈? ks) (in_parts k xs) (T_true _ e)
 named_if k ks js xs ys tail zs false e h = or_right (k ∈? ks) (in_parts k xs) (tail h)
 
@@ -93,7 +93,7 @@ module _ (test : ℕ → ℕ → Bool) where
     where
       go : (T (in_parts k (first (λ x. eqb x.of p) d xs).children) → T (test p k))
           → T (all (λ q. all (test x.of) (part_kinds q)) x.children)
-          → (t : Bool) → eqb x.of p ≡ t → T (in_parts k (if t then x else first (λ x. eqb x.of p) d xs).children) → T (test p k)
+          → (t : Bool) → eqb x.of p ≡ t → T (in_parts k (when t then x else first (λ x. eqb x.of p) d xs).children) → T (test p k)
       go f c true e m = rw (eqb→eq x.of p (T_true (eqb x.of p) e)) at (in_parts_lem x.of k x.children c m)
       go f c false e m = f m
 
@@ -111,7 +111,7 @@ module _ (f : ℕ → ℕ) where
   one_child ks ps [] h = absurd h
   one_child ks ps (r ∷ rs) h = go (f r ∈? ks) refl h
     where
-      go : (t : Bool) → f r ∈? ks ≡ t → T (fits (if t then ps else never) (map f rs))
+      go : (t : Bool) → f r ∈? ks ≡ t → T (fits (when t then ps else never) (map f rs))
           → (x : ℕ) × (zs : List ℕ) × (r ∷ rs ≡ x ∷ zs) × T (f x ∈? ks) × T (fits ps (map f zs))
       go true e h = (r, rs, refl, T_true _ e, h)
       go false e h = absurd (fits_never (map f rs) h)
@@ -129,7 +129,7 @@ module _ (f : ℕ → ℕ) where
       both false y p q = absurd p
 
       go : (T (fits (many ks ∷ ps) (map f rs)) → Split rs) → (t : Bool) → f r ∈? ks ≡ t
-          → T (fits (if t then many ks ∷ ps else rest (f r) ps) (map f rs)) → Split (r ∷ rs)
+          → T (fits (when t then many ks ∷ ps else rest (f r) ps) (map f rs)) → Split (r ∷ rs)
       go g true e h =
           let q = g h in
           (r ∷ q.0, q.1, ap (λ (xs : List ℕ). r ∷ xs) q.2, both (f r ∈? ks) _ (T_true _ e) q.3, q.4)

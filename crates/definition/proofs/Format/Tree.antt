@@ -6,7 +6,7 @@ use mathlib.Core.Bool.{Bool, true, false, not, ◌&&◌, ◌||◌}
 use Prim.Native.Nat.{ℕ, zero, suc, ◌<◌}
 use native.Mathlib.Omega.{arith}
 use lib.Dec.{eqb, leb, ltb, T, T_not, eqb→eq, ltb→lt}
-use Rattle.definition.specs.Basics.{if◌then◌else◌, ◌⇒◌, filter, all, count, from, bit, ◌∈?◌}
+use Rattle.definition.specs.Basics.{when◌then◌else◌, ◌⇒◌, filter, all, count, from, bit, ◌∈?◌}
 use Rattle.definition.specs.Sheet.{Sheet, kind, a, b, rows, kids, is, kids_of, holder}
 use Rattle.definition.specs.Shape.{Part, one, many, only, holds, fits, shape_of}
 use Rattle.definition.specs.Format.{tables, at, parent_table, function_entry, parent, names_apart, function, class, of_unit}
@@ -159,7 +159,7 @@ module _ (n : ℕ) (s : Sheet) (ok : SheetFacts n s) where
       let k = unit_body_lem f l h u in
       ap (filter (is s 11)) k.1 ∙ go k.0 (is s 11 k.0) refl k.2
     where
-      go : (r : ℕ) (t : Bool) → is s 11 r ≡ t → T (is s 25 r) → (if t then r ∷ [] else []) ≡ []
+      go : (r : ℕ) (t : Bool) → is s 11 r ≡ t → T (is s 25 r) → (when t then r ∷ [] else []) ≡ []
       go r true e x = let z : ◌≡◌ {A = ℕ} 11 25 = one_kind s 11 25 r (T_true (is s 11 r) e) x in absurd (omega arith)
       go r false e x = refl
 
@@ -172,8 +172,8 @@ module _ (n : ℕ) (s : Sheet) (ok : SheetFacts n s) where
   pub function_header : 0 < rows s → function (tables s) 0 ≡ 0
   function_header l =
       table_at (function_entry s (parent_table s)) (rows s) 0 l
-      ∙ ap (λ (p : ℕ). if is s 6 p then p else at [] p) (parent_is s (link_facts n s ok) 0 l ∙ header_held s (link_facts n s ok))
-      ∙ ap (λ (k : ℕ). if eqb k 6 then 0 else 0) (header_kind n s ok)
+      ∙ ap (λ (p : ℕ). when is s 6 p then p else at [] p) (parent_is s (link_facts n s ok) 0 l ∙ header_held s (link_facts n s ok))
+      ∙ ap (λ (k : ℕ). when eqb k 6 then 0 else 0) (header_kind n s ok)
 
   -- the function of the table is the innermost, or there is none
   abbrev Found : ℕ → ℕ → Type 0
@@ -195,7 +195,7 @@ module _ (n : ℕ) (s : Sheet) (ok : SheetFacts n s) where
 
       go : (0 < holder s r → Found (holder s r) (function (tables s) (holder s r)))
           → (t : Bool) → is s 6 (holder s r) ≡ t → (0 < holder s r) ⊎ ((0 ≡ holder s r) ⊎ (holder s r < 0))
-          → Found r (if t then holder s r else function (tables s) (holder s r))
+          → Found r (when t then holder s r else function (tables s) (holder s r))
       go f true e c = inr (here (T_true _ e) refl, T_true _ e, below)
       go f false e (inl y) = wider y (T_true _ (ap not e)) (f y)
       go f false e (inr (inl w)) = inl (ap (function (tables s)) (sym w) ∙ function_header (omega arith))
@@ -277,7 +277,7 @@ module _ (n : ℕ) (s : Sheet) (ok : SheetFacts n s) where
   class_inside : (f : ℕ) {r : ℕ} → f < rows s → T (is s 6 f) → T (is s 4 (holder s f)) → r < rows s → Inside s f r → class (tables s) r ≡ holder s f
   class_inside f l h c lr self = class_step s (link_facts n s ok) f (not_header n s ok 5 f h) l ∙ go (is s 6 f) (is s 4 (holder s f)) h c
     where
-      go : (t u : Bool) → T t → T u → (if t && u then holder s f else class (tables s) (holder s f)) ≡ holder s f
+      go : (t u : Bool) → T t → T u → (when t && u then holder s f else class (tables s) (holder s f)) ≡ holder s f
       go true true x y = refl
       go true false x y = absurd y
       go false u x y = absurd x
@@ -285,7 +285,7 @@ module _ (n : ℕ) (s : Sheet) (ok : SheetFacts n s) where
       let b : holder s r < rows s = omega (arith, (held s (link_facts n s ok) r z lr).1) in
       class_step s (link_facts n s ok) r z lr ∙ go (is s 6 r) (is s 4 (holder s r)) (no_class_in f h i b) (class_inside f l h c b i)
     where
-      go : (t u : Bool) → (T u → ⊥) → class (tables s) (holder s r) ≡ holder s f → (if t && u then holder s r else class (tables s) (holder s r)) ≡ holder s f
+      go : (t u : Bool) → (T u → ⊥) → class (tables s) (holder s r) ≡ holder s f → (when t && u then holder s r else class (tables s) (holder s r)) ≡ holder s f
       go true true x e = absurd (x tt)
       go true false x e = e
       go false u x e = e

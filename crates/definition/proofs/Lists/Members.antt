@@ -11,7 +11,7 @@ use native.Mathlib.Omega.{arith}
 use native.Mathlib.Nat.{le_refl}
 use lib.ListN.{length, get_or, take, drop}
 use lib.Dec.{eqb, T, T_not, not_T, eqb_refl, eqb→eq}
-use Rattle.definition.specs.Basics.{if◌then◌else◌, filter, any, first, distinct, place, concat_map, from, bit, count, ◌∈?◌, total}
+use Rattle.definition.specs.Basics.{when◌then◌else◌, filter, any, first, distinct, place, concat_map, from, bit, count, ◌∈?◌, total}
 use Rattle.definition.proofs.Lists.Tests.{or_cases, or_left, or_right, decide, eqb_of, if_true, if_false}
 
 module _ {A : Type 0} where
@@ -38,12 +38,12 @@ module _ {A : Type 0} where
   mem_filter p x [] h q = q
   mem_filter p x (y ∷ ys) h (here e) = go (p y) (subst (λ (z : A). T (p z)) e h)
     where
-      go : (t : Bool) → T t → Mem x (if t then y ∷ filter p ys else filter p ys)
+      go : (t : Bool) → T t → Mem x (when t then y ∷ filter p ys else filter p ys)
       go true k = here e
       go false k = absurd k
   mem_filter p x (y ∷ ys) h (there q) = go (p y) (mem_filter p x ys h q)
     where
-      go : (t : Bool) → Mem x (filter p ys) → Mem x (if t then y ∷ filter p ys else filter p ys)
+      go : (t : Bool) → Mem x (filter p ys) → Mem x (when t then y ∷ filter p ys else filter p ys)
       go true k = there k
       go false k = k
 
@@ -55,7 +55,7 @@ module _ {A : Type 0} where
       head_case h below (here e) = (here e, subst (λ (z : A). T (p z)) (sym e) h)
       head_case h below (there q) = let r = below q in (there r.0, r.1)
 
-      go : (t : Bool) → (T t → T (p y)) → (Mem x (filter p ys) → Mem x ys × T (p x)) → Mem x (if t then y ∷ filter p ys else filter p ys) → Mem x (y ∷ ys) × T (p x)
+      go : (t : Bool) → (T t → T (p y)) → (Mem x (filter p ys) → Mem x ys × T (p x)) → Mem x (when t then y ∷ filter p ys else filter p ys) → Mem x (y ∷ ys) × T (p x)
       go true h below q = head_case (h tt) below q
       go false h below q = let r = below q in (there r.0, r.1)
 
@@ -63,7 +63,7 @@ module _ {A : Type 0} where
   nodup_filter p nodup_none = nodup_none
   nodup_filter p (nodup_one {x = x} {xs = xs} h n) = go (p x) (nodup_filter p n)
     where
-      go : (t : Bool) → Nodup (filter p xs) → Nodup (if t then x ∷ filter p xs else filter p xs)
+      go : (t : Bool) → Nodup (filter p xs) → Nodup (when t then x ∷ filter p xs else filter p xs)
       go true k = nodup_one (λ m. h (filter_mem p x xs m).0) k
       go false k = k
 
@@ -118,7 +118,7 @@ module _ {A : Type 0} where
   filter_none p [] h = refl
   filter_none p (x ∷ xs) h = go (p x) h (filter_none p xs)
     where
-      go : (t : Bool) → bit t + count p xs ≡ 0 → (count p xs ≡ 0 → filter p xs ≡ []) → (if t then x ∷ filter p xs else filter p xs) ≡ []
+      go : (t : Bool) → bit t + count p xs ≡ 0 → (count p xs ≡ 0 → filter p xs ≡ []) → (when t then x ∷ filter p xs else filter p xs) ≡ []
       go true k up = absurd (omega arith)
       go false k up = up (omega arith)
 
@@ -126,12 +126,12 @@ module _ {A : Type 0} where
   filter_one p x [] h m le = absurd (Memᴰ.not-nil m)
   filter_one p x (y ∷ ys) h (here e) le = go (p y) (subst (λ (z : A). T (p z)) e h) le
     where
-      go : (t : Bool) → T t → bit t + count p ys ≤ 1 → (if t then y ∷ filter p ys else filter p ys) ≡ x ∷ []
+      go : (t : Bool) → T t → bit t + count p ys ≤ 1 → (when t then y ∷ filter p ys else filter p ys) ≡ x ∷ []
       go true k l = ap (λ (z : List A). y ∷ z) (filter_none p ys (omega arith)) ∙ ap (λ (z : A). z ∷ []) (sym e)
       go false k l = absurd k
   filter_one p x (y ∷ ys) h (there m) le = go (p y) le (count_mem p x ys h m) (filter_one p x ys h m)
     where
-      go : (t : Bool) → bit t + count p ys ≤ 1 → 1 ≤ count p ys → (count p ys ≤ 1 → filter p ys ≡ x ∷ []) → (if t then y ∷ filter p ys else filter p ys) ≡ x ∷ []
+      go : (t : Bool) → bit t + count p ys ≤ 1 → 1 ≤ count p ys → (count p ys ≤ 1 → filter p ys ≡ x ∷ []) → (when t then y ∷ filter p ys else filter p ys) ≡ x ∷ []
       go true k l up = absurd (omega arith)
       go false k l up = up (omega arith)
 
@@ -144,7 +144,7 @@ module _ {A : Type 0} where
       miss n (there q) = q
 
       go : (t : Bool) → (T t → T (p y)) → (T (not t) → T (not (p y))) → Mem x (y ∷ ys) → (Mem x ys → T (p (first p d ys)) × Mem (first p d ys) ys)
-          → T (p (if t then y else first p d ys)) × Mem (if t then y else first p d ys) (y ∷ ys)
+          → T (p (when t then y else first p d ys)) × Mem (when t then y else first p d ys) (y ∷ ys)
       go true k n q below = (k tt, here refl)
       go false k n q below = let r = below (miss (n tt) q) in (r.0, there r.1)
 
@@ -170,7 +170,7 @@ module _ {A : Type 0} where
       miss n (there q) = q
 
       go : (t : Bool) → (T t → T (p y)) → (T (not t) → T (not (p y))) → Mem x (y ∷ ys) → (Mem x ys → (w : A) × (ws : List A) × (drop (place p ys) ys ≡ w ∷ ws) × T (p w))
-          → (w : A) × (ws : List A) × (drop (if t then 0 else suc (place p ys)) (y ∷ ys) ≡ w ∷ ws) × T (p w)
+          → (w : A) × (ws : List A) × (drop (when t then 0 else suc (place p ys)) (y ∷ ys) ≡ w ∷ ws) × T (p w)
       go true k n q below = (y, ys, refl, k tt)
       go false k n q below = below (miss (n tt) q)
 
@@ -200,7 +200,7 @@ module _ {A : Type 0} where
   filter_append p (x ∷ xs) ys = go (p x) (filter_append p xs ys)
     where
       go : (t : Bool) → filter p (xs ++ ys) ≡ filter p xs ++ filter p ys
-          → (if t then x ∷ filter p (xs ++ ys) else filter p (xs ++ ys)) ≡ (if t then x ∷ filter p xs else filter p xs) ++ filter p ys
+          → (when t then x ∷ filter p (xs ++ ys) else filter p (xs ++ ys)) ≡ (when t then x ∷ filter p xs else filter p xs) ++ filter p ys
       go true e = ap (λ (l : List A). x ∷ l) e
       go false e = e
 
@@ -267,7 +267,7 @@ shrink n (nodup_one {x = x} {xs = xs} h k) = go (eqb x n) (λ t. t) (shrink n k)
     other t y m = not_T (eqb y n) (λ q. h (Memᴰ.cast (eqb→eq x n t ∙ sym (eqb→eq y n q)) m))
 
     go : (t : Bool) → (T t → T (eqb x n)) → length xs ≤ suc (length (filter (λ y. not (eqb y n)) xs))
-        → suc (length xs) ≤ suc (length (if not t then x ∷ filter (λ y. not (eqb y n)) xs else filter (λ y. not (eqb y n)) xs))
+        → suc (length xs) ≤ suc (length (when not t then x ∷ filter (λ y. not (eqb y n)) xs else filter (λ y. not (eqb y n)) xs))
     go true t b = rw (all_pass (λ y. not (eqb y n)) xs (other (t tt))) (le_refl _)
     go false t b = omega arith
 
@@ -324,7 +324,7 @@ module _ {A : Type 0} (key : A → ℕ) where
               let r = map_mem key (key y) (filter (λ z. not (same_key x z)) ys) m in
               Memᴰ.cast r.2 (mem_map key r.0 ys (filter_mem (λ z. not (same_key x z)) r.0 ys r.1).0)
 
-          go : (t : Bool) → Nodup (map key (filter (λ z. not (same_key x z)) ys)) → Nodup (map key (if t then y ∷ filter (λ z. not (same_key x z)) ys else filter (λ z. not (same_key x z)) ys))
+          go : (t : Bool) → Nodup (map key (filter (λ z. not (same_key x z)) ys)) → Nodup (map key (when t then y ∷ filter (λ z. not (same_key x z)) ys else filter (λ z. not (same_key x z)) ys))
           go true k = nodup_one (λ m. h (lift m)) k
           go false k = k
 
@@ -350,7 +350,7 @@ module _ {A : Type 0} (key : A → ℕ) where
   rising_filter k k' p f rising_none = rising_none
   rising_filter k k' p f (rising_one {x = x} {xs = xs} h r) = go (p x) (λ t. t) (rising_filter k k' p f r)
     where
-      go : (t : Bool) → (T t → T (p x)) → Rising k' (filter p xs) → Rising k' (if t then x ∷ filter p xs else filter p xs)
+      go : (t : Bool) → (T t → T (p x)) → Rising k' (filter p xs) → Rising k' (when t then x ∷ filter p xs else filter p xs)
       go true t q = rising_one (λ y m. let w = filter_mem p y xs m in f x y (t tt) w.1 (h y w.0)) q
       go false t q = q
 
@@ -407,7 +407,7 @@ module _ {A : Type 0} where
   count_filter p [] = refl
   count_filter p (x ∷ xs) = go (p x) (count_filter p xs)
     where
-      go : (t : Bool) → count p xs ≡ length (filter p xs) → bit t + count p xs ≡ length (if t then x ∷ filter p xs else filter p xs)
+      go : (t : Bool) → count p xs ≡ length (filter p xs) → bit t + count p xs ≡ length (when t then x ∷ filter p xs else filter p xs)
       go true e = omega arith
       go false e = omega arith
 
@@ -441,14 +441,14 @@ module _ {A B : Type 0} (w : A → Bool) (g : A → B) (q p₁ p₂ : B → Bool
   picked h = filter q (map g (filter w h))
 
   step_picked : (p : B → Bool) (m : A) (ms : List A)
-      → place p (picked (m ∷ ms)) ≡ (if w m then (if q (g m) then (if p (g m) then 0 else suc (place p (picked ms))) else place p (picked ms)) else place p (picked ms))
+      → place p (picked (m ∷ ms)) ≡ (when w m then (when q (g m) then (when p (g m) then 0 else suc (place p (picked ms))) else place p (picked ms)) else place p (picked ms))
   step_picked p m ms = outer (w m) (inner (q (g m)))
     where
-      inner : (t : Bool) → place p (if t then g m ∷ picked ms else picked ms) ≡ (if t then (if p (g m) then 0 else suc (place p (picked ms))) else place p (picked ms))
+      inner : (t : Bool) → place p (when t then g m ∷ picked ms else picked ms) ≡ (when t then (when p (g m) then 0 else suc (place p (picked ms))) else place p (picked ms))
       inner true = refl
       inner false = refl
 
-      outer : (t : Bool) {n : ℕ} → place p (filter q (map g (m ∷ filter w ms))) ≡ n → place p (filter q (map g (if t then m ∷ filter w ms else filter w ms))) ≡ (if t then n else place p (picked ms))
+      outer : (t : Bool) {n : ℕ} → place p (filter q (map g (m ∷ filter w ms))) ≡ n → place p (filter q (map g (when t then m ∷ filter w ms else filter w ms))) ≡ (when t then n else place p (picked ms))
       outer true e = e
       outer false e = refl
 
@@ -459,18 +459,18 @@ module _ {A B : Type 0} (w : A → Bool) (g : A → B) (q p₁ p₂ : B → Bool
   place_order (m ∷ ms) f₁ f₂ b₁ l =
       go (w m) (q (g m)) (p₁ (g m)) (p₂ (g m)) (P₁ m) (P₂ m) (place p₁ (picked ms)) (place p₂ (picked ms)) (place P₁ ms) (place P₂ ms) (f₁ m (here refl)) (f₂ m (here refl)) (b₁ m (here refl))
       (subst (λ (n : ℕ). n
-      < (if w m then (if q (g m) then (if p₂ (g m) then 0 else suc (place p₂ (picked ms))) else place p₂ (picked ms))
+      < (when w m then (when q (g m) then (when p₂ (g m) then 0 else suc (place p₂ (picked ms))) else place p₂ (picked ms))
       else place p₂ (picked ms)))
       (step_picked p₁ m ms) (subst (λ (n : ℕ). place p₁ (picked (m ∷ ms)) < n) (step_picked p₂ m ms) l))
       (place_order ms (λ k i. f₁ k (there i)) (λ k i. f₂ k (there i)) (λ k i. b₁ k (there i)))
     where
       go : (tw tq t₁ t₂ s₁ s₂ : Bool) (a₁ a₂ c₁ c₂ : ℕ) → (T s₁ → T (tw && tq && t₁)) → (T s₂ → T (tw && tq && t₂)) → (T (tw && tq && t₁) → T s₁)
-          → (if tw then (if tq then (if t₁ then 0 else suc a₁) else a₁) else a₁) < (if tw then (if tq then (if t₂ then 0 else suc a₂) else a₂) else a₂)
-          → (a₁ < a₂ → c₁ < c₂) → (if s₁ then 0 else suc c₁) < (if s₂ then 0 else suc c₂)
+          → (when tw then (when tq then (when t₁ then 0 else suc a₁) else a₁) else a₁) < (when tw then (when tq then (when t₂ then 0 else suc a₂) else a₂) else a₂)
+          → (a₁ < a₂ → c₁ < c₂) → (when s₁ then 0 else suc c₁) < (when s₂ then 0 else suc c₂)
       go tw tq t₁ t₂ true true a₁ a₂ c₁ c₂ x y z l up = absurd (both tw tq t₁ t₂ a₁ a₂ (x tt) (y tt) l)
         where
           both : (tw tq t₁ t₂ : Bool) (a₁ a₂ : ℕ) → T (tw && tq && t₁) → T (tw && tq && t₂)
-              → (if tw then (if tq then (if t₁ then 0 else suc a₁) else a₁) else a₁) < (if tw then (if tq then (if t₂ then 0 else suc a₂) else a₂) else a₂) → ⊥
+              → (when tw then (when tq then (when t₁ then 0 else suc a₁) else a₁) else a₁) < (when tw then (when tq then (when t₂ then 0 else suc a₂) else a₂) else a₂) → ⊥
           both true true true true a₁ a₂ h k l = omega arith
           both true true true false a₁ a₂ h k l = k
           both true true false t₂ a₁ a₂ h k l = h

@@ -9,7 +9,7 @@ use mathlib.Core.Bool.{Bool, true, false, not, ◌||◌}
 use Prim.Native.Nat.{ℕ, zero, suc, ◌+◌, ◌<◌, ◌≤◌}
 use native.Mathlib.Omega.{arith}
 use lib.Dec.{eqb, leb, T, T_not, not_T, eqb_refl, eqb→eq, leb→le}
-use Rattle.definition.specs.Basics.{if◌then◌else◌, head}
+use Rattle.definition.specs.Basics.{when◌then◌else◌, head}
 use Rattle.definition.specs.Sheet.{Sheet, kind, next, child, a, b, rows, chain, kids, is, holder, lies_in, climb, functions_of}
 use Rattle.definition.specs.Outside.{Outside}
 use Rattle.definition.specs.Walk.{parts, is_part}
@@ -24,24 +24,24 @@ use Rattle.definition.proofs.Walk.Walked.{found, walked_up}
 
 -- the functions around what row p holds
 abbrev pub inner : Sheet → ℕ → List ℕ
-inner s p = if is s 6 p then p ∷ functions_of s p else functions_of s p
+inner s p = when is s 6 p then p ∷ functions_of s p else functions_of s p
 
 module _ {O : Outside} {s : Sheet} (ok : Fits O s) where
-  climb_step : (n k p : ℕ) → lies_in s k ≡ p → climb (suc n) s k ≡ (if is s 6 p then p ∷ climb n s p else climb n s p)
-  climb_step n k p e = ap (λ (q : ℕ). if is s 6 q then q ∷ climb n s q else climb n s q) e
+  climb_step : (n k p : ℕ) → lies_in s k ≡ p → climb (suc n) s k ≡ (when is s 6 p then p ∷ climb n s p else climb n s p)
+  climb_step n k p e = ap (λ (q : ℕ). when is s 6 q then q ∷ climb n s q else climb n s q) e
 
   climb_deep : {n r : ℕ} → Deep s n r → (m : ℕ) → n ≤ m → climb m s r ≡ climb n s r
   climb_deep root m h = climb_zero s ok.links ok.header m
   climb_deep (below z e d) zero h = absurd (omega arith)
   climb_deep (below {n = n} {r = r} {p = p} z e d) (suc m) h =
-      climb_step m r p e ∙ ap (λ (l : List ℕ). if is s 6 p then p ∷ l else l) (climb_deep d m (omega arith)) ∙ sym (climb_step n r p e)
+      climb_step m r p e ∙ ap (λ (l : List ℕ). when is s 6 p then p ∷ l else l) (climb_deep d m (omega arith)) ∙ sym (climb_step n r p e)
 
   pub functions_zero : functions_of s 0 ≡ []
   functions_zero = climb_zero s ok.links ok.header (rows s)
 
   pub functions_step : {n : ℕ} (k p : ℕ) → Deep s n p → suc n ≤ rows s → (k ≡ 0 → ⊥) → lies_in s k ≡ p → functions_of s k ≡ inner s p
   functions_step {n} k p d h z e =
-      climb_deep (below z e d) (rows s) h ∙ climb_step n k p e ∙ ap (λ (l : List ℕ). if is s 6 p then p ∷ l else l) (sym (climb_deep d (rows s) (omega arith)))
+      climb_deep (below z e d) (rows s) h ∙ climb_step n k p e ∙ ap (λ (l : List ℕ). when is s 6 p then p ∷ l else l) (sym (climb_deep d (rows s) (omega arith)))
 
 -- a walked row
 abbrev pub Walks : Sheet → ℕ → Type 0
@@ -88,12 +88,12 @@ module _ {O : Outside} {s : Sheet} (ok : Fits O s) where
   held : {x : ℕ} (p : PartOf s x) → T (not (is s 30 p.whole)) → Mem x (kids s p.whole)
   held {x} p n =
       subst (λ (q : ℕ). Mem x (kids s q)) (if_false (is s 30 p.whole) (a s p.whole) p.whole n)
-      (filter_mem (is_part s) x (kids s (if is s 30 p.whole then a s p.whole else p.whole)) p.part).0
+      (filter_mem (is_part s) x (kids s (when is s 30 p.whole then a s p.whole else p.whole)) p.part).0
 
   held_class : {x : ℕ} (p : PartOf s x) → T (is s 30 p.whole) → Mem x (kids s (a s p.whole))
   held_class {x} p n =
       subst (λ (q : ℕ). Mem x (kids s q)) (if_true (is s 30 p.whole) (a s p.whole) p.whole n)
-      (filter_mem (is_part s) x (kids s (if is s 30 p.whole then a s p.whole else p.whole)) p.part).0
+      (filter_mem (is_part s) x (kids s (when is s 30 p.whole then a s p.whole else p.whole)) p.part).0
 
   around_other : {x : ℕ} (j : ℕ) (p : PartOf s x) → T (not (eqb j 6)) → T (is s j p.whole) → functions_of s x ≡ functions_of s p.whole
   around_other j p n h = p.around ∙ if_false (is s 6 p.whole) _ _ (not_T (is s 6 p.whole) (kind_apart (kind s p.whole) j 6 n h))
@@ -141,7 +141,7 @@ module _ {O : Outside} {s : Sheet} (ok : Fits O s) where
           heads t (here e) = (Memᴰ.cast e p.walks, subst (λ (q : ℕ). T (is s 6 q)) (sym e) t)
           heads t (there l) = up p.whole g p.walks l
 
-          case : (t : Bool) → (T t → T (is s 6 p.whole)) → Mem g (if t then p.whole ∷ climb n s p.whole else climb n s p.whole) → Walks s g × T (is s 6 g)
+          case : (t : Bool) → (T t → T (is s 6 p.whole)) → Mem g (when t then p.whole ∷ climb n s p.whole else climb n s p.whole) → Walks s g × T (is s 6 g)
           case true t l = heads (t tt) l
           case false t l = up p.whole g p.walks l
 
@@ -160,8 +160,8 @@ module _ {O : Outside} {s : Sheet} (ok : Fits O s) where
       let i : functions_of s x ≡ inner s p = w.around ∙ ap (inner s) q in
       ap (beyond g) i ∙ case p (beyond_deep d g (Memᴰ.cast (sym q) w.walks)) (is s 6 p) (subst (λ (l : List ℕ). Mem g l) i k)
     where
-      case : (p : ℕ) → (Mem g (functions_of s p) → beyond g (functions_of s p) ≡ functions_of s g) → (t : Bool) → Mem g (if t then p ∷ functions_of s p else functions_of s p)
-          → beyond g (if t then p ∷ functions_of s p else functions_of s p) ≡ functions_of s g
+      case : (p : ℕ) → (Mem g (functions_of s p) → beyond g (functions_of s p) ≡ functions_of s g) → (t : Bool) → Mem g (when t then p ∷ functions_of s p else functions_of s p)
+          → beyond g (when t then p ∷ functions_of s p else functions_of s p) ≡ functions_of s g
       case p up true l = test (decide (eqb p g)) l
         where
           miss : T (not (eqb p g)) → Mem g (p ∷ functions_of s p) → Mem g (functions_of s p)
@@ -181,7 +181,7 @@ module _ {O : Outside} {s : Sheet} (ok : Fits O s) where
       sym (if_true (eqb g g) rest (beyond g rest) (eqb_refl g)) ∙ ap (beyond g) (sym e) ∙ beyond_around x g m (subst (λ (l : List ℕ). Mem g l) (sym e) (here refl))
 
   -- statements and expressions lie in a function
-  if_empty : (t : Bool) (p : ℕ) (l : List ℕ) → (if t then p ∷ l else l) ≡ [] → T (not t) × (l ≡ [])
+  if_empty : (t : Bool) (p : ℕ) (l : List ℕ) → (when t then p ∷ l else l) ≡ [] → T (not t) × (l ≡ [])
   if_empty true p l e = let z : ◌≡◌ {A = ℕ} 0 1 = cc in absurd (omega arith)
   if_empty false p l e = (tt, e)
 

@@ -4,7 +4,7 @@ use mathlib.Core.List.{List, [], ◌∷◌, ◌++◌, map}
 use mathlib.Core.Bool.{Bool, true, false, ◌||◌, ◌&&◌}
 use Prim.Native.Nat.{ℕ, zero, suc}
 use lib.Dec.{eqb}
-use Rattle.definition.specs.Basics.{if◌then◌else◌, filter, concat_map}
+use Rattle.definition.specs.Basics.{when◌then◌else◌, filter, concat_map}
 use Rattle.definition.specs.Sheet.{Sheet, child, b, is, kids, kids_of}
 use Rattle.definition.specs.Meaning.{Meaning}
 use Rattle.definition.specs.Walk.{Event, enter, leave, loop, declare, bring, visit, imports, seen, literal_let, parts, each, trace}
@@ -57,7 +57,7 @@ flat_brings : {A : Type 0} (i : ℕ) (n : A → ℕ) (d : A → Meaning) (xs : L
 flat_brings i n d [] = none
 flat_brings i n d (x ∷ xs) = an_import (flat_brings i n d xs)
 
-pub flat_if : (t : Bool) {xs ys : List Event} → Flat xs → Flat ys → Flat (if t then xs else ys)
+pub flat_if : (t : Bool) {xs ys : List Event} → Flat xs → Flat ys → Flat (when t then xs else ys)
 flat_if true f g = f
 flat_if false f g = g
 
@@ -95,9 +95,9 @@ keeps_scope s r es f z =
 -- a row: what comes before its parts, the parts, what comes after, by the tests on its kind
 keeps_row : (s : Sheet) (r : ℕ) (ms : List Event) (t2 t6 t25 t27 t30 t29 t52 tv : Bool) {e2 e6 e25 : List Event}
     → Flat e2 → Flat e6 → Flat e25 → Keeps s ms
-    → Keeps s ((if t2 then enter r ∷ e2 else if t6 then enter r ∷ e6 else if t25 then enter r ∷ e25 else if t27 then enter r ∷ [] else if t30 then visit r ∷ [] else [])
+    → Keeps s ((when t2 then enter r ∷ e2 else when t6 then enter r ∷ e6 else when t25 then enter r ∷ e25 else when t27 then enter r ∷ [] else when t30 then visit r ∷ [] else [])
     ++ ms
-    ++ (if t2 || t6 || t25 || t27 then leave ∷ [] else if t29 then (if t52 then [] else declare r ∷ []) else if tv then visit r ∷ [] else []))
+    ++ (when t2 || t6 || t25 || t27 then leave ∷ [] else when t29 then (when t52 then [] else declare r ∷ []) else when tv then visit r ∷ [] else []))
 keeps_row s r ms true t6 t25 t27 t30 t29 t52 tv {e2} f2 f6 f25 k = keeps_scope s r (e2 ++ ms) (keeps_append s e2 ms (keeps_flat s f2) k)
 keeps_row s r ms false true t25 t27 t30 t29 t52 tv {e6 = e6} f2 f6 f25 k = keeps_scope s r (e6 ++ ms) (keeps_append s e6 ms (keeps_flat s f6) k)
 keeps_row s r ms false false true t27 t30 t29 t52 tv {e25 = e25} f2 f6 f25 k = keeps_scope s r (e25 ++ ms) (keeps_append s e25 ms (keeps_flat s f25) k)

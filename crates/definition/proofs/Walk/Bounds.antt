@@ -10,7 +10,7 @@ use Prim.Native.Nat.{ℕ, suc, ◌+◌, ◌<◌, ◌≤◌}
 use native.Mathlib.Omega.{arith}
 use lib.ListN.{length}
 use lib.Dec.{eqb, T, T_not, eqb_refl, eqb→eq}
-use Rattle.definition.specs.Basics.{if◌then◌else◌, filter, concat_map, bit, count, total}
+use Rattle.definition.specs.Basics.{when◌then◌else◌, filter, concat_map, bit, count, total}
 use Rattle.definition.specs.Sheet.{Sheet, rows, is, kids, kids_of, child}
 use Rattle.definition.specs.Outside.{Outside}
 use Rattle.definition.specs.Walk.{Event, enter, leave, loop, declare, bring, visit, imports, literal_let, before, after, after_part, parts, each, walk}
@@ -32,7 +32,7 @@ total_length f (x ∷ xs) h = omega (arith, h x, total_length f xs h)
 
 -- at a row at most one scope opens
 enter_before : (r : ℕ) (t2 t6 t25 t27 t30 : Bool) (e2 e6 e25 : List Event) → count is_enter e2 ≡ 0 → count is_enter e6 ≡ 0 → count is_enter e25 ≡ 0
-    → count is_enter (if t2 then enter r ∷ e2 else if t6 then enter r ∷ e6 else if t25 then enter r ∷ e25 else if t27 then enter r ∷ [] else if t30 then visit r ∷ [] else []) ≤ 1
+    → count is_enter (when t2 then enter r ∷ e2 else when t6 then enter r ∷ e6 else when t25 then enter r ∷ e25 else when t27 then enter r ∷ [] else when t30 then visit r ∷ [] else []) ≤ 1
 enter_before r true t6 t25 t27 t30 e2 e6 e25 f g h = omega arith
 enter_before r false true t25 t27 t30 e2 e6 e25 f g h = omega arith
 enter_before r false false true t27 t30 e2 e6 e25 f g h = omega arith
@@ -40,7 +40,7 @@ enter_before r false false false true t30 e2 e6 e25 f g h = omega arith
 enter_before r false false false false true e2 e6 e25 f g h = omega arith
 enter_before r false false false false false e2 e6 e25 f g h = omega arith
 
-enter_part : (r : ℕ) (t59 t27 : Bool) → count is_enter (if t59 then visit r ∷ [] else if t27 then loop ∷ [] else []) ≡ 0
+enter_part : (r : ℕ) (t59 t27 : Bool) → count is_enter (when t59 then visit r ∷ [] else when t27 then loop ∷ [] else []) ≡ 0
 enter_part r true t27 = refl
 enter_part r false true = refl
 enter_part r false false = refl
@@ -50,7 +50,7 @@ enter_parts s r i [] = refl
 enter_parts s r i (k ∷ ks) =
     omega (arith, count_append is_enter (after_part s r i) (each (λ k. []) s r (suc i) ks), enter_parts s r (suc i) ks, enter_part r (is s 59 r && eqb i 0) (is s 27 r && eqb i 1))
 
-enter_after : (r : ℕ) (tl t29 t52 tv : Bool) → count is_enter (if tl then leave ∷ [] else if t29 then (if t52 then [] else declare r ∷ []) else if tv then visit r ∷ [] else []) ≡ 0
+enter_after : (r : ℕ) (tl t29 t52 tv : Bool) → count is_enter (when tl then leave ∷ [] else when t29 then (when t52 then [] else declare r ∷ []) else when tv then visit r ∷ [] else []) ≡ 0
 enter_after r true t29 t52 tv = refl
 enter_after r false true true tv = refl
 enter_after r false true false tv = refl

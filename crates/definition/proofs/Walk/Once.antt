@@ -10,7 +10,7 @@ use Prim.Native.Nat.{ℕ, zero, suc, ◌+◌, ◌<◌, ◌≤◌}
 use native.Mathlib.Omega.{arith}
 use native.Mathlib.Nat.{le_refl}
 use lib.Dec.{eqb, T, T_not, not_T, eqb_refl, eqb→eq, eqb-suc-zero}
-use Rattle.definition.specs.Basics.{if◌then◌else◌, filter, final, concat_map, bit, ◌∈?◌, count, total}
+use Rattle.definition.specs.Basics.{when◌then◌else◌, filter, final, concat_map, bit, ◌∈?◌, count, total}
 use Rattle.definition.specs.Sheet.{Sheet, kind, child, b, rows, kids, is, kids_of, holder}
 use Rattle.definition.specs.Outside.{Outside}
 use Rattle.definition.specs.Meaning.{Meaning}
@@ -78,7 +78,7 @@ brings_map : {A : Type 0} (i : ℕ) (n : A → ℕ) (d : A → Meaning) (xs : Li
 brings_map i n d [] = none
 brings_map i n d (x ∷ xs) = more (brings_map i n d xs)
 
-brings_if : (t : Bool) {xs : List Event} → Brings xs → Brings (if t then xs else [])
+brings_if : (t : Bool) {xs : List Event} → Brings xs → Brings (when t then xs else [])
 brings_if true p = p
 brings_if false p = none
 
@@ -95,7 +95,7 @@ not_zero : (x : ℕ) → (x ≡ 0 → ⊥) → T (not (eqb 0 x))
 not_zero x z = not_T (eqb 0 x) (λ t. z (sym (eqb→eq 0 x t)))
 
 -- a number where a test passes
-if_bit_le : (t : Bool) (v : ℕ) → (if t then v else 0) ≤ v
+if_bit_le : (t : Bool) (v : ℕ) → (when t then v else 0) ≤ v
 if_bit_le true v = le_refl v
 if_bit_le false v = omega arith
 
@@ -110,12 +110,12 @@ pub record OnlyVisits (p : Event → Bool) : Type 0 where
 bit_off : (t : Bool) → T (not t) → bit t ≡ 0
 bit_off t h = bit_not t (T_not t h)
 
-one_kind : (n v : ℕ) → (if eqb n 30 then v else 0) + (if eqb n 59 then v else 0)
-    + (if eqb n 21 || eqb n 23 || eqb n 24 || eqb n 50 || eqb n 51 || eqb n 52 || eqb n 55 then v else 0) ≤ v
+one_kind : (n v : ℕ) → (when eqb n 30 then v else 0) + (when eqb n 59 then v else 0)
+    + (when eqb n 21 || eqb n 23 || eqb n 24 || eqb n 50 || eqb n 51 || eqb n 52 || eqb n 55 then v else 0) ≤ v
 one_kind n v = go (decide (eqb n 30)) (decide (eqb n 59))
   where
-    go : T (eqb n 30) ⊎ T (not (eqb n 30)) → T (eqb n 59) ⊎ T (not (eqb n 59)) → (if eqb n 30 then v else 0) + (if eqb n 59 then v else 0)
-        + (if eqb n 21 || eqb n 23 || eqb n 24 || eqb n 50 || eqb n 51 || eqb n 52 || eqb n 55 then v else 0) ≤ v
+    go : T (eqb n 30) ⊎ T (not (eqb n 30)) → T (eqb n 59) ⊎ T (not (eqb n 59)) → (when eqb n 30 then v else 0) + (when eqb n 59 then v else 0)
+        + (when eqb n 21 || eqb n 23 || eqb n 24 || eqb n 50 || eqb n 51 || eqb n 52 || eqb n 55 then v else 0) ≤ v
     go (inl p) q = rw (eqb→eq n 30 p) (omega arith)
     go (inr p) (inl q) = rw (eqb→eq n 59 q) (omega arith)
     go (inr p) (inr q) =
@@ -124,8 +124,8 @@ one_kind n v = go (decide (eqb n 30)) (decide (eqb n 59))
 module _ (s : Sheet) (p : Event → Bool) (q : OnlyVisits p) where
   -- at row r only its own visit, and once
   visit_before : (r : ℕ) (t2 t6 t25 t27 t30 : Bool) (e2 e6 e25 : List Event) → count p e2 ≡ 0 → count p e6 ≡ 0 → count p e25 ≡ 0
-      → count p (if t2 then enter r ∷ e2 else if t6 then enter r ∷ e6 else if t25 then enter r ∷ e25 else if t27 then enter r ∷ [] else if t30 then visit r ∷ [] else [])
-      ≤ (if t30 then bit (p (visit r)) else 0)
+      → count p (when t2 then enter r ∷ e2 else when t6 then enter r ∷ e6 else when t25 then enter r ∷ e25 else when t27 then enter r ∷ [] else when t30 then visit r ∷ [] else [])
+      ≤ (when t30 then bit (p (visit r)) else 0)
   visit_before r true t6 t25 t27 t30 e2 e6 e25 f g h = omega (arith, bit_off (p (enter r)) (q.enters r))
   visit_before r false true t25 t27 t30 e2 e6 e25 f g h = omega (arith, bit_off (p (enter r)) (q.enters r))
   visit_before r false false true t27 t30 e2 e6 e25 f g h = omega (arith, bit_off (p (enter r)) (q.enters r))
@@ -133,7 +133,7 @@ module _ (s : Sheet) (p : Event → Bool) (q : OnlyVisits p) where
   visit_before r false false false false true e2 e6 e25 f g h = omega arith
   visit_before r false false false false false e2 e6 e25 f g h = omega arith
 
-  visit_part : (r : ℕ) (t59 t0 t27 : Bool) → count p (if t59 && t0 then visit r ∷ [] else if t27 then loop ∷ [] else []) ≤ (if t0 then (if t59 then bit (p (visit r)) else 0) else 0)
+  visit_part : (r : ℕ) (t59 t0 t27 : Bool) → count p (when t59 && t0 then visit r ∷ [] else when t27 then loop ∷ [] else []) ≤ (when t0 then (when t59 then bit (p (visit r)) else 0) else 0)
   visit_part r true true t27 = omega arith
   visit_part r false true true = omega (arith, bit_off (p loop) q.loops)
   visit_part r false true false = omega arith
@@ -150,16 +150,16 @@ module _ (s : Sheet) (p : Event → Bool) (q : OnlyVisits p) where
         count_append p (after_part s r (suc i)) (each (λ k. []) s r (suc (suc i)) ks),
         visit_later r (suc i) ks,
         visit_part r (is s 59 r) (eqb (suc i) 0) (is s 27 r && eqb (suc i) 1),
-        if_false (eqb (suc i) 0) (if is s 59 r then bit (p (visit r)) else 0) 0 (rw (eqb-suc-zero i) tt),
+        if_false (eqb (suc i) 0) (when is s 59 r then bit (p (visit r)) else 0) 0 (rw (eqb-suc-zero i) tt),
       )
 
-  visit_parts : (r : ℕ) (ks : List ℕ) → count p (each (λ k. []) s r 0 ks) ≤ (if is s 59 r then bit (p (visit r)) else 0)
+  visit_parts : (r : ℕ) (ks : List ℕ) → count p (each (λ k. []) s r 0 ks) ≤ (when is s 59 r then bit (p (visit r)) else 0)
   visit_parts r [] = omega arith
   visit_parts r (k ∷ ks) =
       omega (arith, count_append p (after_part s r 0) (each (λ k. []) s r 1 ks), visit_later r 0 ks, visit_part r (is s 59 r) true (is s 27 r && false))
 
   visit_after : (r : ℕ) (tl t29 t52 tv : Bool)
-      → count p (if tl then leave ∷ [] else if t29 then (if t52 then [] else declare r ∷ []) else if tv then visit r ∷ [] else []) ≤ (if tv then bit (p (visit r)) else 0)
+      → count p (when tl then leave ∷ [] else when t29 then (when t52 then [] else declare r ∷ []) else when tv then visit r ∷ [] else []) ≤ (when tv then bit (p (visit r)) else 0)
   visit_after r true t29 t52 tv = omega (arith, bit_off (p leave) q.leaves)
   visit_after r false true true tv = omega arith
   visit_after r false true false tv = omega (arith, bit_off (p (declare r)) (q.declares r))
@@ -168,7 +168,7 @@ module _ (s : Sheet) (p : Event → Bool) (q : OnlyVisits p) where
 
   pub visit_own : (r : ℕ) → count p (own s r) ≤ bit (p (visit r))
   visit_own r =
-      let e : count p (before s r) ≤ (if is s 30 r then bit (p (visit r)) else 0) =
+      let e : count p (before s r) ≤ (when is s 30 r then bit (p (visit r)) else 0) =
       visit_before r (is s 2 r) (is s 6 r) (is s 25 r) (is s 27 r) (is s 30 r)
       (concat_map (imports s r) (kids_of s 3 r) ++ map declare (kids_of s 4 r)) (map declare (kids_of s 11 r)) (map declare (filter (literal_let s) (kids s r)))
       (count_none p (concat_map (imports s r) (kids_of s 3 r)) (map declare (kids_of s 4 r))
@@ -193,7 +193,7 @@ module _ (s : Sheet) (x : ℕ) (z : x ≡ 0 → ⊥) where
   own_let = is s 29 x && not (is s 52 (child s x))
 
   abbrev home : ℕ
-  home = if own_let then x else holder s x
+  home = when own_let then x else holder s x
 
   count_declares : (ks : List ℕ) → count is_declare_of (map declare ks) ≡ count (λ k. eqb k x) ks
   count_declares [] = refl
@@ -227,8 +227,8 @@ module _ (s : Sheet) (x : ℕ) (z : x ≡ 0 → ⊥) where
           omega (arith, count_declares (filter q (kids s r)), count_absent (filter q (kids s r)) (λ m. T_not (x ∈? filter q (kids s r)) t (mem_test x (filter q (kids s r)) m)))
 
   declare_before : (r v : ℕ) (t2 t6 t25 t27 t30 : Bool) (e2 e6 e25 : List Event) → count is_declare_of e2 ≤ v → count is_declare_of e6 ≤ v → count is_declare_of e25 ≤ v
-      → count is_declare_of (if t2 then enter r ∷ e2 else if t6 then enter r ∷ e6 else if t25 then enter r ∷ e25 else if t27 then enter r ∷ [] else if t30 then visit r ∷ [] else [])
-      ≤ (if t2 || t6 || t25 then v else 0)
+      → count is_declare_of (when t2 then enter r ∷ e2 else when t6 then enter r ∷ e6 else when t25 then enter r ∷ e25 else when t27 then enter r ∷ [] else when t30 then visit r ∷ [] else [])
+      ≤ (when t2 || t6 || t25 then v else 0)
   declare_before r v true t6 t25 t27 t30 e2 e6 e25 f g h = omega (arith, bit_off (eqb 0 x) (not_zero x z))
   declare_before r v false true t25 t27 t30 e2 e6 e25 f g h = omega (arith, bit_off (eqb 0 x) (not_zero x z))
   declare_before r v false false true t27 t30 e2 e6 e25 f g h = omega (arith, bit_off (eqb 0 x) (not_zero x z))
@@ -236,7 +236,7 @@ module _ (s : Sheet) (x : ℕ) (z : x ≡ 0 → ⊥) where
   declare_before r v false false false false true e2 e6 e25 f g h = omega (arith, bit_off (eqb 0 x) (not_zero x z))
   declare_before r v false false false false false e2 e6 e25 f g h = omega arith
 
-  declare_part : (r : ℕ) (t59 t27 : Bool) → count is_declare_of (if t59 then visit r ∷ [] else if t27 then loop ∷ [] else []) ≡ 0
+  declare_part : (r : ℕ) (t59 t27 : Bool) → count is_declare_of (when t59 then visit r ∷ [] else when t27 then loop ∷ [] else []) ≡ 0
   declare_part r true t27 = omega (arith, bit_off (eqb 0 x) (not_zero x z))
   declare_part r false true = omega (arith, bit_off (eqb 0 x) (not_zero x z))
   declare_part r false false = refl
@@ -247,7 +247,7 @@ module _ (s : Sheet) (x : ℕ) (z : x ≡ 0 → ⊥) where
       omega (arith, count_append is_declare_of (after_part s r i) (each (λ k. []) s r (suc i) ks), declare_parts r (suc i) ks, declare_part r (is s 59 r && eqb i 0) (is s 27 r && eqb i 1))
 
   declare_after : (r v : ℕ) (tl t29 t52 tv : Bool) → (T (t29 && not t52) → bit (eqb r x) ≤ v)
-      → count is_declare_of (if tl then leave ∷ [] else if t29 then (if t52 then [] else declare r ∷ []) else if tv then visit r ∷ [] else []) ≤ (if t29 then v else 0)
+      → count is_declare_of (when tl then leave ∷ [] else when t29 then (when t52 then [] else declare r ∷ []) else when tv then visit r ∷ [] else []) ≤ (when t29 then v else 0)
   declare_after r v true t29 t52 tv f = omega (arith, bit_off (eqb 0 x) (not_zero x z))
   declare_after r v false true true tv f = omega arith
   declare_after r v false true false tv f = omega (arith, f tt)
@@ -264,10 +264,10 @@ module _ (s : Sheet) (x : ℕ) (z : x ≡ 0 → ⊥) where
           omega (arith, bit_le (eqb r x), bit_yes (eqb r home) (eqb_of r home (e ∙ sym w)))
       go (inr t) = omega (arith, bit_not (eqb r x) (T_not (eqb r x) t))
 
-  let_apart : (n v : ℕ) → (if eqb n 2 || eqb n 6 || eqb n 25 then v else 0) + (if eqb n 29 then v else 0) ≤ v
+  let_apart : (n v : ℕ) → (when eqb n 2 || eqb n 6 || eqb n 25 then v else 0) + (when eqb n 29 then v else 0) ≤ v
   let_apart n v = go (decide (eqb n 29))
     where
-      go : T (eqb n 29) ⊎ T (not (eqb n 29)) → (if eqb n 2 || eqb n 6 || eqb n 25 then v else 0) + (if eqb n 29 then v else 0) ≤ v
+      go : T (eqb n 29) ⊎ T (not (eqb n 29)) → (when eqb n 2 || eqb n 6 || eqb n 25 then v else 0) + (when eqb n 29 then v else 0) ≤ v
       go (inl p) = rw (eqb→eq n 29 p) (omega arith)
       go (inr p) = omega (arith, if_false (eqb n 29) v 0 p, if_bit_le (eqb n 2 || eqb n 6 || eqb n 25) v)
 
@@ -279,7 +279,7 @@ module _ (s : Sheet) (x : ℕ) (z : x ≡ 0 → ⊥) where
 
   pub declare_own : {O : Outside} (ok : Fits O s) (r : ℕ) → r < rows s → count is_declare_of (own s r) ≤ bit (eqb r home)
   declare_own ok r l =
-      let e : count is_declare_of (before s r) ≤ (if is s 2 r || is s 6 r || is s 25 r then bit (eqb r home) else 0) =
+      let e : count is_declare_of (before s r) ≤ (when is s 2 r || is s 6 r || is s 25 r then bit (eqb r home) else 0) =
       declare_before r (bit (eqb r home)) (is s 2 r) (is s 6 r) (is s 25 r) (is s 27 r) (is s 30 r)
       (concat_map (imports s r) (kids_of s 3 r) ++ map declare (kids_of s 4 r)) (map declare (kids_of s 11 r)) (map declare (filter (literal_let s) (kids s r)))
       (omega (

@@ -9,7 +9,7 @@ use mathlib.Core.Bool.{Bool, true, false, not, ◌||◌, ◌&&◌}
 use Prim.Native.Nat.{ℕ, zero, suc, ◌<◌, ◌≤◌}
 use native.Mathlib.Omega.{arith}
 use lib.Dec.{eqb, leb, T, T_not, not_T, eqb→eq, leb→le}
-use Rattle.definition.specs.Basics.{if◌then◌else◌, first, from}
+use Rattle.definition.specs.Basics.{when◌then◌else◌, first, from}
 use Rattle.definition.specs.Sheet.{Sheet, kind, next, child, a, rows, chain, kids, is, holder, lies_in}
 use Rattle.definition.specs.Outside.{Outside}
 use Rattle.definition.specs.Walk.{parts, is_part}
@@ -123,9 +123,9 @@ module _ {O : Outside} {s : Sheet} (ok : Fits O s) where
 
   -- a part of a reached row lies in it
   pub part_lies : {n r : ℕ} (k : ℕ) → Reached s n r → Mem k (parts s r) → (lies_in s k ≡ r) × (k < rows s) × (k ≡ 0 → ⊥) × T (is_part s k)
-  part_lies {n} {r} k w m = go (is s 30 r) (λ h. h) (filter_mem (is_part s) k (kids s (if is s 30 r then a s r else r)) m)
+  part_lies {n} {r} k w m = go (is s 30 r) (λ h. h) (filter_mem (is_part s) k (kids s (when is s 30 r then a s r else r)) m)
     where
-      go : (t : Bool) → (T t → T (is s 30 r)) → Mem k (kids s (if t then a s r else r)) × T (is_part s k) → (lies_in s k ≡ r) × (k < rows s) × (k ≡ 0 → ⊥) × T (is_part s k)
+      go : (t : Bool) → (T t → T (is s 30 r)) → Mem k (kids s (when t then a s r else r)) × T (is_part s k) → (lies_in s k ≡ r) × (k < rows s) × (k ≡ 0 → ⊥) × T (is_part s k)
       go true h q =
           let c = ok.class_named r w.in_range (h tt) in
           (lies_in_declaration ok r k w.in_range (h tt) q.0, kids_row ok (a s r) k c.0 q.0, chain_nonzero (rows s) s (child s (a s r)) k q.0, q.1)
@@ -139,6 +139,6 @@ module _ {O : Outside} {s : Sheet} (ok : Fits O s) where
   pub parts_nodup : {n r : ℕ} → Reached s n r → Nodup (parts s r)
   parts_nodup {n} {r} w = nodup_filter (is_part s) (go (is s 30 r) (λ h. h))
     where
-      go : (t : Bool) → (T t → T (is s 30 r)) → Nodup (kids s (if t then a s r else r))
+      go : (t : Bool) → (T t → T (is s 30 r)) → Nodup (kids s (when t then a s r else r))
       go true h = kids_nodup ok (a s r) (ok.class_named r w.in_range (h tt)).0
       go false h = kids_nodup ok r w.in_range

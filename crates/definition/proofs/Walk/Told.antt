@@ -7,7 +7,7 @@ use mathlib.Core.Bool.{Bool, true, false, not, ◌||◌, ◌&&◌}
 use Prim.Native.Nat.{ℕ, zero, suc, ◌+◌, ◌<◌, ◌≤◌}
 use native.Mathlib.Omega.{arith}
 use lib.Dec.{eqb, leb, T, not_T, eqb→eq}
-use Rattle.definition.specs.Basics.{if◌then◌else◌, filter, head}
+use Rattle.definition.specs.Basics.{when◌then◌else◌, filter, head}
 use Rattle.definition.specs.Sheet.{Sheet, kind, child, rows, kids, is, kids_of, functions_of}
 use Rattle.definition.specs.Outside.{Outside}
 use Rattle.definition.specs.Meaning.{Meaning}
@@ -65,7 +65,7 @@ settled_flat s fs (a_visit {r = r} f) (every_one t ts) z e = every_one (told_at 
 
 -- a scope: the functions around what is in it
 abbrev entered : Sheet → ℕ → List ℕ → List ℕ
-entered s r fs = if is s 6 r then r ∷ fs else fs
+entered s r fs = when is s 6 r then r ∷ fs else fs
 
 settled_scope : (s : Sheet) (r : ℕ) (fs : List ℕ) (es : List Event) → Settled s (entered s r fs) es → Settled s fs ((enter r ∷ es) ++ (leave ∷ []))
 unfolding Settled
@@ -73,7 +73,7 @@ settled_scope s r fs es f z e =
     let y : Stack = step s z (enter r) in
     every_one t_enter (subst (λ (l : List Moment). Every (ToldAt s) l) (sym (moments_append s y es (leave ∷ []))) (every_append (f y (ap (entered s r) e)) (every_one t_leave every_none)))
 
-every_if : {P : Event → Type 0} (t : Bool) {xs : List Event} → (T t → Every P xs) → Every P (if t then xs else [])
+every_if : {P : Event → Type 0} (t : Bool) {xs : List Event} → (T t → Every P xs) → Every P (when t then xs else [])
 every_if true f = f tt
 every_if false f = every_none
 
@@ -81,9 +81,9 @@ settled_row : (s : Sheet) (r : ℕ) (fs : List ℕ) (ms : List Event) (t2 t6 t25
     → Flat e2 → Flat e6 → Flat e25 → Keeps s ms → (T (not t6) → entered s r fs ≡ fs)
     → (T t2 → Every (Told s (entered s r fs)) e2) → (T t6 → Every (Told s (entered s r fs)) e6) → (T t25 → Every (Told s (entered s r fs)) e25)
     → Told s fs (visit r) → (T t29 → Told s fs (declare r)) → Settled s (entered s r fs) ms
-    → Settled s fs ((if t2 then enter r ∷ e2 else if t6 then enter r ∷ e6 else if t25 then enter r ∷ e25 else if t27 then enter r ∷ [] else if t30 then visit r ∷ [] else [])
+    → Settled s fs ((when t2 then enter r ∷ e2 else when t6 then enter r ∷ e6 else when t25 then enter r ∷ e25 else when t27 then enter r ∷ [] else when t30 then visit r ∷ [] else [])
     ++ ms
-    ++ (if t2 || t6 || t25 || t27 then leave ∷ [] else if t29 then (if t52 then [] else declare r ∷ []) else if tv then visit r ∷ [] else []))
+    ++ (when t2 || t6 || t25 || t27 then leave ∷ [] else when t29 then (when t52 then [] else declare r ∷ []) else when tv then visit r ∷ [] else []))
 settled_row s r fs ms true t6 t25 t27 t30 t29 t52 tv {e2} f2 f6 f25 k n g2 g6 g25 v d h =
     settled_scope s r fs (e2 ++ ms) (settled_append s (entered s r fs) e2 ms (keeps_flat s f2) (settled_flat s (entered s r fs) f2 (g2 tt)) h)
 settled_row s r fs ms false true t25 t27 t30 t29 t52 tv {e6 = e6} f2 f6 f25 k n g2 g6 g25 v d h =
@@ -92,14 +92,14 @@ settled_row s r fs ms false false true t27 t30 t29 t52 tv {e25 = e25} f2 f6 f25 
     settled_scope s r fs (e25 ++ ms) (settled_append s (entered s r fs) e25 ms (keeps_flat s f25) (settled_flat s (entered s r fs) f25 (g25 tt)) h)
 settled_row s r fs ms false false false true t30 t29 t52 tv f2 f6 f25 k n g2 g6 g25 v d h = settled_scope s r fs ms h
 settled_row s r fs ms false false false false t30 t29 t52 tv f2 f6 f25 k n g2 g6 g25 v d h =
-    let first_flat : Flat (if t30 then visit r ∷ [] else []) = flat_if t30 (a_visit none) none in
-    let first_told : Every (Told s fs) (if t30 then visit r ∷ [] else []) = every_if t30 (λ t. every_one v every_none) in
-    settled_append s fs ((if t30 then visit r ∷ [] else []) ++ ms) _
+    let first_flat : Flat (when t30 then visit r ∷ [] else []) = flat_if t30 (a_visit none) none in
+    let first_told : Every (Told s fs) (when t30 then visit r ∷ [] else []) = every_if t30 (λ t. every_one v every_none) in
+    settled_append s fs ((when t30 then visit r ∷ [] else []) ++ ms) _
     (keeps_append s _ _ (keeps_flat s first_flat) k)
-    (settled_append s fs (if t30 then visit r ∷ [] else []) ms (keeps_flat s first_flat) (settled_flat s fs first_flat first_told) (subst (λ (l : List ℕ). Settled s l ms) (n tt) h))
+    (settled_append s fs (when t30 then visit r ∷ [] else []) ms (keeps_flat s first_flat) (settled_flat s fs first_flat first_told) (subst (λ (l : List ℕ). Settled s l ms) (n tt) h))
     (settled_flat s fs (flat_if t29 (flat_if t52 none (a_name none)) (flat_if tv (a_visit none) none)) (last t29 t52 tv d))
   where
-    last : (t29 t52 tv : Bool) → (T t29 → Told s fs (declare r)) → Every (Told s fs) (if t29 then (if t52 then [] else declare r ∷ []) else if tv then visit r ∷ [] else [])
+    last : (t29 t52 tv : Bool) → (T t29 → Told s fs (declare r)) → Every (Told s fs) (when t29 then (when t52 then [] else declare r ∷ []) else when tv then visit r ∷ [] else [])
     last true true tv d = every_none
     last true false tv d = every_one (d tt) every_none
     last false t52 true d = every_one v every_none
@@ -116,7 +116,7 @@ settled_each s fs go r i (j ∷ ks) k v f =
     flat : Flat (after_part s r i)
     flat = flat_if (is s 59 r && eqb i 0) (a_visit none) (flat_if (is s 27 r && eqb i 1) (a_loop none) none)
 
-    told : (t59 t0 t27 : Bool) → (T t59 → Told s fs (visit r)) → Every (Told s fs) (if t59 && t0 then visit r ∷ [] else if t27 then loop ∷ [] else [])
+    told : (t59 t0 t27 : Bool) → (T t59 → Told s fs (visit r)) → Every (Told s fs) (when t59 && t0 then visit r ∷ [] else when t27 then loop ∷ [] else [])
     told true true t27 w = every_one (w tt) every_none
     told true false true w = every_one t_loop every_none
     told true false false w = every_none
@@ -146,7 +146,7 @@ module _ {O : Outside} {s : Sheet} (ok : Fits O s) where
   some_inner : (r : ℕ) → (functions_of s r ≡ [] → ⊥) → inner s r ≡ [] → ⊥
   some_inner r f e = f (go (is s 6 r) e)
     where
-      go : (t : Bool) → (if t then r ∷ functions_of s r else functions_of s r) ≡ [] → functions_of s r ≡ []
+      go : (t : Bool) → (when t then r ∷ functions_of s r else functions_of s r) ≡ [] → functions_of s r ≡ []
       go true q = let z : ◌≡◌ {A = ℕ} 0 1 = cc in absurd (omega arith)
       go false q = q
 

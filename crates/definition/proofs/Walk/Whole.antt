@@ -10,7 +10,7 @@ use Prim.Native.Nat.{ℕ, zero, suc, ◌+◌, ◌-◌, ◌<◌, ◌≤◌}
 use native.Mathlib.Omega.{arith}
 use lib.ListN.{length}
 use lib.Dec.{leb, T, T_not, not_T, eqb→eq, leb→le}
-use Rattle.definition.specs.Basics.{if◌then◌else◌, head}
+use Rattle.definition.specs.Basics.{when◌then◌else◌, head}
 use Rattle.definition.specs.Sheet.{Sheet, kind, a, b, rows, chain, kids, is, holder, lies_in, climb}
 use Rattle.definition.specs.Outside.{Outside}
 use Rattle.definition.specs.Walk.{parts, is_part}
@@ -104,8 +104,8 @@ module _ {O : Outside} {s : Sheet} (ok : Fits O s) where
       lies : lies_in s y ≡ p
       lies = lies_in_holder ok p y c.2 c.3 (not_class sort)
 
-      climb_is : climb (suc n) s y ≡ (if is s 6 p then p ∷ climb n s p else climb n s p)
-      climb_is = ap (λ (q : ℕ). if is s 6 q then q ∷ climb n s q else climb n s q) lies
+      climb_is : climb (suc n) s y ≡ (when is s 6 p then p ∷ climb n s p else climb n s p)
+      climb_is = ap (λ (q : ℕ). when is s 6 q then q ∷ climb n s q else climb n s q) lies
 
       go : T (is s 6 p) ⊎ T (not (is s 6 p)) → (p < rows s → T (leb 20 (kind s p)) → T (is s 6 (head (climb n s p))) → b s (head (climb n s p)) ≡ 1 → Lined s p) → Lined s y
       go (inl t) up =

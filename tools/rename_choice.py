@@ -1,0 +1,67 @@
+#!/usr/bin/env python3
+"""Names the definition's choice by a test `when◌then◌else◌`: today's library has an `if◌then◌else◌` of its own, and `rt ci` refuses another under that name.
+
+usage: python3 tools/rename_choice.py        at the top of the repository, once, after respell.py
+
+Turns the word in .antt files, in the clauses and `ghost use` lines of .rt files, and in must-fail edits of definitions.
+"""
+import os
+import re
+
+WORD = re.compile(r"(?<![\w'.◌-])if(?![\w'.◌-])")
+
+
+def code(text):
+    text = text.replace("if◌then◌else◌", "when◌then◌else◌")
+    parts = re.split(r'("(?:[^"\\]|\\.)*")', text)
+    return "".join(q if i % 2 else WORD.sub("when", q) for i, q in enumerate(parts))
+
+
+def antt(text):
+    out = []
+    for line in text.split("\n"):
+        before, dash, comment = line.partition("--")
+        out.append(code(before) + dash + re.sub(r"`[^`]*`", lambda m: code(m.group(0)), comment))
+    return "\n".join(out)
+
+
+def rt(text):
+    out, depth, inside = [], 0, False
+    for line in text.split("\n"):
+        before, slashes, comment = line.partition("//")
+        if not inside and re.match(r"\s*(requires|ensures)\b[^{]*\{", before):
+            inside, depth = True, 0
+        if inside:
+            depth += before.count("{") - before.count("}")
+        if inside or re.match(r"\s*ghost use ", before):
+            line = code(before) + slashes + comment
+        inside = inside and depth > 0
+        out.append(line)
+    return "\n".join(out)
+
+
+def edit(text):
+    of_definition = re.search(r"(?m)^file: specs/", text)
+    out = []
+    for line in text.split("\n"):
+        head, colon, rest = line.partition(": ")
+        if head in ("old", "new") and (of_definition or re.search(r"\bif\b.*\bthen\b", rest)):
+            line = head + colon + code(rest)
+        out.append(line)
+    return "\n".join(out)
+
+
+TURNS = {".antt": antt, ".rt": rt, ".edit": edit}
+
+for folder, dirs, files in os.walk("crates"):
+    dirs[:] = [d for d in dirs if d != "out"]
+    for name in files:
+        turn = TURNS.get(os.path.splitext(name)[1])
+        if turn:
+            path = os.path.join(folder, name)
+            with open(path, encoding="utf-8") as f:
+                old = f.read()
+            new = turn(old)
+            if new != old:
+                with open(path, "w", encoding="utf-8") as f:
+                    f.write(new)
