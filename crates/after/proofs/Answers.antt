@@ -29,7 +29,8 @@ by_kind : (t29 t50 t51 t55 t54 t52 t6 t4 : Bool) (e : List ℕ → List ℕ) (le
     → (T t50 → T t51 → ⊥) → (T t50 → T t55 → ⊥)
     → (T t29 → map e lets ≡ words) → (T t51 → map e hosts ≡ words) → (T t55 → map e insts ≡ words) → (T t50 → map e ids ≡ ids') → (T t54 → map e mems ≡ mems')
     → (T t52 → lits ≡ lits') → (T t6 → funs ≡ funs') → (T t4 → cls ≡ cls')
-    → map e (when t29 then lets else when t50 then ids else when t51 then hosts else when t55 then insts else when t54 then mems else when t52 then lits else when t6 then funs else when t4 then cls else [])
+    → map e (when t29 then lets else when t50 then ids else when t51 then hosts else when t55 then insts else when t54 then mems
+    else when t52 then lits else when t6 then funs else when t4 then cls else [])
     ≡ (when t29 || t51 || t55 then words else when t50 then ids' else when t54 then mems' else map e (when t52 then lits' else when t6 then funs' else when t4 then cls' else []))
 by_kind true t50 t51 t55 t54 t52 t6 t4 e l i h n m li f c li' f' c' w i' m' x y p29 p51 p55 p50 p54 p52 p6 p4 = p29 tt
 by_kind false true true t55 t54 t52 t6 t4 e l i h n m li f c li' f' c' w i' m' x y p29 p51 p55 p50 p54 p52 p6 p4 = absurd (x tt tt)

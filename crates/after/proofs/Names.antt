@@ -109,7 +109,8 @@ method_names_lem O s o (suc n) c = go (eqb (parent_in s o c) 0) (method_names_le
     own = own_methods O s c
 
     go : (t : Bool) → names_of (methods_in O s o n (parent_in s o c)) ≡ method_names_in O s o n (parent_in s o c)
-        → names_of (when t then own else merge_methods (methods_in O s o n (parent_in s o c)) own) ≡ (when t then names_of own else merge_fields (method_names_in O s o n (parent_in s o c)) (names_of own))
+        → names_of (when t then own else merge_methods (methods_in O s o n (parent_in s o c)) own)
+        ≡ (when t then names_of own else merge_fields (method_names_in O s o n (parent_in s o c)) (names_of own))
     go true e = refl
     go false e = merged_names (methods_in O s o n (parent_in s o c)) own ∙ ap (λ (ns : List ℕ). merge_fields ns (names_of own)) e
 

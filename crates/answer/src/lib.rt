@@ -2,7 +2,7 @@
 #![tactic(auto)]
 
 ghost use Rattle.std.specs.Prelude.{◌≡◌, ◌<◌, length, replicate};
-ghost use Rattle.definition.specs.Sheet.{file as fileAt};
+ghost use Rattle.definition.specs.Sheet.{file as file_at};
 ghost use Rattle.definition.specs.Outcome.{refused, refused_at};
 ghost use Rattle.answer.specs.Tells.{Tells};
 ghost use Rattle.answer.specs.Fitted.{Fitted};
@@ -37,7 +37,7 @@ pub fn refuse(number: u32, out: &mut [u32]) -> Answer
 
 // Refuses at the position of a row.
 pub fn refuse_at(sheet: &[u32], number: u32, row: u32, name: u32, out: &mut [u32]) -> Answer
-    requires { fileAt sheet.now row < 262144 }
+    requires { file_at sheet.now row < 262144 }
     ensures { (Tells (refused_at number sheet.now row name) result) × (out.new ≡ replicate (length out.old) 0) }
 {
     let pos = SrcPos::new(

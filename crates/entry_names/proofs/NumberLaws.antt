@@ -84,7 +84,8 @@ module _ (l : List Name) where
       → length (concat_map ended (filter (is_new l) (x ∷ xs))) ≡ (when eqb (number_in l x) 0 then length x + 1 else 0) + length (concat_map ended (filter (is_new l) xs))
   bytes_more x xs = go (is_new l x) ∙ ap (λ (t : Bool). (when t then length x + 1 else 0) + length (concat_map ended (filter (is_new l) xs))) (sym (new_none x))
     where
-      go : (t : Bool) → length (concat_map ended (when t then x ∷ filter (is_new l) xs else filter (is_new l) xs)) ≡ (when t then length x + 1 else 0) + length (concat_map ended (filter (is_new l) xs))
+      go : (t : Bool) → length (concat_map ended (when t then x ∷ filter (is_new l) xs else filter (is_new l) xs))
+          ≡ (when t then length x + 1 else 0) + length (concat_map ended (filter (is_new l) xs))
       go true = omega (arith, length-append (ended x) (concat_map ended (filter (is_new l) xs)), length-append x (10 ∷ []))
       go false = omega arith
 

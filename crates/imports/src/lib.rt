@@ -2,7 +2,7 @@
 #![tactic(auto)]
 
 ghost use Rattle.std.specs.Prelude.{◌≡◌, List, [], ◌∷◌, map, ℕ, ◌≤◌, eqb, length};
-ghost use Rattle.definition.specs.Basics.{when◌then◌else◌, first as firstWith, concat_map};
+ghost use Rattle.definition.specs.Basics.{when◌then◌else◌, first as first_with, concat_map};
 ghost use Rattle.definition.specs.Sheet.{a, b, is, kids, kids_of};
 ghost use Rattle.definition.specs.Meaning.{named, nothing};
 ghost use Rattle.definition.specs.Walk.{bring as brings, exports, seen, imports};
@@ -130,7 +130,7 @@ fn bring_listed(sheet: &[u32], u: u32, i: u32, k: u32, walk: Walk, entries: &mut
     ensures { (O : Outside) (results nodes : List ℕ) → state_of result entries.new results nodes
         ≡ run_state O sheet.now
         (brings i (a sheet.now k)
-        (firstWith (λ y. eqb y.name (a sheet.now k)) (named 0 nothing) (seen sheet.now u i)).means ∷ [])
+        (first_with (λ y. eqb y.name (a sheet.now k)) (named 0 nothing) (seen sheet.now u i)).means ∷ [])
         (state_of walk entries.old results nodes) }
 {
     let m = word(sheet, k, column::A);
@@ -144,7 +144,7 @@ fn import_listed(sheet: &[u32], u: u32, i: u32, walk: Walk, entries: &mut [u32])
     ensures { (O : Outside) (results nodes : List ℕ) → state_of result entries.new results nodes
         ≡ run_state O sheet.now
         (map (λ k. brings i (a sheet.now k)
-        (firstWith (λ y. eqb y.name (a sheet.now k)) (named 0 nothing) (seen sheet.now u i)).means)
+        (first_with (λ y. eqb y.name (a sheet.now k)) (named 0 nothing) (seen sheet.now u i)).means)
         (kids sheet.now i)) (state_of walk entries.old results nodes) }
 {
     let mut n = sheet.len() / 8;

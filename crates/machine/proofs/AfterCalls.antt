@@ -24,7 +24,8 @@ calls_asked O s h (m ∷ ms) = go (eqb (constructed s (visited m.event) (open_on
     rest = filter (λ m. not (eqb (constructed s (visited m.event) (open_on s m.stack)) 0)) ms
 
     go : (t : Bool) → first_no (map (ask_constructor O s h) ms) ≡ first_no (map (check_call O s h) (map (call_node s) rest))
-        → first_no ((when t then none else check_call O s h (call_node s m)) ∷ map (ask_constructor O s h) ms) ≡ first_no (map (check_call O s h) (map (call_node s) (when not t then m ∷ rest else rest)))
+        → first_no ((when t then none else check_call O s h (call_node s m)) ∷ map (ask_constructor O s h) ms)
+        ≡ first_no (map (check_call O s h) (map (call_node s) (when not t then m ∷ rest else rest)))
     go true i = i
     go false i = ap (λ (x : Refusal). when not (eqb (check_call O s h (call_node s m)).number 0) then check_call O s h (call_node s m) else x) i
 

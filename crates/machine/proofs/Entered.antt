@@ -46,7 +46,8 @@ is_loop (visit r) = false
 
 -- at a row at most its own scope opens
 enter_before : (x r : ℕ) (t2 t6 t25 t27 t30 : Bool) (e2 e6 e25 : List Event) → count (enters_of x) e2 ≡ 0 → count (enters_of x) e6 ≡ 0 → count (enters_of x) e25 ≡ 0
-    → count (enters_of x) (when t2 then enter r ∷ e2 else when t6 then enter r ∷ e6 else when t25 then enter r ∷ e25 else when t27 then enter r ∷ [] else when t30 then visit r ∷ [] else []) ≤ bit (eqb r x)
+    → count (enters_of x) (when t2 then enter r ∷ e2 else when t6 then enter r ∷ e6 else when t25 then enter r ∷ e25
+    else when t27 then enter r ∷ [] else when t30 then visit r ∷ [] else []) ≤ bit (eqb r x)
 enter_before x r true t6 t25 t27 t30 e2 e6 e25 f g h = omega arith
 enter_before x r false true t25 t27 t30 e2 e6 e25 f g h = omega arith
 enter_before x r false false true t27 t30 e2 e6 e25 f g h = omega arith

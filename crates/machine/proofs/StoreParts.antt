@@ -86,7 +86,8 @@ own_skipped true true (g ∷ gs) x o = go (eqb x.one g) (eqb_same g x.one)
 
 part_list : (t : Bool) (fs : List ℕ) (x : Node) (o : Store) (f : ℕ) → Distinct fs → (t ≡ true → o.used + length fs ≤ node_room o.nodes) → f < length o.table / 8
     → ((g : ℕ) → get_or o.table (8 * g + 6) 0 ≤ o.used) → (t ≡ true → HasFurther fs x o f)
-    → list_at (when t then add_capture fs x o else o) (8 * f + 6) ≡ (when t then (when is_before x.one fs f then add_key x (list_at o (8 * f + 6)) else list_at o (8 * f + 6)) else list_at o (8 * f + 6))
+    → list_at (when t then add_capture fs x o else o) (8 * f + 6)
+    ≡ (when t then (when is_before x.one fs f then add_key x (list_at o (8 * f + 6)) else list_at o (8 * f + 6)) else list_at o (8 * f + 6))
 part_list true fs x o f d room h low k = add_capture_list fs x o f d (room refl) h low (k refl)
 part_list false fs x o f d room h low k = refl
 

@@ -32,9 +32,9 @@ get_or_inside [] i d d' h = absurd (omega arith)
 get_or_inside (x ∷ l) zero d d' h = refl
 get_or_inside (x ∷ l) (suc i) d d' h = get_or_inside l i d d' (omega arith)
 
-get_d_past : {A : Type 0} (d x : A) (l : List A) (k : ℕ) → (k ≡ 0 → ⊥) → get_or (x ∷ l) k d ≡ get_or l (k - 1) d
-get_d_past d x l zero f = absurd (f refl)
-get_d_past d x l (suc k) f = let e : suc k - 1 ≡ k = omega arith in rw e
+get_or_past : {A : Type 0} (d x : A) (l : List A) (k : ℕ) → (k ≡ 0 → ⊥) → get_or (x ∷ l) k d ≡ get_or l (k - 1) d
+get_or_past d x l zero f = absurd (f refl)
+get_or_past d x l (suc k) f = let e : suc k - 1 ≡ k = omega arith in rw e
 
 pub drop_step : {A : Type 0} (l : List A) (i : ℕ) (d : A) → i < length l → drop i l ≡ get_or l i d ∷ drop (i + 1) l
 drop_step l i d h = rw (add-one, drop-cons l i d)
@@ -119,7 +119,7 @@ module _ {w : List ℕ} {at e : ℕ} (n : Ends w at e) where
   name_here k z = ap (λ (j : ℕ). get_or (listed (drop at w)) j []) z ∙ ap (λ (l : List Name). get_or l 0 []) next_name
 
   pub name_later : (k : ℕ) → (k ≡ 0 → ⊥) → get_or (listed (drop at w)) k [] ≡ get_or (listed (drop (e + 1) w)) (k - 1) []
-  name_later k f = ap (λ (l : List Name). get_or l k []) next_name ∙ get_d_past [] (take (e - at) (drop at w)) (listed (drop (e + 1) w)) k f
+  name_later k f = ap (λ (l : List Name). get_or l k []) next_name ∙ get_or_past [] (take (e - at) (drop at w)) (listed (drop (e + 1) w)) k f
 
   -- by size
   sized_name : all sized (listed (drop at w)) ≡ (leb 1 (e - at) && leb (e - at) 255 && all sized (listed (drop (e + 1) w)))

@@ -1,7 +1,7 @@
 // Class records from outside a sheet, and what a class has by its record or, if it is of the sheet, by its rows.
 ghost use Rattle.std.specs.Prelude.{◌≡◌, eqb};
 ghost use Rattle.definition.specs.Basics.{when◌then◌else◌, ◌∈?◌};
-ghost use Rattle.definition.specs.Classes.{has_record, class_name, own_methods, arity as arityOf};
+ghost use Rattle.definition.specs.Classes.{has_record, class_name, own_methods, arity as arity_of};
 ghost use Rattle.outside.specs.Words.{methods_at, over};
 ghost use Rattle.outside.specs.Found.{row_record, Records, Tells, recorded_names, step_of, listed};
 
@@ -120,7 +120,7 @@ fn recorded_method(outside: &[u32], at: u32, count: u32, n: u32) -> Method
 
 // The method of the sheet that is function `f`; none for function 0.
 fn listed_method(sheet: &[u32], f: FunId) -> Method
-    ensures { (result.fun.0 ≡ f.0) × (result.params ≡ (when eqb f.0 0 then 0 else arityOf sheet.now f.0)) }
+    ensures { (result.fun.0 ≡ f.0) × (result.params ≡ (when eqb f.0 0 then 0 else arity_of sheet.now f.0)) }
 {
     if f.0 == 0 {
         return NO_METHOD;

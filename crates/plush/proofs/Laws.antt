@@ -120,7 +120,8 @@ place_size : (n ns : List ℕ) (o : Bool) (k size : ℕ) → (place_of n ns o k 
 place_size n ns o k size = by (eqb size 0) (o && leb 25 k) refl
   where
     by : (z t : Bool) → eqb size 0 ≡ z
-        → (when z then nowhere else when t then record { list = 1; start = bytes_before (k - 25) ns; length = size } else record { list = 0; start = bytes_before (k - 1) n; length = size }).length ≡ size
+        → (when z then nowhere else when t then record { list = 1; start = bytes_before (k - 25) ns; length = size }
+        else record { list = 0; start = bytes_before (k - 1) n; length = size }).length ≡ size
     by true t e = sym (eqb-true size 0 e)
     by false true e = refl
     by false false e = refl

@@ -1,7 +1,7 @@
 // One row of a sheet: what question 3 asks of it when the pass reaches it, and what it tells of its next row and first child.
 ghost use Rattle.std.specs.Prelude.{◌≡◌, not, ◌&&◌, ◌||◌, ◌+◌, ◌-◌, min, eqb, leb, ltb};
 ghost use Rattle.definition.specs.Sheet.{kind, next, rows, is};
-ghost use Rattle.definition.specs.Shape.{holds as holdsRule};
+ghost use Rattle.definition.specs.Shape.{holds as holds_rule};
 ghost use Rattle.shapes.specs.States.{entry_of, kind_table, rule_at};
 ghost use Rattle.row_fits.specs.Pass.{row_in, entry_in, columns_ok, plain_ok, function_ok, state_after, ends_in, ends_ok, new_ok, row_asked, row_ok};
 ghost use Rattle.row_fits.specs.Pass.{put_entry, note_next, note_child, note_own, note_declared, note_row, unit_here, fun_inside, class_here};
@@ -112,7 +112,7 @@ fn is_mode(start: u32, value: u32) -> bool
 
 // Does `value` fit a rule of columns, where `last` is the last name?
 fn holds(sheet: &[u32], last: u32, rule: u32, value: u32) -> bool
-    ensures { result ≡ holdsRule sheet.now last (rule_at rule) value }
+    ensures { result ≡ holds_rule sheet.now last (rule_at rule) value }
 {
     match rule {
         rule::ANY => true,

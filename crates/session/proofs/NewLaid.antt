@@ -167,7 +167,8 @@ module _ (E N g : ℕ) (O : Outside) (s : Sheet) (facts : SheetFacts (24 + N) s)
   good_declared : (r f : ℕ) → T (is s 4 r) ⊎ (T (is s 29 r) × (b s f ≡ 1)) → (T (is s 29 r) → T (is_toplevel (declared s r f)) → Mem r (global_lets s h)) → T (good (a s r) (declared s r f))
   good_declared r f (inl t) m =
       subst (λ (d : Meaning). T (good (a s r) d)) (sym (if_true (is s 4 r) (class (256 + r))
-      (when is s 29 r && leb 2 (b s r) then global (b s r - 2) 0 else when new_global s r f then toplevel r else when is s 29 r && eqb (b s f) 1 then function (child s (child s r)) else variable r f) t))
+      (when is s 29 r && leb 2 (b s r) then global (b s r - 2) 0 else when new_global s r f then toplevel r
+      else when is s 29 r && eqb (b s f) 1 then function (child s (child s r)) else variable r f) t))
       (good_class r t)
   good_declared r f (inr x) m = good_let r f x.0 x.1 (m x.0)
 

@@ -224,6 +224,7 @@ latest_told = refl
 
 -- texts: the session's 32 and 33, the entry's 29 and 30, a fixed one by either, none for 0
 pub texts : name_text little words2 bytes2 names1 false 32 ∷ name_text little words2 bytes2 names1 false 33 ∷ name_text little words2 bytes2 names1 true 29
-    ∷ name_text little words2 bytes2 names1 true 30 ∷ name_text little words2 bytes2 names1 false 23 ∷ name_text little words2 bytes2 names1 true 23 ∷ name_text little words2 bytes2 names1 false 0 ∷ []
+    ∷ name_text little words2 bytes2 names1 true 30 ∷ name_text little words2 bytes2 names1 false 23
+    ∷ name_text little words2 bytes2 names1 true 23 ∷ name_text little words2 bytes2 names1 false 0 ∷ []
     ≡ bytes "B" ∷ [] ∷ bytes "B" ∷ [] ∷ bytes "init" ∷ bytes "init" ∷ [] ∷ []
 texts = refl

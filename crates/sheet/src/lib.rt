@@ -5,8 +5,8 @@ ghost use Rattle.std.specs.Prelude.{◌≡◌, map, ◌≤◌, eqb, length};
 ghost use Rattle.definition.specs.Basics.{filter, first, head, place, ◌∈?◌};
 ghost use Rattle.definition.specs.Sheet.{a, kids, kids_of};
 ghost use Rattle.definition.specs.Meaning.{named, nothing};
-ghost use Rattle.definition.specs.Classes.{of_sheet, arity as arityOf};
-ghost use Rattle.definition.specs.Question.{arguments as argumentsOf};
+ghost use Rattle.definition.specs.Classes.{of_sheet, arity as arity_of};
+ghost use Rattle.definition.specs.Question.{arguments as arguments_of};
 ghost use Rattle.definition.specs.Walk.{seen};
 ghost use Rattle.sheet.specs.Exports.{export_of};
 
@@ -75,7 +75,7 @@ pub fn count_kind(sheet: &[u32], row: u32, kind: u32) -> usize
 
 // How many parameters a function has.
 pub fn arity(sheet: &[u32], f: FunId) -> usize
-    ensures { result ≡ arityOf sheet.now f.0 }
+    ensures { result ≡ arity_of sheet.now f.0 }
 {
     count_kind(sheet, f.0, kind::PARAMETER)
 }
@@ -100,7 +100,7 @@ pub fn count_kids(sheet: &[u32], row: u32) -> usize
 
 // How many arguments call `row` has: all children but the first, its callee.
 pub fn arguments(sheet: &[u32], row: u32) -> usize
-    ensures { result ≡ argumentsOf sheet.now row }
+    ensures { result ≡ arguments_of sheet.now row }
 {
     let count = count_kids(sheet, row);
     if 0 < count { count - 1 } else { 0 }

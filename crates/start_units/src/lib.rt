@@ -4,7 +4,7 @@
 ghost use Rattle.std.specs.Prelude.{◌≡◌, [], ◌<◌};
 ghost use Rattle.definition.specs.Sheet.{rows as rows_of};
 ghost use Rattle.start_units.specs.Starting.{Importing, waits_for, WaitsAt, Waits, waiting_from, startable, LowestFrom, Unnoted, noted_at, noted_unit, Importers};
-ghost use Rattle.start_units.specs.Starting.{following as followingRow, after_start, Marks, Started};
+ghost use Rattle.start_units.specs.Starting.{following as following_row, after_start, Marks, Started};
 
 use ast::{column, kind};
 use words::{entry_at, put_at, put_entry, word};
@@ -69,7 +69,7 @@ fn is_ready(sheet: &[u32], u: u32, marks: &[u32], waits: &mut [u32]) -> bool
 // The row to look at after row `u` for a unit: after a unit the next one, or NO_UNIT; else the row after it.
 fn following(sheet: &[u32], u: u32) -> u32
     requires { u < 4294967295 }
-    ensures { result ≡ followingRow sheet.now u }
+    ensures { result ≡ following_row sheet.now u }
 {
     if word(sheet, u, column::KIND) != kind::UNIT {
         return u + 1;

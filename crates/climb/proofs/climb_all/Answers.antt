@@ -1,7 +1,6 @@
 use mathlib.Core.Path.{refl, sym, ◌∙◌}
 use Prim.Native.Nat.{◌+◌, ◌-◌}
 use native.Mathlib.Omega.{arith}
-use borrow.Author.Tests.{not-true, not-false}
 use Rattle.climb.proofs.StepLaws.{all_start, all_over, all_next, all_end}
 use Rattle.climb.proofs.climb_all.Goals as goal
 
@@ -20,7 +19,7 @@ returns-then-not-is_top c =
     let size = c.run_size-size.result in
     all_over c.args.parents.now c.loop-c.marks (size - c.loop-c.c) (size - (c.loop-c.c + 1)) c.loop-c.c (c.loop-c.c + 1)
     (omega (arith, c.loop-c-test.true)) (omega arith) c.climb-ending.ensures
-    (sym c.is_top.ensures ∙ not-true _ c.if-not-is_top.true-raw)
+    (sym c.is_top.ensures ∙ c.if-not-is_top.true)
     ∙ c.loop-c.invariant.0
 
 pub loop-c-smaller : goal.loop-c-smaller
@@ -31,7 +30,7 @@ loop-c-preserved c =
     let size = c.run_size-size.result in (
       all_next c.args.parents.now c.loop-c.marks (size - c.loop-c.c) (size - (c.loop-c.c + 1)) c.loop-c.c (c.loop-c.c + 1)
           (omega (arith, c.loop-c-test.true)) (omega arith) c.climb-ending.ensures
-          (sym c.is_top.ensures ∙ not-false _ c.if-not-is_top.false-raw)
+          (sym c.is_top.ensures ∙ c.if-not-is_top.false)
           ∙ c.loop-c.invariant.0,
       omega (arith, c.climb-ending.auto, c.loop-c.invariant.1),
       omega (arith, c.loop-c-test.true),

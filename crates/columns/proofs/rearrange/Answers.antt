@@ -30,7 +30,7 @@ returns c =
     let ok = sym c.first_no-no.ensures ∙ c.if-no-ne0.false in
     let sizes = passed_sizes c.args.source.now (length c.args.target.now) ok in
     let few : rows_of c.args.source.now ≤ 2 ^ 32 = omega (arith, sizes.1) in
-    let words : (i : ℕ) → get_or c.args.source.now i 0 < 2 ^ 32 = λ i. (c.shared_slice_known-1.given i).fits in
+    let words : (i : ℕ) → get_or c.args.source.now i 0 < 2 ^ 32 = λ i. (c.type_inv.source i).fits in
     let long = way_length c.args.back c.args.source.now sizes.0 in
     rearranged (way c.args.back) (way (not c.args.back)) c.args.source.now (length c.args.target.now) _ ok long (way_undone c.args.back c.args.source.now sizes.0 few words)
     (rest_cleared (length c.args.source.now) (way c.args.back c.args.source.now) c.args.target.now _ _ long c.write_way.auto.target c.write_way.ensures c.clear_from.ensures)

@@ -1,11 +1,10 @@
-use borrow.Author.Tests.{not-true, not-false}
 use Rattle.columns.specs.Columns.{stored}
 use Rattle.columns.proofs.stored_word.Goals as goal
 
 pub returns-then-not-is_link : goal.returns-then-not-is_link
 unfolding stored
-returns-then-not-is_link c = rw (← c.is_link.ensures, not-true c.is_link.result c.if-not-is_link.true-raw)
+returns-then-not-is_link c = rw (← c.is_link.ensures, c.if-not-is_link.true)
 
 pub returns : goal.returns
 unfolding stored
-returns c = rw (← c.is_link.ensures, not-false c.is_link.result c.if-not-is_link.false-raw)
+returns c = rw (← c.is_link.ensures, c.if-not-is_link.false)

@@ -65,10 +65,10 @@ told_raised : (n : ℕ) (x : Row) → told (raised_row n x) ≡ raised_values n 
 told_raised n [] = refl
 told_raised n (a ∷ c) = ap (drop 1) (raised_cons n a c)
 
-get_d_map : (f : Row → Row) (d : Row) (xs : List Row) (i : ℕ) → get_or (map f xs) i (f d) ≡ f (get_or xs i d)
-get_d_map f d [] i = refl
-get_d_map f d (x ∷ xs) zero = refl
-get_d_map f d (x ∷ xs) (suc i) = get_d_map f d xs i
+get_or_map : (f : Row → Row) (d : Row) (xs : List Row) (i : ℕ) → get_or (map f xs) i (f d) ≡ f (get_or xs i d)
+get_or_map f d [] i = refl
+get_or_map f d (x ∷ xs) zero = refl
+get_or_map f d (x ∷ xs) (suc i) = get_or_map f d xs i
 
 take_map : (f : Row → Row) (k : ℕ) (xs : List Row) → take k (map f xs) ≡ map f (take k xs)
 take_map f zero xs = refl
@@ -95,7 +95,7 @@ rows_raised n (x ∷ xs) r =
     go false e = e
 
 first_raised : (n : ℕ) (out : List Row) (r : ℕ) → first_for (map (raised_row n) out) r ≡ raised_row n (first_for out r)
-first_raised n out r = ap (λ (rs : List Row). get_or rs 0 []) (rows_raised n out r) ∙ get_d_map (raised_row n) [] (rows_for out r) 0
+first_raised n out r = ap (λ (rs : List Row). get_or rs 0 []) (rows_raised n out r) ∙ get_or_map (raised_row n) [] (rows_for out r) 0
 
 -- Code and values of a local or argument.
 record Shape (c : List ℕ) : Type 0 where
@@ -142,7 +142,7 @@ module _ (s : Sheet) (out : List Row) (n : ℕ) where
   next_raised x e =
       ap (λ (z : Row). get_or (rows_for up (holder s (function_of s (get_or z 0 0)))) (get_or z 2 0) []) (kept_row n x e)
       ∙ ap (λ (rs : List Row). get_or rs (get_or x 2 0) []) (rows_raised n out (holder s (function_of s (get_or x 0 0))))
-      ∙ get_d_map (raised_row n) [] (rows_for out (holder s (function_of s (get_or x 0 0)))) (get_or x 2 0)
+      ∙ get_or_map (raised_row n) [] (rows_for out (holder s (function_of s (get_or x 0 0)))) (get_or x 2 0)
 
   code_kept : (x : Row) → get_or (raised_row n x) 1 0 ≡ get_or x 1 0
   code_kept x = kept_word n x 1 (λ e. omega arith) (λ e. omega arith)
@@ -260,7 +260,7 @@ module _ {O : Outside} {s : Sheet} (ok : Fits O s) {out : List Row} (claim : Dem
         followed = λ t i l. let y = c.followed t i l in (
           raised_row n y.0,
           subst (λ (x : Row). Follows s higher x (between s (holder s f) (get_or c.captured i 0)) (raised_row n y.0))
-              (sym (ap (λ (rs : List Row). get_or rs i []) (rows_raised n out (holder s f)) ∙ get_d_map (raised_row n) [] (rows_for out (holder s f)) i)) (follows_raised s out n y.1),
+              (sym (ap (λ (rs : List Row). get_or rs i []) (rows_raised n out (holder s f)) ∙ get_or_map (raised_row n) [] (rows_for out (holder s f)) i)) (follows_raised s out n y.1),
           told_raised n y.0 ∙ ap (raised_values n) y.2 ∙ sym (declared_raised s out n O (get_or c.captured i 0)),
         );
         no_literal = c.no_literal;

@@ -448,7 +448,8 @@ module _ {A B : Type 0} (w : A → Bool) (g : A → B) (q p₁ p₂ : B → Bool
       inner true = refl
       inner false = refl
 
-      outer : (t : Bool) {n : ℕ} → place p (filter q (map g (m ∷ filter w ms))) ≡ n → place p (filter q (map g (when t then m ∷ filter w ms else filter w ms))) ≡ (when t then n else place p (picked ms))
+      outer : (t : Bool) {n : ℕ} → place p (filter q (map g (m ∷ filter w ms))) ≡ n
+          → place p (filter q (map g (when t then m ∷ filter w ms else filter w ms))) ≡ (when t then n else place p (picked ms))
       outer true e = e
       outer false e = refl
 

@@ -22,7 +22,7 @@ pub bounds-sheet-r : goal.bounds-sheet-r
 bounds-sheet-r c = omega arith
 
 pub overflow_cast-next : goal.overflow_cast-next
-overflow_cast-next c = omega (arith, c.shared_slice_known-1.given (8 * c.loop-r.r + 1))
+overflow_cast-next c = omega (arith, c.type_inv.sheet (8 * c.loop-r.r + 1))
 
 pub overflow_mul-child : goal.overflow_mul-child
 overflow_mul-child c = omega arith

@@ -2,7 +2,6 @@ use mathlib.Core.Path.{sym, ◌∙◌}
 use Prim.Native.Nat.{◌+◌, ◌*◌}
 use native.Mathlib.Omega.{arith}
 use borrow.Author.Count.{below_more}
-use borrow.Author.Tests.{not-true, not-false}
 use Rattle.links.proofs.LinkLaws.{next_fails, both_pass, child_fails, all_pass}
 use Rattle.links.proofs.links_rise.Goals as goal
 
@@ -42,13 +41,13 @@ overflow_cast-child c = omega (arith, c.shared_slice_known-in-loop-r-2-1.given (
 pub returns-then-not-link_rises : goal.returns-then-not-link_rises
 returns-then-not-link_rises c =
     sym (next_fails c.args.sheet.now c.args.n c.requires.0 c.loop-r.r c.loop-r-test.true
-    (sym c.link_rises.ensures ∙ not-true _ c.if-not-link_rises.true-raw))
+    (sym c.link_rises.ensures ∙ c.if-not-link_rises.true))
 
 pub returns-then-not-link_rises-2 : goal.returns-then-not-link_rises-2
 returns-then-not-link_rises-2 c =
     sym (child_fails c.args.sheet.now c.args.n c.requires.0 c.loop-r.r c.loop-r-test.true
-    (sym c.link_rises.ensures ∙ not-false _ c.if-not-link_rises.false-raw)
-    (sym c.link_rises-in-loop-r.ensures ∙ not-true _ c.if-not-link_rises-2.true-raw))
+    (sym c.link_rises.ensures ∙ c.if-not-link_rises.false)
+    (sym c.link_rises-in-loop-r.ensures ∙ c.if-not-link_rises-2.true))
 
 pub overflow_add-r : goal.overflow_add-r
 overflow_add-r c = omega arith
@@ -60,8 +59,8 @@ pub loop-r-preserved : goal.loop-r-preserved
 loop-r-preserved c = (
   omega arith,
   below_more _ _ c.loop-r.invariant.1 (both_pass c.args.sheet.now c.args.n c.requires.0 c.loop-r.r
-      (sym c.link_rises.ensures ∙ not-false _ c.if-not-link_rises.false-raw)
-      (sym c.link_rises-in-loop-r.ensures ∙ not-false _ c.if-not-link_rises-2.false-raw)),
+      (sym c.link_rises.ensures ∙ c.if-not-link_rises.false)
+      (sym c.link_rises-in-loop-r.ensures ∙ c.if-not-link_rises-2.false)),
 )
 
 pub returns : goal.returns

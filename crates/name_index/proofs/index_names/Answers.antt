@@ -3,7 +3,6 @@
 use mathlib.Core.Path.{sym, ◌∙◌}
 use Prim.Native.Nat.{◌<◌}
 use native.Mathlib.Omega.{arith}
-use borrow.Author.Tests.{not-true, not-false}
 use Rattle.names.proofs.Question.{few_of, unfit_long, unfit_open, unfit_sizes, fit_rest}
 use Rattle.name_index.proofs.QuestionLaws.{refused, accepted}
 use Rattle.name_index.proofs.index_names.Goals as goal
@@ -13,28 +12,28 @@ returns-then-names-gt-LIST_BYTES c = refused (unfit_long c.args.names.now (omega
 
 pub returns-then-not-is_ended : goal.returns-then-not-is_ended
 returns-then-not-is_ended c =
-    refused (unfit_open c.args.names.now (sym c.is_ended.ensures ∙ not-true _ c.if-not-is_ended.true-raw))
+    refused (unfit_open c.args.names.now (sym c.is_ended.ensures ∙ c.if-not-is_ended.true))
 
 pub returns-then-not-sizes_fit : goal.returns-then-not-sizes_fit
 returns-then-not-sizes_fit c =
-    refused (unfit_sizes c.args.names.now (sym c.sizes_fit.ensures ∙ not-true _ c.if-not-sizes_fit.true-raw))
+    refused (unfit_sizes c.args.names.now (sym c.sizes_fit.ensures ∙ c.if-not-sizes_fit.true))
 
 pub find_starts-count-requires : goal.find_starts-count-requires
 find_starts-count-requires c =
-    let few = few_of c.args.names.now (sym c.sizes_fit.ensures ∙ not-false _ c.if-not-sizes_fit.false-raw) in
+    let few = few_of c.args.names.now (sym c.sizes_fit.ensures ∙ c.if-not-sizes_fit.false) in
     (omega arith, omega (arith, few, c.requires.0))
 
 pub returns-then-not-enter_listed : goal.returns-then-not-enter_listed
 returns-then-not-enter_listed c =
-    let ended = sym c.is_ended.ensures ∙ not-false _ c.if-not-is_ended.false-raw in
-    let sized = sym c.sizes_fit.ensures ∙ not-false _ c.if-not-sizes_fit.false-raw in
-    refused (fit_rest c.args.names.now (omega arith) ended sized ∙ sym c.enter_listed.ensures.0 ∙ not-true _ c.if-not-enter_listed.true-raw)
+    let ended = sym c.is_ended.ensures ∙ c.if-not-is_ended.false in
+    let sized = sym c.sizes_fit.ensures ∙ c.if-not-sizes_fit.false in
+    refused (fit_rest c.args.names.now (omega arith) ended sized ∙ sym c.enter_listed.ensures.0 ∙ c.if-not-enter_listed.true)
 
 pub returns : goal.returns
 returns c =
     let few : c.find_starts-count.result < 1025 = omega (arith, c.find_starts-count.ensures.1, c.requires.0) in
-    let ended = sym c.is_ended.ensures ∙ not-false _ c.if-not-is_ended.false-raw in
-    let sized = sym c.sizes_fit.ensures ∙ not-false _ c.if-not-sizes_fit.false-raw in
-    let unlike = not-false c.enter_listed.result c.if-not-enter_listed.false-raw in
+    let ended = sym c.is_ended.ensures ∙ c.if-not-is_ended.false in
+    let sized = sym c.sizes_fit.ensures ∙ c.if-not-sizes_fit.false in
+    let unlike = c.if-not-enter_listed.false in
     accepted (fit_rest c.args.names.now (omega arith) ended sized ∙ sym c.enter_listed.ensures.0 ∙ unlike) c.find_starts-count.ensures.0 few
     c.find_starts-count.ensures.2 (c.enter_listed.ensures.1 unlike)

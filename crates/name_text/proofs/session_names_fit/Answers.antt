@@ -1,7 +1,6 @@
 use mathlib.Core.Path.{refl, sym}
 use native.Mathlib.Omega.{arith}
 use lib.Seq.{length-take-le}
-use borrow.Author.Tests.{not-true, not-false}
 use Rattle.name_text.proofs.TextLaws.{names_first, names_second, names_third}
 use Rattle.name_text.proofs.session_names_fit.Goals as goal
 
@@ -11,14 +10,14 @@ slice_bounds-same_name-end c =
 
 pub returns-then-not-same_name : goal.returns-then-not-same_name
 returns-then-not-same_name c =
-    names_first c.args.words.now c.args.bytes.now c.requires.2 c.same_name.ensures refl (not-true c.same_name.result c.if-not-same_name.true-raw)
+    names_first c.args.words.now c.args.bytes.now c.requires.2 c.same_name.ensures refl c.if-not-same_name.true
 
 pub returns-then-not-names_fit : goal.returns-then-not-names_fit
 returns-then-not-names_fit c =
     names_second c.args.words.now c.args.bytes.now c.requires.2 c.same_name.ensures c.names_fit.ensures
-    (not-false c.same_name.result c.if-not-same_name.false-raw) (not-true c.names_fit.result c.if-not-names_fit.true-raw)
+    c.if-not-same_name.false c.if-not-names_fit.true
 
 pub returns : goal.returns
 returns c =
     names_third c.args.words.now c.args.bytes.now c.requires.2 c.same_name.ensures c.names_fit.ensures
-    (not-false c.same_name.result c.if-not-same_name.false-raw) (not-false c.names_fit.result c.if-not-names_fit.false-raw) c.count_names.ensures c.word_at.ensures
+    c.if-not-same_name.false c.if-not-names_fit.false c.count_names.ensures c.word_at.ensures

@@ -1,7 +1,6 @@
 use mathlib.Core.Path.{sym, ◌∙◌}
 use native.Mathlib.Omega.{arith}
 use lib.Seq.{length-take-le}
-use borrow.Author.Tests.{not-true, not-false}
 use Rattle.name_text.proofs.TextLaws.{none_zero, none_past, none_short, none_unfit, text_found}
 use Rattle.name_text.proofs.session_text.Goals as goal
 
@@ -19,7 +18,7 @@ returns-then-bytes-lt-FIXED_BYTES c =
 
 pub returns-then-not-session_names_fit : goal.returns-then-not-session_names_fit
 returns-then-not-session_names_fit c =
-    none_unfit c.args.words.now c.args.bytes.now c.args.number (sym c.session_names_fit.ensures ∙ not-true c.session_names_fit.result c.if-not-session_names_fit.true-raw)
+    none_unfit c.args.words.now c.args.bytes.now c.args.number (sym c.session_names_fit.ensures ∙ c.if-not-session_names_fit.true)
 
 pub slice_bounds-name_bytes-end : goal.slice_bounds-name_bytes-end
 slice_bounds-name_bytes-end c =
@@ -32,4 +31,4 @@ overflow_add-number c =
 pub returns : goal.returns
 returns c =
     text_found c.args.words.now c.args.bytes.now c.args.number c.list_end-end.result c.if-number-eq0.false c.list_end-end.ensures.0 c.list_end-end.ensures.1
-    c.list_end-end.ensures.2 (sym c.session_names_fit.ensures ∙ not-false c.session_names_fit.result c.if-not-session_names_fit.false-raw) c.name_bytes.ensures
+    c.list_end-end.ensures.2 (sym c.session_names_fit.ensures ∙ c.if-not-session_names_fit.false) c.name_bytes.ensures

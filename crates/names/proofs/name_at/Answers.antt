@@ -6,7 +6,7 @@ use Rattle.names.proofs.Laws.{cut}
 use Rattle.names.proofs.name_at.Goals as goal
 
 pub overflow_cast-start : goal.overflow_cast-start
-overflow_cast-start c = omega (arith, c.shared_slice_known-1.given c.args.k)
+overflow_cast-start c = omega (arith, c.type_inv.table c.args.k)
 
 pub overflow_cast-end : goal.overflow_cast-end
 overflow_cast-end c = omega (arith, c.shared_slice_known-2-1.given (c.args.k + 1))

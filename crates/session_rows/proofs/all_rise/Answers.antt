@@ -1,3 +1,5 @@
+use mathlib.Core.Bool.{not}
+use mathlib.Core.Path.{ap}
 use native.Mathlib.Omega.{arith}
 use Rattle.session_rows.proofs.RunLaws.{all_start, all_refused, all_next, all_done}
 use Rattle.session_rows.specs.Rows.{numbers_rise, all_rise}
@@ -13,7 +15,7 @@ numbers_rise-requires c =
 
 pub returns-then-not-numbers_rise : goal.returns-then-not-numbers_rise
 returns-then-not-numbers_rise c =
-    all_refused (numbers_rise c.args.words.now) _ _ c.loop-e-test.true c.numbers_rise.ensures c.if-not-numbers_rise.true-raw c.loop-e.invariant.1
+    all_refused (numbers_rise c.args.words.now) _ _ c.loop-e-test.true c.numbers_rise.ensures (ap not c.if-not-numbers_rise.true) c.loop-e.invariant.1
 
 pub overflow_add-e : goal.overflow_add-e
 overflow_add-e c = omega (arith, c.number_at-entries.ensures.1)
@@ -23,7 +25,7 @@ loop-e-smaller c = omega arith
 
 pub loop-e-preserved : goal.loop-e-preserved
 loop-e-preserved c =
-    (omega arith, all_next (numbers_rise c.args.words.now) _ _ c.loop-e-test.true c.numbers_rise.ensures c.if-not-numbers_rise.false-raw c.loop-e.invariant.1)
+    (omega arith, all_next (numbers_rise c.args.words.now) _ _ c.loop-e-test.true c.numbers_rise.ensures (ap not c.if-not-numbers_rise.false) c.loop-e.invariant.1)
 
 pub returns : goal.returns
 returns c =

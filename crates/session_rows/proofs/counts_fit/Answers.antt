@@ -1,4 +1,4 @@
-use borrow.Author.Tests.{not-true, not-false, lt-leb, le-leb}
+use borrow.Author.Tests.{lt-leb, le-leb}
 use Rattle.session_rows.proofs.OrderLaws.{counts_split}
 use Rattle.session_rows.proofs.counts_fit.Goals as goal
 
@@ -6,13 +6,13 @@ pub returns-then-not-is_within : goal.returns-then-not-is_within
 returns-then-not-is_within c =
     λ n l.
     let split = counts_split c.args.words.now n in
-    rw (split, ← c.is_within.ensures, not-true c.is_within.result c.if-not-is_within.true-raw)
+    rw (split, ← c.is_within.ensures, c.if-not-is_within.true)
 
 pub returns-then-not-is_within-2 : goal.returns-then-not-is_within-2
 returns-then-not-is_within-2 c =
     λ n l.
     let split = counts_split c.args.words.now n in
-    rw (split, ← c.is_within.ensures, not-false c.is_within.result c.if-not-is_within.false-raw, ← c.is_within-2.ensures, not-true c.is_within-2.result c.if-not-is_within-2.true-raw)
+    rw (split, ← c.is_within.ensures, c.if-not-is_within.false, ← c.is_within-2.ensures, c.if-not-is_within-2.true)
 
 pub returns-then-not-five_fit : goal.returns-then-not-five_fit
 returns-then-not-five_fit c =
@@ -21,11 +21,11 @@ returns-then-not-five_fit c =
     rw (
       split,
       ← c.is_within.ensures,
-      not-false c.is_within.result c.if-not-is_within.false-raw,
+      c.if-not-is_within.false,
       ← c.is_within-2.ensures,
-      not-false c.is_within-2.result c.if-not-is_within-2.false-raw,
+      c.if-not-is_within-2.false,
       ← c.five_fit.ensures,
-      not-true c.five_fit.result c.if-not-five_fit.true-raw,
+      c.if-not-five_fit.true,
     )
 
 pub returns-then-words-lt-WORDS : goal.returns-then-words-lt-WORDS
@@ -35,11 +35,11 @@ returns-then-words-lt-WORDS c =
     rw (
       split,
       ← c.is_within.ensures,
-      not-false c.is_within.result c.if-not-is_within.false-raw,
+      c.if-not-is_within.false,
       ← c.is_within-2.ensures,
-      not-false c.is_within-2.result c.if-not-is_within-2.false-raw,
+      c.if-not-is_within-2.false,
       ← c.five_fit.ensures,
-      not-false c.five_fit.result c.if-not-five_fit.false-raw,
+      c.if-not-five_fit.false,
       lt-leb _ _ c.if-words-lt-WORDS.true,
     )
 
@@ -50,11 +50,11 @@ returns c =
     rw (
       split,
       ← c.is_within.ensures,
-      not-false c.is_within.result c.if-not-is_within.false-raw,
+      c.if-not-is_within.false,
       ← c.is_within-2.ensures,
-      not-false c.is_within-2.result c.if-not-is_within-2.false-raw,
+      c.if-not-is_within-2.false,
       ← c.five_fit.ensures,
-      not-false c.five_fit.result c.if-not-five_fit.false-raw,
+      c.if-not-five_fit.false,
       le-leb 51088 _ c.if-words-lt-WORDS.false,
       l,
     )

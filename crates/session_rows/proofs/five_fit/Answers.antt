@@ -1,3 +1,5 @@
+use mathlib.Core.Bool.{not}
+use mathlib.Core.Path.{ap}
 use mathlib.Core.List.{[], ◌∷◌}
 use mathlib.Core.Path.{refl}
 use Prim.Native.Nat.{◌+◌}
@@ -21,7 +23,7 @@ offset_bounds-c c = omega arith
 pub returns-then-not-is_within : goal.returns-then-not-is_within
 returns-then-not-is_within c =
     all_refused (λ i. leb (get_or c.args.words.now (3 + i) 0) (get_or (1024 ∷ 32768 ∷ 4096 ∷ 1024 ∷ 8192 ∷ []) i 0)) _ _ c.loop-c-test.true c.is_within.ensures
-    c.if-not-is_within.true-raw c.loop-c.invariant.1
+    (ap not c.if-not-is_within.true) c.loop-c.invariant.1
 
 pub overflow_add-c-in-loop-c : goal.overflow_add-c-in-loop-c
 overflow_add-c-in-loop-c c = omega arith
@@ -33,7 +35,7 @@ pub loop-c-preserved : goal.loop-c-preserved
 loop-c-preserved c = (
   omega arith,
   all_next (λ i. leb (get_or c.args.words.now (3 + i) 0) (get_or (1024 ∷ 32768 ∷ 4096 ∷ 1024 ∷ 8192 ∷ []) i 0)) _ _ c.loop-c-test.true c.is_within.ensures
-      c.if-not-is_within.false-raw c.loop-c.invariant.1,
+      (ap not c.if-not-is_within.false) c.loop-c.invariant.1,
 )
 
 pub returns : goal.returns

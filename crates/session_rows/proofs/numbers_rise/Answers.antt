@@ -1,3 +1,5 @@
+use mathlib.Core.Bool.{not}
+use mathlib.Core.Path.{ap}
 use native.Mathlib.Omega.{arith}
 use Rattle.session_rows.proofs.RunLaws.{all_refused, all_next, all_done}
 use Rattle.session_rows.specs.Rows.{number_rises, numbers_rise}
@@ -18,7 +20,7 @@ number_fits-requires c = (c.loop-i.invariant.0, omega (arith, c.count_at-end.ens
 
 pub returns-then-not-number_fits : goal.returns-then-not-number_fits
 returns-then-not-number_fits c =
-    all_refused (number_rises c.args.words.now c.args.e c.count_before-first.result) _ _ c.loop-i-test.true c.number_fits.ensures c.if-not-number_fits.true-raw c.loop-i.invariant.1
+    all_refused (number_rises c.args.words.now c.args.e c.count_before-first.result) _ _ c.loop-i-test.true c.number_fits.ensures (ap not c.if-not-number_fits.true) c.loop-i.invariant.1
 
 pub overflow_add-i : goal.overflow_add-i
 overflow_add-i c = omega (arith, c.count_at-end.ensures.1)
@@ -30,7 +32,7 @@ pub loop-i-preserved : goal.loop-i-preserved
 loop-i-preserved c = (
   omega (arith, c.loop-i.invariant.0),
   all_next
-      (number_rises c.args.words.now c.args.e c.count_before-first.result) _ _ c.loop-i-test.true c.number_fits.ensures c.if-not-number_fits.false-raw c.loop-i.invariant.1,
+      (number_rises c.args.words.now c.args.e c.count_before-first.result) _ _ c.loop-i-test.true c.number_fits.ensures (ap not c.if-not-number_fits.false) c.loop-i.invariant.1,
 )
 
 pub returns : goal.returns

@@ -13,7 +13,7 @@ pub bounds-column-i : goal.bounds-column-i
 bounds-column-i c = omega arith
 
 pub overflow_cast-b : goal.overflow_cast-b
-overflow_cast-b c = omega (arith, c.shared_slice_known-1.given c.loop-i.i)
+overflow_cast-b c = omega (arith, c.type_inv.column c.loop-i.i)
 
 pub returns-then-b-lt48 : goal.returns-then-b-lt48
 returns-then-b-lt48 c =

@@ -4,7 +4,6 @@ use mathlib.Core.Path.{◌∙◌, refl, sym, subst, ap, ◌≡◌}
 use mathlib.Core.Bool.{true}
 use Prim.Native.Nat.{◌+◌, ℕ, ◌≤◌, ◌*◌}
 use native.Mathlib.Omega.{arith}
-use borrow.Author.Tests.{not-true, not-false}
 use lib.ListN.{length-take, length-drop, length, take}
 use Rattle.text.proofs.Reading.{line_number, line_bad, line_good, line_read, none_read, lines_end}
 use Rattle.text.specs.Lines.{numbers_of, is_line, numbers_in}
@@ -63,7 +62,7 @@ pub returns-then-not-read_line : goal.returns-then-not-read_line
 returns-then-not-read_line c =
     let r = c.loop-r.r in
     let e = c.read_line.ensures.0 ∙ ap is_line (line_number c.args.text.now r) in
-    (line_bad c.args.text.now _ r c.loop-r-test.true (sym e ∙ not-true _ c.if-not-read_line.true-raw), none_read c.args.text.now)
+    (line_bad c.args.text.now _ r c.loop-r-test.true (sym e ∙ c.if-not-read_line.true), none_read c.args.text.now)
 
 pub overflow_add-r-in-loop-r-2 : goal.overflow_add-r-in-loop-r-2
 overflow_add-r-in-loop-r-2 c = omega arith
@@ -76,7 +75,7 @@ loop-r-preserved c =
     let r = c.loop-r.r in
     let v = c.loop-r.invariant in
     let h : 8 * r + 8 ≤ length c.loop-r.words = omega arith in
-    let b : c.read_line.result ≡ true = not-false _ c.if-not-read_line.false-raw in
+    let b : c.read_line.result ≡ true = c.if-not-read_line.false in
     let e = c.read_line.ensures.0 ∙ ap is_line (line_number c.args.text.now r) in (
       omega arith,
       c.words-1.given.1 ∙ v.1,

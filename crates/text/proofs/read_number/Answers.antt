@@ -18,12 +18,11 @@ overflow_add-start c = omega (arith, c.requires)
 
 pub returns-then-start-column-2 : goal.returns-then-start-column-2
 returns-then-start-column-2 c =
-    sym (number_padded c.args.column.now c.skip_spaces-start.result c.skip_spaces-start.ensures.1 c.if-column-start-eq48.true
-    (omega arith))
+    sym (number_padded c.args.column.now c.skip_spaces-start.result c.skip_spaces-start.ensures.1 (omega arith) (omega arith))
 
 pub returns-then-column-start-eq48 : goal.returns-then-column-start-eq48
 returns-then-column-start-eq48 c =
-    sym (number_zero c.args.column.now c.skip_spaces-start.result c.skip_spaces-start.ensures.1 c.if-column-start-eq48.true
+    sym (number_zero c.args.column.now c.skip_spaces-start.result c.skip_spaces-start.ensures.1 (omega arith)
     (omega (arith, c.skip_spaces-start.ensures.0)))
 
 pub returns-then-v-gt-MAX_NUMBER : goal.returns-then-v-gt-MAX_NUMBER
@@ -35,4 +34,4 @@ pub returns : goal.returns
 returns c =
     c.read_digits-v.ensures
     ∙ sym (number_found c.args.column.now c.skip_spaces-start.result c.skip_spaces-start.ensures.1
-    (omega (arith, c.skip_spaces-start.ensures.0)) c.if-column-start-eq48.false (omega (arith, c.read_digits-v.ensures)))
+    (omega (arith, c.skip_spaces-start.ensures.0)) (λ e. omega arith) (omega (arith, c.read_digits-v.ensures)))

@@ -12,7 +12,7 @@ use Rattle.text.proofs.write_rows.Goals as goal
 pub returns-then-n-text : goal.returns-then-n-text
 returns-then-n-text c =
     rows_written c.args.words.now c.args.text.now _ _
-    (λ i l. omega (arith, c.shared_slice_known-1.given i))
+    (λ i l. omega (arith, c.type_inv.words i))
     (none_fit c.args.words.now c.args.text.now (omega arith))
 
 pub loop-r-init : goal.loop-r-init
@@ -76,7 +76,7 @@ pub returns : goal.returns
 returns c =
     let e : c.loop-r.r ≡ length c.args.words.now / 8 = omega arith in
     rows_written c.args.words.now c.args.text.now _ _
-    (λ i l. omega (arith, c.shared_slice_known-1.given i))
+    (λ i l. omega (arith, c.type_inv.words i))
     (text_left _ _ c.loop-r.r _ c.if-n-text.false e c.loop-r.invariant.2 c.loop-r.invariant.3)
 
 pub loop-r-preserved : goal.loop-r-preserved

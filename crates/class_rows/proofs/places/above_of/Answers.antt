@@ -13,11 +13,11 @@ returns-then-kind-eq-FIELD c =
     c.if-kind-eq-FIELD.true
 
 pub overflow_cast-result : goal.overflow_cast-result
-overflow_cast-result c = omega (arith, c.shared_slice_known-1.given (8 * (c.args.at - 1) + 4))
+overflow_cast-result c = omega (arith, c.type_inv.out (8 * (c.args.at - 1) + 4))
 
 pub overflow_add-result : goal.overflow_add-result
 overflow_add-result c =
-    omega (arith, c.requires, c.shared_slice_known-1.given (8 * (c.args.at - 1) + 4))
+    omega (arith, c.requires, c.type_inv.out (8 * (c.args.at - 1) + 4))
 
 pub returns : goal.returns
 returns c =
