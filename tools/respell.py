@@ -188,6 +188,7 @@ def main():
         write(p, "\n".join(out), t)
     for p in files(".rt"):
         t = read(p)
+        aliases = set(re.findall(r" as (\w+)", "".join(re.findall(r"(?m)^[ ]*ghost use .*$", t))))
         olds, others = set(), set()
         out = []
         for line in t.split("\n"):
@@ -196,7 +197,7 @@ def main():
 
             def turn(m):
                 n = m.group(0)
-                if n in known and (re.search("[a-z][A-Z]", n) or "-" in n or "′" in n):
+                if n in known | aliases and (re.search("[a-z][A-Z]", n) or "-" in n or "′" in n):
                     olds.add(n)
                     return new(n)
                 others.add(n)

@@ -16,22 +16,18 @@ from format_check import first_no
 PER_MODULE = 40
 MOST_WORDS = 1200
 MOST_BYTES = 300
-HEAD = """use mathlib.Core.Path.{_≡_, refl}
-use mathlib.Core.Bool.{not}
-use mathlib.Core.List.{List, [], _∷_, _++_}
-use Prim.Native.Nat.{ℕ}
-use lib.ListN.{replicate}
-use Rattle·definition.specs.Basics.{if_then_else_}
-use Rattle·definition.specs.Names.{namesFit, nameCount}
-use Rattle·definition.specs.Format.{sheetFits, depthsFit}
-use Rattle·definition.specs.Outcome.{rowsFit}
+HEAD = """use Rattle.std.specs.Prelude.{◌≡◌, refl, not, ℕ, List, [], ◌∷◌, ◌++◌, replicate}
+use Rattle.definition.specs.Basics.{when◌then◌else◌}
+use Rattle.definition.specs.Names.{names_fit, name_count}
+use Rattle.definition.specs.Format.{sheet_fits, depths_fit}
+use Rattle.definition.specs.Outcome.{rows_fit}
 
 abbrev first : List ℕ → List ℕ → ℕ
 first s ns =
-    if not (rowsFit s) then 1
-    else if not (namesFit ns) then 2
-    else if not (sheetFits (nameCount ns) s) then 3
-    else if not (depthsFit s) then 4
+    when not (rows_fit s) then 1
+    else when not (names_fit ns) then 2
+    else when not (sheet_fits (name_count ns) s) then 3
+    else when not (depths_fit s) then 4
     else 0
 """
 

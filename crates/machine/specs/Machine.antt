@@ -390,11 +390,9 @@ is_outer_variable d f = is_variable d && not (eqb (owner_of d) f)
 unfoldable pub store_capture : Sheet → Event → Scopes → Store → Store
 store_capture s e p o =
     when visits_kind s 50 e && is_outer_variable (lookup_meaning p (a s (event_row e))) (current_function p)
-    then add_capture (open_functions s p) (record {
-      key = row_of (lookup_meaning p (a s (event_row e)));
-      one = owner_of (lookup_meaning p (a s (event_row e)));
-      two = lookup_slot p (a s (event_row e));
-    }) o
+    then add_capture (open_functions s p)
+    (record { key = row_of (lookup_meaning p (a s (event_row e))); one = owner_of (lookup_meaning p (a s (event_row e))); two = lookup_slot p (a s (event_row e)) })
+    o
     else o
 
 -- an event's new local counted in the innermost function
