@@ -5,16 +5,16 @@ usage: python3 tools/rename_choice.py        at the top of the repository, once,
 
 Turns the word in .antt files, in the clauses and `ghost use` lines of .rt files, and in must-fail edits of definitions.
 """
-import os
 import re
+
+from respell import files, outside_strings, read, write
 
 WORD = re.compile(r"(?<![\w'.◌-])if(?![\w'.◌-])")
 
 
 def code(text):
     text = text.replace("if◌then◌else◌", "when◌then◌else◌")
-    parts = re.split(r'("(?:[^"\\]|\\.)*")', text)
-    return "".join(q if i % 2 else WORD.sub("when", q) for i, q in enumerate(parts))
+    return outside_strings(text, lambda q: WORD.sub("when", q))
 
 
 def antt(text):
@@ -51,17 +51,7 @@ def edit(text):
     return "\n".join(out)
 
 
-TURNS = {".antt": antt, ".rt": rt, ".edit": edit}
-
-for folder, dirs, files in os.walk("crates"):
-    dirs[:] = [d for d in dirs if d != "out"]
-    for name in files:
-        turn = TURNS.get(os.path.splitext(name)[1])
-        if turn:
-            path = os.path.join(folder, name)
-            with open(path, encoding="utf-8") as f:
-                old = f.read()
-            new = turn(old)
-            if new != old:
-                with open(path, "w", encoding="utf-8") as f:
-                    f.write(new)
+for ending, turn in ((".antt", antt), (".rt", rt), (".edit", edit)):
+    for path in files(ending):
+        old = read(path)
+        write(path, turn(old), old)

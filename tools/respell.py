@@ -11,11 +11,9 @@ Names of the kit that a file imports stay. In a function's Proof.antt the names 
 import collections
 import os
 import re
-import sys
 
 TOKEN = re.compile(r"[A-Za-zα-ωΑ-Ωℓ_][\w'′₀-₉]*(?:-[\w'′₀-₉]+)*")
 IMPORT = re.compile(r"^[ ]*(?:pub )?use ([^\s;{]+?)\.?(?:\{([^}]*)\})?(?: as (\S+))?[ ]*$", re.M)
-GHOST = re.compile(r"ghost use ([^\s;{]+?)\.?(?:\{([^}]*)\})?;")
 CRATES = sorted(c for c in os.listdir("crates") if os.path.isdir(os.path.join("crates", c, "src")))
 # Words of the older kit inside names, which port.py respelled where they stand alone.
 WORDS = {"getD": "get_or"}
@@ -55,19 +53,17 @@ def names(text):
             yield [w.strip() for w in n.split(" as ")]
 
 
-def imported(text, pattern):
-    """The names that a file imports from the kit, and those from the repository."""
-    kit, own = set(), set()
-    for m in pattern.finditer(text):
-        for n in names(m.group(2)):
-            (own if is_own(m.group(1)) else kit).add(n[0])
-            if len(n) > 1:
-                own.add(n[1])
+def of_kit(text):
+    """The names that a file imports from the kit."""
+    kit = set()
+    for m in IMPORT.finditer(text):
+        if not is_own(m.group(1)):
+            kit |= {n[0] for n in names(m.group(2))}
         if m.group(2) is None and not is_own(m.group(1)):
             kit.add(m.group(1).split(".")[-1])
-            if pattern is IMPORT and m.group(3):
+            if m.group(3):
                 kit.add(m.group(3))
-    return kit, own
+    return kit
 
 
 def files(ending):
@@ -89,14 +85,15 @@ def write(path, text, old):
             f.write(text)
 
 
+def outside_strings(text, turn):
+    parts = re.split(r'("(?:[^"\\]|\\.)*")', text)
+    return "".join(q if i % 2 else turn(q) for i, q in enumerate(parts))
+
+
 def in_code(line, turn):
     """Turns the tokens of a line, but for strings and the path of an import."""
-    head, tail = "", line
-    m = re.match(r"[ ]*(?:pub |ghost )?use [^{]*", line)
-    if m:
-        head, tail = line[:m.end()], line[m.end():]
-    parts = re.split(r'("(?:[^"\\]|\\.)*")', tail)
-    return head + "".join(q if i % 2 else TOKEN.sub(turn, q) for i, q in enumerate(parts))
+    m = re.match(r"(?:[ ]*(?:pub |ghost )?use [^{]*)?", line)
+    return m.group(0) + outside_strings(line[m.end():], lambda q: TOKEN.sub(turn, q))
 
 
 def in_words(text, known):
@@ -115,7 +112,7 @@ def main():
     goals = {}  # of a function's Proof.antt: the names of goals
     for p, t in texts.items():
         code = re.sub(r"--.*", "", t)
-        kit, own = imported(code, IMPORT)
+        kit = of_kit(code)
         made = set(re.findall(r"^[ ]*(?:abbrev |unfoldable )?(?:pub )?([\w'′-]+)(?: \{[^}]*\})? : (?:\{[^}]*\} → )?(?:tie\.|statement)", code, re.M)) if p.endswith("/Proof.antt") else set()
         goals[p] = made
         for m in TOKEN.finditer(code):
@@ -129,7 +126,7 @@ def main():
     for p, t in texts.items():
         code = re.sub(r"--.*", "", t)
         if not p.endswith("/Proof.antt"):
-            kit, own = imported(code, IMPORT)
+            kit = of_kit(code)
             for m in TOKEN.finditer(code):
                 n = m.group(0)
                 if n not in kit and "_" in n and "-" not in n and code[m.start() - 1:m.start()] != "." and spelled(n) == n:
@@ -158,7 +155,7 @@ def main():
                 together[p].add((k, tuple(sorted(v)), k in others))
 
     for p, t in texts.items():
-        kit, own = imported(re.sub(r"--.*", "", t), IMPORT)
+        kit = of_kit(re.sub(r"--.*", "", t))
         proof = p.endswith("/Proof.antt")
         olds, others = set(), set()
         out = []
@@ -203,9 +200,7 @@ def main():
                 others.add(n)
                 return n
 
-            parts = re.split(r'("(?:[^"\\]|\\.)*")', code)
-            code = "".join(q if i % 2 else in_code(q, turn) for i, q in enumerate(parts))
-            out.append(code + in_words(comment, known))
+            out.append(in_code(code, turn) + in_words(comment, known))
         seen(p, olds, others)
         write(p, "\n".join(out), t)
     for p in files(".edit"):
