@@ -6,70 +6,28 @@ use Rattle.session_outside.proofs.VisibleLaws.{names_few_lem}
 use Rattle.session_outside.proofs.outside_words.Goals as goal
 
 pub overflow_add-records_end : goal.overflow_add-records_end
-overflow_add-records_end c = omega (
-  arith,
-  c.name_rows-names_end.ensures.0,
-  names_few_lem c.requires.0,
-  c.requires.0.few_classes,
-  c.entry_at.ensures,
-)
+overflow_add-records_end c = omega (arith, names_few_lem c.requires.0)
 
 pub overflow_add-records_end-2 : goal.overflow_add-records_end-2
-overflow_add-records_end-2 c = omega (
-  arith,
-  c.name_rows-names_end.ensures.0,
-  names_few_lem c.requires.0,
-  c.requires.0.few_classes,
-  c.entry_at.ensures,
-)
+overflow_add-records_end-2 c = omega (arith, names_few_lem c.requires.0)
 
 pub overflow_mul-records_end : goal.overflow_mul-records_end
-overflow_mul-records_end c = omega (
-  arith,
-  c.name_rows-names_end.ensures.0,
-  names_few_lem c.requires.0,
-  c.requires.0.few_classes,
-  c.entry_at.ensures,
-)
+overflow_mul-records_end c = omega (arith, names_few_lem c.requires.0)
 
 pub record_rows-requires : goal.record_rows-requires
 record_rows-requires c = (
   c.requires.0,
-  omega (
-    arith,
-    c.name_rows-names_end.ensures.0,
-    names_few_lem c.requires.0,
-    c.requires.0.few_classes,
-    c.entry_at.ensures,
-  ),
-  omega (
-    arith,
-    c.name_rows-names_end.ensures.0,
-    names_few_lem c.requires.0,
-    c.requires.0.few_classes,
-    c.entry_at.ensures,
-  ),
+  omega (arith, names_few_lem c.requires.0),
+  omega (arith, names_few_lem c.requires.0),
 )
 
 pub overflow_mul-records_end-2 : goal.overflow_mul-records_end-2
-overflow_mul-records_end-2 c = omega (
-  arith,
-  c.name_rows-names_end.ensures.0,
-  names_few_lem c.requires.0,
-  c.requires.0.few_classes,
-  c.entry_at.ensures,
-)
+overflow_mul-records_end-2 c = omega (arith, names_few_lem c.requires.0)
 
 pub member_runs-requires : goal.member_runs-requires
 member_runs-requires c = (
   c.requires.0,
-  omega (
-    arith,
-    c.name_rows-names_end.ensures.0,
-    names_few_lem c.requires.0,
-    c.requires.0.few_classes,
-    c.entry_at.ensures,
-  ),
+  omega (arith, names_few_lem c.requires.0),
 )
 
 pub returns : goal.returns

@@ -13,39 +13,19 @@ read_lines-count-requires c =
 
 pub overflow_mul-count : goal.overflow_mul-count
 overflow_mul-count c =
-    omega (
-      arith,
-      (whole_lent c.args.text.now (length c.args.words.now) _ c.lines_to_read-n.ensures).1,
-      count_lent c.args.text.now (length c.args.words.now) _ c.lines_to_read-n.ensures _ c.read_lines-count.ensures.0,
-      c.read_lines-count.auto.words,
-    )
+    omega (arith, count_lent c.args.text.now (length c.args.words.now) _ c.lines_to_read-n.ensures _ c.read_lines-count.ensures.0)
 
 pub offset_bounds-words-count : goal.offset_bounds-words-count
 offset_bounds-words-count c =
-    omega (
-      arith,
-      (whole_lent c.args.text.now (length c.args.words.now) _ c.lines_to_read-n.ensures).1,
-      count_lent c.args.text.now (length c.args.words.now) _ c.lines_to_read-n.ensures _ c.read_lines-count.ensures.0,
-      c.read_lines-count.auto.words,
-    )
+    omega (arith, count_lent c.args.text.now (length c.args.words.now) _ c.lines_to_read-n.ensures _ c.read_lines-count.ensures.0)
 
 pub slice_bounds-clear-count : goal.slice_bounds-clear-count
 slice_bounds-clear-count c =
-    omega (
-      arith,
-      (whole_lent c.args.text.now (length c.args.words.now) _ c.lines_to_read-n.ensures).1,
-      count_lent c.args.text.now (length c.args.words.now) _ c.lines_to_read-n.ensures _ c.read_lines-count.ensures.0,
-      c.read_lines-count.auto.words,
-    )
+    omega (arith, count_lent c.args.text.now (length c.args.words.now) _ c.lines_to_read-n.ensures _ c.read_lines-count.ensures.0)
 
 pub slice_bounds-clear-start : goal.slice_bounds-clear-start
 slice_bounds-clear-start c =
-    omega (
-      arith,
-      (whole_lent c.args.text.now (length c.args.words.now) _ c.lines_to_read-n.ensures).1,
-      count_lent c.args.text.now (length c.args.words.now) _ c.lines_to_read-n.ensures _ c.read_lines-count.ensures.0,
-      c.read_lines-count.auto.words,
-    )
+    omega (arith, count_lent c.args.text.now (length c.args.words.now) _ c.lines_to_read-n.ensures _ c.read_lines-count.ensures.0)
 
 pub returns : goal.returns
 returns c =

@@ -29,86 +29,41 @@ overflow_add-p-in-loop-i-2 c = omega (arith, c.requires.0.few_classes)
 
 pub copy_fields-requires : goal.copy_fields-requires
 copy_fields-requires c = (
-  omega (
-    arith,
-    members_few c.args.session.now c.loop-i.i c.requires.0 (omega arith),
-    c.entry_at-fields.ensures,
-    c.entry_at-methods.ensures,
-  ),
-  omega (
-    arith,
-    members_few c.args.session.now c.loop-i.i c.requires.0 (omega arith),
-    c.entry_at-fields.ensures,
-    c.entry_at-methods.ensures,
-  ),
+  omega (arith, members_few c.args.session.now c.loop-i.i c.requires.0 (omega arith)),
+  omega (arith, members_few c.args.session.now c.loop-i.i c.requires.0 (omega arith)),
 )
 
 pub overflow_add-member : goal.overflow_add-member
-overflow_add-member c = omega (
-  arith,
-  members_few c.args.session.now c.loop-i.i c.requires.0 (omega arith),
-  c.entry_at-fields.ensures,
-  c.entry_at-methods.ensures,
-)
+overflow_add-member c = omega (arith, members_few c.args.session.now c.loop-i.i c.requires.0 (omega arith))
 
 pub overflow_add-at : goal.overflow_add-at
-overflow_add-at c = omega (
-  arith,
-  members_few c.args.session.now c.loop-i.i c.requires.0 (omega arith),
-  c.entry_at-fields.ensures,
-  c.entry_at-methods.ensures,
-)
+overflow_add-at c = omega (arith, members_few c.args.session.now c.loop-i.i c.requires.0 (omega arith))
 
 pub copy_methods-requires : goal.copy_methods-requires
 copy_methods-requires c =
     let f = c.entry_at-fields.ensures in
     let m = c.entry_at-methods.ensures in
     let i : c.loop-i.i < get_or c.args.session.now 6 0 = omega (arith, c.entry_at-classes.ensures) in (
-      omega (arith, members_few c.args.session.now c.loop-i.i c.requires.0 (omega arith), f, m),
+      omega (arith, members_few c.args.session.now c.loop-i.i c.requires.0 (omega arith)),
       omega
           (arith, members_few c.args.session.now c.loop-i.i c.requires.0 (omega arith), f, m),
       λ j a b. c.requires.0.method_low c.loop-i.i j i (omega (arith, f, a)) (omega (arith, f, m, b)),
     )
 
 pub overflow_add-member-in-loop-i : goal.overflow_add-member-in-loop-i
-overflow_add-member-in-loop-i c = omega (
-  arith,
-  members_few c.args.session.now c.loop-i.i c.requires.0 (omega arith),
-  c.entry_at-fields.ensures,
-  c.entry_at-methods.ensures,
-)
+overflow_add-member-in-loop-i c = omega (arith, members_few c.args.session.now c.loop-i.i c.requires.0 (omega arith))
 
 pub overflow_add-member-in-loop-i-2 : goal.overflow_add-member-in-loop-i-2
-overflow_add-member-in-loop-i-2 c = omega (
-  arith,
-  members_few c.args.session.now c.loop-i.i c.requires.0 (omega arith),
-  c.entry_at-fields.ensures,
-  c.entry_at-methods.ensures,
-)
+overflow_add-member-in-loop-i-2 c = omega (arith, members_few c.args.session.now c.loop-i.i c.requires.0 (omega arith))
 
 pub overflow_mul-at : goal.overflow_mul-at
-overflow_mul-at c = omega (
-  arith,
-  members_few c.args.session.now c.loop-i.i c.requires.0 (omega arith),
-  c.entry_at-fields.ensures,
-  c.entry_at-methods.ensures,
-)
+overflow_mul-at c = omega (arith, members_few c.args.session.now c.loop-i.i c.requires.0 (omega arith))
 
 pub overflow_add-at-in-loop-i : goal.overflow_add-at-in-loop-i
-overflow_add-at-in-loop-i c = omega (
-  arith,
-  members_few c.args.session.now c.loop-i.i c.requires.0 (omega arith),
-  c.entry_at-fields.ensures,
-  c.entry_at-methods.ensures,
-)
+overflow_add-at-in-loop-i c = omega (arith, members_few c.args.session.now c.loop-i.i c.requires.0 (omega arith))
 
 pub overflow_add-at-in-loop-i-2 : goal.overflow_add-at-in-loop-i-2
-overflow_add-at-in-loop-i-2 c = omega (
-  arith,
-  members_few c.args.session.now c.loop-i.i c.requires.0 (omega arith),
-  c.entry_at-fields.ensures,
-  c.entry_at-methods.ensures,
-)
+overflow_add-at-in-loop-i-2 c = omega (arith, members_few c.args.session.now c.loop-i.i c.requires.0 (omega arith))
 
 pub overflow_add-i : goal.overflow_add-i
 overflow_add-i c =

@@ -8,36 +8,16 @@ overflow_add-number c =
     omega (arith, c.requires.0.class_low c.args.i c.requires.1, c.entry_at-number.ensures)
 
 pub overflow_add-place : goal.overflow_add-place
-overflow_add-place c = omega (
-  arith,
-  members_few c.args.session.now c.args.i c.requires.0 c.requires.1,
-  c.entry_at-fields.ensures,
-  c.entry_at-methods.ensures,
-)
+overflow_add-place c = omega (arith, members_few c.args.session.now c.args.i c.requires.0 c.requires.1)
 
 pub overflow_add-result : goal.overflow_add-result
-overflow_add-result c = omega (
-  arith,
-  members_few c.args.session.now c.args.i c.requires.0 c.requires.1,
-  c.entry_at-fields.ensures,
-  c.entry_at-methods.ensures,
-)
+overflow_add-result c = omega (arith, members_few c.args.session.now c.args.i c.requires.0 c.requires.1)
 
 pub overflow_mul-result : goal.overflow_mul-result
-overflow_mul-result c = omega (
-  arith,
-  members_few c.args.session.now c.args.i c.requires.0 c.requires.1,
-  c.entry_at-fields.ensures,
-  c.entry_at-methods.ensures,
-)
+overflow_mul-result c = omega (arith, members_few c.args.session.now c.args.i c.requires.0 c.requires.1)
 
 pub overflow_add-result-2 : goal.overflow_add-result-2
-overflow_add-result-2 c = omega (
-  arith,
-  members_few c.args.session.now c.args.i c.requires.0 c.requires.1,
-  c.entry_at-fields.ensures,
-  c.entry_at-methods.ensures,
-)
+overflow_add-result-2 c = omega (arith, members_few c.args.session.now c.args.i c.requires.0 c.requires.1)
 
 pub returns : goal.returns
 returns c =
