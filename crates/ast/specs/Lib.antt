@@ -1,1 +1,4 @@
 pub mod Decl
+pub mod Kind
+pub mod Question
+pub mod Code

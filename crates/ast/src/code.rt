@@ -1,4 +1,54 @@
 // The codes of answer rows.
+ghost use Rattle.ast.specs.Code.{ReadsCode};
+
+#[derive(Clone, Copy, Debug, PartialEq, Eq)]
+pub enum Code {
+    Nothing = 0,
+    Fun = 1,
+    Class = 2,
+    Global = 3,
+    Arg = 4,
+    Local = 5,
+    Captured = 6,
+    True = 7,
+    False = 8,
+    // The first row of a function: its local count, captures and escapes.
+    FunctionCounts = 20,
+    // The first row of a class: its parent, whether it has children, its fields and methods.
+    ClassCounts = 22,
+    Field = 23,
+    Method = 24,
+}
+
+// A number that is no code.
+#[derive(Clone, Copy, Debug, PartialEq, Eq)]
+pub struct UnknownCode(pub u32);
+
+impl TryFrom<u32> for Code {
+    type Error = UnknownCode;
+
+    ghost try_from_gives = { ReadsCode };
+
+    fn try_from(number: u32) -> Result<Code, UnknownCode> {
+        Ok(match number {
+            0 => Code::Nothing,
+            1 => Code::Fun,
+            2 => Code::Class,
+            3 => Code::Global,
+            4 => Code::Arg,
+            5 => Code::Local,
+            6 => Code::Captured,
+            7 => Code::True,
+            8 => Code::False,
+            20 => Code::FunctionCounts,
+            22 => Code::ClassCounts,
+            23 => Code::Field,
+            24 => Code::Method,
+            _ => return Err(UnknownCode(number)),
+        })
+    }
+}
+
 pub const NOTHING: u32 = 0;
 
 pub const FUN: u32 = 1;

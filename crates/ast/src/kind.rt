@@ -1,4 +1,112 @@
 // The kinds of sheet rows.
+ghost use Rattle.ast.specs.Kind.{ReadsKind};
+
+#[derive(Clone, Copy, Debug, PartialEq, Eq)]
+pub enum Kind {
+    Header = 0,
+    Unit = 2,
+    Import = 3,
+    Class = 4,
+    Function = 6,
+    FunctionExport = 7,
+    ConstantExport = 8,
+    // A name that an import lists.
+    Listed = 9,
+    Field = 10,
+    Parameter = 11,
+    // Statements: from EXPRESSION_STATEMENT to CLASS_DECLARATION.
+    ExpressionStatement = 20,
+    Assign = 21,
+    Return = 22,
+    Break = 23,
+    Continue = 24,
+    Block = 25,
+    If = 26,
+    For = 27,
+    Assert = 28,
+    Let = 29,
+    ClassDeclaration = 30,
+    // Expressions, and the pairs of a dict: from NIL on.
+    Nil = 40,
+    True = 41,
+    False = 42,
+    Integer = 43,
+    Float = 44,
+    String = 45,
+    Bytes = 46,
+    Array = 47,
+    Dict = 48,
+    Pair = 49,
+    Identifier = 50,
+    HostConstant = 51,
+    // A function literal.
+    Literal = 52,
+    Index = 53,
+    Member = 54,
+    Instanceof = 55,
+    Unary = 56,
+    Binary = 57,
+    Ternary = 58,
+    Call = 59,
+}
+
+// A number that is no kind.
+#[derive(Clone, Copy, Debug, PartialEq, Eq)]
+pub struct UnknownKind(pub u32);
+
+impl TryFrom<u32> for Kind {
+    type Error = UnknownKind;
+
+    ghost try_from_gives = { ReadsKind };
+
+    fn try_from(number: u32) -> Result<Kind, UnknownKind> {
+        Ok(match number {
+            0 => Kind::Header,
+            2 => Kind::Unit,
+            3 => Kind::Import,
+            4 => Kind::Class,
+            6 => Kind::Function,
+            7 => Kind::FunctionExport,
+            8 => Kind::ConstantExport,
+            9 => Kind::Listed,
+            10 => Kind::Field,
+            11 => Kind::Parameter,
+            20 => Kind::ExpressionStatement,
+            21 => Kind::Assign,
+            22 => Kind::Return,
+            23 => Kind::Break,
+            24 => Kind::Continue,
+            25 => Kind::Block,
+            26 => Kind::If,
+            27 => Kind::For,
+            28 => Kind::Assert,
+            29 => Kind::Let,
+            30 => Kind::ClassDeclaration,
+            40 => Kind::Nil,
+            41 => Kind::True,
+            42 => Kind::False,
+            43 => Kind::Integer,
+            44 => Kind::Float,
+            45 => Kind::String,
+            46 => Kind::Bytes,
+            47 => Kind::Array,
+            48 => Kind::Dict,
+            49 => Kind::Pair,
+            50 => Kind::Identifier,
+            51 => Kind::HostConstant,
+            52 => Kind::Literal,
+            53 => Kind::Index,
+            54 => Kind::Member,
+            55 => Kind::Instanceof,
+            56 => Kind::Unary,
+            57 => Kind::Binary,
+            58 => Kind::Ternary,
+            59 => Kind::Call,
+            _ => return Err(UnknownKind(number)),
+        })
+    }
+}
+
 pub const HEADER: u32 = 0;
 
 pub const UNIT: u32 = 2;

@@ -1,4 +1,56 @@
 // The questions, by what gets a yes.
+#[derive(Clone, Copy, Debug, PartialEq, Eq)]
+pub enum Question {
+    RowsFit = 1,
+    NamesFit = 2,
+    FormatFits = 3,
+    DepthFits = 4,
+    // A break or continue stands in a loop of its function.
+    InLoop = 5,
+    // An assigned identifier is mutable.
+    Mutable = 6,
+    // A let's name is free in its scope.
+    LetFree = 7,
+    // An identifier is declared.
+    Declared = 8,
+    // The same of `null`.
+    NullDeclared = 9,
+    // Instanceof names a class.
+    InstanceofClass = 10,
+    // A class's parent names a class.
+    ParentClass = 11,
+    // A class called as a constructor has a record.
+    ConstructedRecord = 12,
+    // A class has the method called on it,
+    MethodThere = 13,
+    // with as many parameters as the call has arguments.
+    MethodArity = 14,
+    // An imported unit has the listed name.
+    Exported = 15,
+    // A name of an import, class, parameter or literal let is free in its scope.
+    NameFree = 16,
+    // A host constant is MAIN_UNIT; a class on which a method is called has a record.
+    Known = 17,
+    // No class is its own ancestor.
+    NoCycle = 18,
+    // A class's parent has a record.
+    ParentRecord = 19,
+    // A constructed class has a constructor,
+    InitThere = 20,
+    // with as many parameters as the call has arguments and the new object.
+    InitArity = 21,
+    // The answer rows fit the lent words.
+    Room = 22,
+    // The session is good, and the entry is one unit without imports that starts at the session's count of globals or above.
+    Session = 23,
+    // With the entry no count of the session is over its limit.
+    SessionRoom = 24,
+    // An entry is left to withdraw.
+    EntryLeft = 25,
+    // No chain of imports comes back to its start.
+    NoCircle = 29,
+}
+
 pub const ROWS_FIT: u32 = 1;
 
 pub const NAMES_FIT: u32 = 2;

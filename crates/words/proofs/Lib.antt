@@ -1,2 +1,1 @@
-mod FillLaws
 mod PutLaws
