@@ -1,4 +1,7 @@
 // The questions, by what gets a yes.
+ghost use Rattle.std.specs.Prelude.{◌≡◌};
+ghost use Rattle.ast.specs.Question.{question_number};
+
 #[derive(Clone, Copy, Debug, PartialEq, Eq)]
 pub enum Question {
     RowsFit = 1,
@@ -49,6 +52,14 @@ pub enum Question {
     EntryLeft = 25,
     // No chain of imports comes back to its start.
     NoCircle = 29,
+}
+
+impl Question {
+    pub fn number(self) -> u32
+        ensures { result ≡ question_number self }
+    {
+        self as u32
+    }
 }
 
 pub const ROWS_FIT: u32 = 1;

@@ -9,16 +9,19 @@ ghost use Rattle.definition.specs.Names.{same_name, names_fit};
 ghost use Rattle.definition.specs.Outcome.{rows_fit};
 ghost use Rattle.names.specs.Listed.{starts, numbered};
 ghost use Rattle.name_index.specs.Index.{index_of};
+ghost use Rattle.shapes.specs.Numbers.{rule_number};
 ghost use Rattle.shapes.specs.States.{rule_at};
 ghost use Rattle.session.specs.Session.{Session, all_names};
 ghost use Rattle.session.specs.Entry.{new_names, names_with, to_entry, holds_name, entry_sheet};
 ghost use Rattle.session.specs.Words.{ended};
 ghost use Rattle.entry_names.specs.Told.{number_in, found_or, session_numbers, NamesTold, number_told, in_column, word_told, ended_from};
 
+use ast::kind::Kind;
 use ast::{column, name};
 use name_index::{first_place, search};
 use names::{END, FIRST_LISTED, name_end};
-use shapes::{rule, rule_a, rule_b};
+use shapes::rule::Rule;
+use shapes::{rule_a, rule_b};
 use words::word_at;
 
 // How many words a row has.
@@ -114,26 +117,21 @@ fn number_told(numbers: &[u32], n: u32) -> u32
 }
 
 // Does a column under this rule hold names?
-fn is_name_rule(x: u32) -> bool
-    ensures { result ≡ holds_name (rule_at x) }
+fn is_name_rule(rule: Rule) -> bool
+    ensures { result ≡ holds_name (rule_at (rule_number rule)) }
 {
-    if x == rule::NAME {
-        return true;
-    }
-    x == rule::NAME_OR_ZERO
+    matches!(rule, Rule::Name | Rule::NameOrZero)
 }
 
 // Does column c of a row of this kind hold names?
 fn holds_name(kind: u32, c: u32) -> bool
     ensures { result ≡ in_column kind c }
 {
-    if c == column::A {
-        return is_name_rule(rule_a(kind));
+    match (Kind::try_from(kind), c) {
+        (Ok(kind), column::A) => is_name_rule(rule_a(kind)),
+        (Ok(kind), column::B) => is_name_rule(rule_b(kind)),
+        _ => false,
     }
-    if c == column::B {
-        return is_name_rule(rule_b(kind));
-    }
-    false
 }
 
 // Word i of a sheet; if it is a name, the session's number of it.

@@ -2,10 +2,12 @@
 #![tactic(auto)]
 
 ghost use Rattle.std.specs.Prelude.{◌≡◌, get_or};
+ghost use Rattle.ast.specs.Question.{no_of};
 ghost use Rattle.definition.specs.Sheet.{a};
 ghost use Rattle.entry_ready.specs.Asked.{fits_over, entry_no};
 
-use ast::{column, kind, question};
+use ast::question::Question;
+use ast::{column, kind};
 use first_four::first_four;
 use session::layout;
 use sheet::{count_kids, count_kind};
@@ -24,16 +26,13 @@ fn entry_fits(words: &[u32], sheet: &[u32]) -> bool
     word_at(words, layout::GLOBALS) <= word(sheet, 0, column::A)
 }
 
-// The first of questions 1 to 4 and 23 that gets a no of an entry into a session past question 23, or 0.
-pub fn ask_entry(words: &[u32], sheet: &[u32], names: &[u8]) -> u32
-    ensures { result ≡ entry_no (get_or words.now 0 0) sheet.now names.now }
+// Questions 1 to 4 and 23 of an entry into a session past question 23; the error is the first that gets a no.
+pub fn ask_entry(words: &[u32], sheet: &[u32], names: &[u8]) -> Result<(), Question>
+    ensures { no_of result ≡ entry_no (get_or words.now 0 0) sheet.now names.now }
 {
-    let no = first_four(sheet, names);
-    if no != 0 {
-        return no;
-    }
+    first_four(sheet, names)?;
     if !entry_fits(words, sheet) {
-        return question::SESSION;
+        return Err(Question::Session);
     }
-    0
+    Ok(())
 }

@@ -20,28 +20,6 @@ use Rattle.definition.proofs.Format.Links.{Rises}
 use Rattle.definition.proofs.Format.Facts.{link_rises_lem}
 use Rattle.links.specs.Rising.{Counts}
 
-module _ (s : Sheet) (n : ℕ) (size : length s ≡ 8 * n) where
-  rows_is : rows s ≡ n
-  rows_is = omega arith
-
-  test : (r l : ℕ) → link_rises s r l ≡ (eqb l 0 || (ltb r l && ltb l n))
-  test r l = ap (λ (m : ℕ). eqb l 0 || (ltb r l && ltb l m)) rows_is
-
-  pub next_fails : (r : ℕ) → r < n → (eqb (next s r) 0 || (ltb r (next s r) && ltb (next s r) n)) ≡ false → all (links_rise s) (from 0 (rows s)) ≡ false
-  next_fails r l e = all_fails (links_rise s) (rows s) r (omega (arith, rows_is)) (ap (λ (t : Bool). t && link_rises s r (child s r)) (test r (next s r) ∙ e))
-
-  pub both_pass : (r : ℕ) → (eqb (next s r) 0 || (ltb r (next s r) && ltb (next s r) n)) ≡ true
-      → (eqb (child s r) 0 || (ltb r (child s r) && ltb (child s r) n)) ≡ true → links_rise s r ≡ true
-  both_pass r e w = ap (λ (t : Bool). t && link_rises s r (child s r)) (test r (next s r) ∙ e) ∙ test r (child s r) ∙ w
-
-  pub child_fails : (r : ℕ) → r < n → (eqb (next s r) 0 || (ltb r (next s r) && ltb (next s r) n)) ≡ true
-      → (eqb (child s r) 0 || (ltb r (child s r) && ltb (child s r) n)) ≡ false → all (links_rise s) (from 0 (rows s)) ≡ false
-  child_fails r l e w =
-      all_fails (links_rise s) (rows s) r (omega (arith, rows_is)) (ap (λ (t : Bool). t && link_rises s r (child s r)) (test r (next s r) ∙ e) ∙ test r (child s r) ∙ w)
-
-  pub all_pass : (r : ℕ) → n ≤ r → ((k : ℕ) → k < r → links_rise s k ≡ true) → all (links_rise s) (from 0 (rows s)) ≡ true
-  all_pass r l f = true_of _ (all_of (links_rise s) 0 (rows s) (λ k a b. T_true _ (f k (omega (arith, rows_is)))))
-
 -- `seen` counts the links from the rows below r
 pub record Counted (s : Sheet) (n r : ℕ) (seen : List ℕ) : Type 0 where
   pub size : n ≤ length seen
@@ -62,16 +40,15 @@ pub linked_le : (s : Sheet) (r k : ℕ) → linked_to s r k ≤ 2 * r
 linked_le s r k =
     omega (arith, count_le (eqb k) (concat_map (λ p. next s p ∷ child s p ∷ []) (from 0 r)), pairs_length (next s) (child s) 0 r)
 
--- links that rise stay below n
-pub link_below : (s : Sheet) (n : ℕ) → length s ≡ 8 * n → all (links_rise s) (from 0 (rows s)) ≡ true → (r : ℕ) → r < n → (next s r < n) × (child s r < n)
-link_below s n size e r l =
-    let w : rows s ≡ n = omega arith in
-    let h = T_and (link_rises s r (next s r)) (link_rises s r (child s r)) (all_below (links_rise s) (rows s) (T_true _ e) r (omega (arith, w))) in
-    (go (next s r) w (link_rises_lem s r (next s r) h.0), go (child s r) w (link_rises_lem s r (child s r) h.1))
+-- links that rise go to rows
+pub link_below : (s : Sheet) → all (links_rise s) (from 0 (rows s)) ≡ true → (r : ℕ) → r < rows s → (next s r < rows s) × (child s r < rows s)
+link_below s e r l =
+    let h = T_and (link_rises s r (next s r)) (link_rises s r (child s r)) (all_below (links_rise s) (rows s) (T_true _ e) r l) in
+    (go (next s r) (link_rises_lem s r (next s r) h.0), go (child s r) (link_rises_lem s r (child s r) h.1))
   where
-    go : (x : ℕ) → rows s ≡ n → Rises s r x → x < n
-    go x w (inl z) = omega arith
-    go x w (inr q) = omega (arith, q.1)
+    go : (x : ℕ) → Rises s r x → x < rows s
+    go x (inl z) = omega arith
+    go x (inr q) = q.1
 
 -- one more at place x
 abbrev pub more : List ℕ → ℕ → List ℕ
@@ -119,32 +96,18 @@ more_le seen x k l = omega (arith, more_at seen x k l, go (eqb k x))
     go false = omega arith
 
 -- all rows are counted
-pub counted_all : (s : Sheet) (n r : ℕ) (seen : List ℕ) → length s ≡ 8 * n → n ≤ r → r ≤ n → Counted s n r seen → Counts s n seen
-counted_all s n r seen size a b c = let w : r ≡ rows s = omega arith in record { links_to = λ k l. c.here k l ∙ ap (λ (m : ℕ). linked_to s m k) w }
+pub counted_all : (s : Sheet) (r : ℕ) (seen : List ℕ) → rows s ≤ r → r ≤ rows s → Counted s (rows s) r seen → Counts s (rows s) seen
+counted_all s r seen a b c = let w : r ≡ rows s = omega arith in record { links_to = λ k l. c.here k l ∙ ap (λ (m : ℕ). linked_to s m k) w }
 
 -- is row k linked once, by the counts in seen?
 abbrev once_in : List ℕ → ℕ → Bool
 once_in seen k = eqb k 0 || eqb (get_or seen k 0) 1
-
-pub not_once : (n : ℕ) (seen : List ℕ) (k : ℕ) → 1 ≤ k → k < n → (get_or seen k 0 ≡ 1 → ⊥) → false ≡ all (λ k. eqb k 0 || eqb (get_or seen k 0) 1) (from 0 n)
-not_once n seen k z l f =
-    sym (all_fails (once_in seen) n k l (ap (λ (t : Bool). t || eqb (get_or seen k 0) 1) (ne_eqb k 0 (λ e. omega arith)) ∙ ne_eqb (get_or seen k 0) 1 f))
-
-pub once : (n : ℕ) (seen : List ℕ) (m : ℕ) → n ≤ m → ((k : ℕ) → k < m → 0 < k → get_or seen k 0 ≡ 1) → true ≡ all (λ k. eqb k 0 || eqb (get_or seen k 0) 1) (from 0 n)
-once n seen m l f = sym (true_of (all (once_in seen) (from 0 n)) (all_of (once_in seen) 0 n (λ k a b. go k (omega arith) (ℕ-trichotomy 0 k))))
-  where
-    go : (k : ℕ) → k < n → (0 < k) ⊎ ((0 ≡ k) ⊎ (k < 0)) → T (once_in seen k)
-    go k b (inl z) = T_true (once_in seen k) (ap (λ (t : Bool). t || eqb (get_or seen k 0) 1) (ne_eqb k 0 (λ e. omega arith)) ∙ eq-eqb (get_or seen k 0) 1 (f k (omega arith) z))
-    go k b (inr (inl e)) = T_true (once_in seen k) (ap (λ (t : Bool). t || eqb (get_or seen k 0) 1) (eq-eqb k 0 (sym e)))
-    go k b (inr (inr e)) = absurd (omega arith)
 
 all_same : (p q : ℕ → Bool) (i n : ℕ) → ((k : ℕ) → i ≤ k → k < i + n → p k ≡ q k) → all p (from i n) ≡ all q (from i n)
 all_same p q i zero f = refl
 all_same p q i (suc n) f =
     ap (λ (t : Bool). t && all p (from (suc i) n)) (f i (omega arith) (omega arith)) ∙ ap (λ (t : Bool). q i && t) (all_same p q (suc i) n (λ k a b. f k (omega arith) (omega arith)))
 
-pub once_linked : (s : Sheet) (n : ℕ) (seen : List ℕ) → length s ≡ 8 * n → Counts s n seen
-    → all (λ k. eqb k 0 || eqb (get_or seen k 0) 1) (from 0 n) ≡ all (linked_once (links s)) (from 0 (rows s))
-once_linked s n seen size f =
-    let w : n ≡ rows s = omega arith in
-    all_same (once_in seen) (linked_once (links s)) 0 n (λ k a b. ap (λ (c : ℕ). eqb k 0 || eqb c 1) (f.links_to k (omega arith))) ∙ ap (λ (m : ℕ). all (linked_once (links s)) (from 0 m)) w
+pub once_linked : (s : Sheet) (seen : List ℕ) → Counts s (rows s) seen
+    → all (λ k. eqb k 0 || eqb (get_or seen k 0) 1) (from 0 (rows s)) ≡ all (linked_once (links s)) (from 0 (rows s))
+once_linked s seen f = all_same (once_in seen) (linked_once (links s)) 0 (rows s) (λ k a b. ap (λ (c : ℕ). eqb k 0 || eqb c 1) (f.links_to k (omega arith)))

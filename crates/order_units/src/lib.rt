@@ -86,9 +86,8 @@ fn order_fitting(sheet: &[u32], list: &mut [u32]) -> Answer
 pub fn order_units(sheet: &[u32], names: &[u8], list: &mut [u32]) -> Answer
     ensures { Ordered sheet.now names.now (length list.old) result list.new }
 {
-    let no = first_four(sheet, names);
-    if no != 0 {
-        return refuse(no, list);
+    match first_four(sheet, names) {
+        Ok(()) => order_fitting(sheet, list),
+        Err(no) => refuse(no.number(), list),
     }
-    order_fitting(sheet, list)
 }

@@ -60,9 +60,8 @@ fn prepare_checked(
         × (index.now ≡ index_of (numbered (name_bytes whole words.now bytes.now))) × (1024 ≤ length numbers.old) }
     ensures { PreparedFor words.now bytes.now sheet.now names.now result numbers.new }
 {
-    let no = ask_entry(words, sheet, names);
-    if no != 0 {
-        return refused(no);
+    if let Err(no) = ask_entry(words, sheet, names) {
+        return refused(no.number());
     }
     let end = layout::FIXED_BYTES + word_at(words, layout::NAME_BYTES) as usize;
     let told = number_names(

@@ -21,10 +21,13 @@ use crate::edit::{Used, change, copy_words, edited, first_bytes, first_words, nu
 use program_io::read_full;
 
 fn ask(rt: &impl Print, case: &[u8], words: &[u32], names: &[u8], used: Used) {
-    let no = first_four::first_four(
+    let no = match first_four::first_four(
         first_words(words, used.words),
         first_bytes(names, used.names),
-    );
+    ) {
+        Ok(()) => 0,
+        Err(question) => question.number(),
+    };
     let _ = rt.write_all(case);
     let _ = println!(rt; ": {no}");
 }

@@ -130,9 +130,8 @@ fn resolve_plain(sheet: &[u32], out: &mut [u32]) -> Answer
 pub fn resolve(sheet: &[u32], names: &[u8], out: &mut [u32]) -> Answer
     ensures { Answered sheet.now names.now (length out.old) result out.new }
 {
-    let no = first_four(sheet, names);
-    if no != 0 {
-        return refuse(no, out);
+    match first_four(sheet, names) {
+        Ok(()) => resolve_plain(sheet, out),
+        Err(no) => refuse(no.number(), out),
     }
-    resolve_plain(sheet, out)
 }

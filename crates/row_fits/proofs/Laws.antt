@@ -7,28 +7,54 @@ use native.Mathlib.Omega.{arith}
 use Rattle.definition.specs.Basics.{all, from}
 use Rattle.definition.proofs.Lists.Tests.{T_true, true_of}
 use Rattle.definition.proofs.Format.Passes.{all_fails, all_of}
-use Rattle.definition.specs.Sheet.{Sheet}
-use Rattle.definition.specs.Shape.{nought}
-use Rattle.shapes.specs.States.{rule_at}
+use Rattle.std.specs.Prelude.{Option, Some, None, MatchOption}
+use borrow.Author.Tests.{ne_eqb}
+use Rattle.ast.specs.declared.kind.Kind.{Kind}
+use Rattle.ast.specs.declared.kind.Kind.TheVariants.{Unit as UnitKind, Function, Let, ClassDeclaration}
+use Rattle.ast.specs.Kind.{kind_number}
+use Rattle.definition.specs.Sheet.{Sheet, kind}
+use Rattle.shapes.proofs.TableLaws.{no_kind}
+use Rattle.row_fits.specs.declared.row.Row.{Row}
+use Rattle.row_fits.specs.declared.row.Entry.{Entry}
+use Rattle.row_fits.specs.Reading.{number_or_one, words_of, ReadsRow}
+use Rattle.row_fits.specs.Pass.{row_in, columns_ok, plain_ok, function_ok, state_after, ends_ok, new_ok, row_asked, note_next, note_child, note_own, note_declared, note_all}
 use Rattle.row_fits.specs.Pass.{row_ok, note_row, rows_ok, rows_noted}
 
--- a number that is none of the rules 1 to 12
-pub rule_rest : (n : ℕ) → (n ≡ 1 → ⊥) → (n ≡ 2 → ⊥) → (n ≡ 3 → ⊥) → (n ≡ 4 → ⊥) → (n ≡ 5 → ⊥) → (n ≡ 6 → ⊥)
-    → (n ≡ 7 → ⊥) → (n ≡ 8 → ⊥) → (n ≡ 9 → ⊥) → (n ≡ 10 → ⊥) → (n ≡ 11 → ⊥) → (n ≡ 12 → ⊥) → rule_at n ≡ nought
-rule_rest zero f1 f2 f3 f4 f5 f6 f7 f8 f9 f10 f11 f12 = refl
-rule_rest (suc zero) f1 f2 f3 f4 f5 f6 f7 f8 f9 f10 f11 f12 = absurd (f1 refl)
-rule_rest (suc (suc zero)) f1 f2 f3 f4 f5 f6 f7 f8 f9 f10 f11 f12 = absurd (f2 refl)
-rule_rest (suc (suc (suc zero))) f1 f2 f3 f4 f5 f6 f7 f8 f9 f10 f11 f12 = absurd (f3 refl)
-rule_rest (suc (suc (suc (suc zero)))) f1 f2 f3 f4 f5 f6 f7 f8 f9 f10 f11 f12 = absurd (f4 refl)
-rule_rest (suc (suc (suc (suc (suc zero))))) f1 f2 f3 f4 f5 f6 f7 f8 f9 f10 f11 f12 = absurd (f5 refl)
-rule_rest (suc (suc (suc (suc (suc (suc zero)))))) f1 f2 f3 f4 f5 f6 f7 f8 f9 f10 f11 f12 = absurd (f6 refl)
-rule_rest (suc (suc (suc (suc (suc (suc (suc zero))))))) f1 f2 f3 f4 f5 f6 f7 f8 f9 f10 f11 f12 = absurd (f7 refl)
-rule_rest (suc (suc (suc (suc (suc (suc (suc (suc zero)))))))) f1 f2 f3 f4 f5 f6 f7 f8 f9 f10 f11 f12 = absurd (f8 refl)
-rule_rest (suc (suc (suc (suc (suc (suc (suc (suc (suc zero))))))))) f1 f2 f3 f4 f5 f6 f7 f8 f9 f10 f11 f12 = absurd (f9 refl)
-rule_rest (suc (suc (suc (suc (suc (suc (suc (suc (suc (suc zero)))))))))) f1 f2 f3 f4 f5 f6 f7 f8 f9 f10 f11 f12 = absurd (f10 refl)
-rule_rest (suc (suc (suc (suc (suc (suc (suc (suc (suc (suc (suc zero))))))))))) f1 f2 f3 f4 f5 f6 f7 f8 f9 f10 f11 f12 = absurd (f11 refl)
-rule_rest (suc (suc (suc (suc (suc (suc (suc (suc (suc (suc (suc (suc zero)))))))))))) f1 f2 f3 f4 f5 f6 f7 f8 f9 f10 f11 f12 = absurd (f12 refl)
-rule_rest (suc (suc (suc (suc (suc (suc (suc (suc (suc (suc (suc (suc (suc n))))))))))))) f1 f2 f3 f4 f5 f6 f7 f8 f9 f10 f11 f12 = refl
+-- What is asked of a row whose number is no kind's, and what it tells, is that of number 1.
+module _ (s : Sheet) (r n : ℕ) (h : (x : Kind) → n ≡ kind_number x → ⊥) where
+  asked_none : (last x c f a b p q : ℕ) (t : List ℕ)
+      → row_asked s last (record { kind = 1; next = x; child = c; file = f; a = a; b = b }) r p q t ≡ row_asked s last (record { kind = n; next = x; child = c; file = f; a = a; b = b }) r p q t
+  unfolding row_asked columns_ok plain_ok function_ok state_after ends_ok new_ok
+  asked_none last x c f a b p q t =
+      rw (no_kind 0 tt n h, no_kind 1 tt n h, no_kind 2 tt n h, no_kind 3 tt n h, ne_eqb n 29 (h Let), ne_eqb n 6 (h Function), ne_eqb n 30 (h ClassDeclaration))
+
+  noted_none : (x c f a b : ℕ) (e : Entry) (t : List ℕ)
+      → note_all s r (record { kind = 1; next = x; child = c; file = f; a = a; b = b }) e t ≡ note_all s r (record { kind = n; next = x; child = c; file = f; a = a; b = b }) e t
+  unfolding note_all note_declared note_own note_child note_next state_after
+  noted_none x c f a b e t =
+      rw (no_kind 0 tt n h, no_kind 1 tt n h, ne_eqb n 2 (h UnitKind), ne_eqb n 6 (h Function), ne_eqb n 30 (h ClassDeclaration))
+
+-- what is asked of a row as it was read, and what it tells, is that of its words
+module _ (s : Sheet) (r n : ℕ) where
+  asked_read : (k : Option Kind) → MatchOption k ((x : Kind) → n ≡ kind_number x → ⊥) (λ x. n ≡ kind_number x) → (last x c f a b p q : ℕ) (t : List ℕ)
+      → row_asked s last (record { kind = number_or_one k; next = x; child = c; file = f; a = a; b = b }) r p q t
+      ≡ row_asked s last (record { kind = n; next = x; child = c; file = f; a = a; b = b }) r p q t
+  asked_read None h last x c f a b p q t = asked_none s r n h last x c f a b p q t
+  asked_read (Some k) h last x c f a b p q t = rw h
+
+  noted_read : (k : Option Kind) → MatchOption k ((x : Kind) → n ≡ kind_number x → ⊥) (λ x. n ≡ kind_number x) → (x c f a b : ℕ) (e : Entry) (t : List ℕ)
+      → note_all s r (record { kind = number_or_one k; next = x; child = c; file = f; a = a; b = b }) e t
+      ≡ note_all s r (record { kind = n; next = x; child = c; file = f; a = a; b = b }) e t
+  noted_read None h x c f a b e t = noted_none s r n h x c f a b e t
+  noted_read (Some k) h x c f a b e t = rw h
+
+pub asked_same : (s : Sheet) (last r p q : ℕ) (t : List ℕ) (w : Row) → ReadsRow s r w → row_asked s last (words_of w) r p q t ≡ row_asked s last (row_in s r) r p q t
+asked_same s last r p q t w h =
+    rw (← h.next_read, ← h.child_read, ← h.file_read, ← h.a_read, ← h.b_read) (asked_read s r (kind s r) w.kind h.kind_read last w.next w.child w.file w.a w.b p q t)
+
+pub noted_same : (s : Sheet) (r : ℕ) (e : Entry) (t : List ℕ) (w : Row) → ReadsRow s r w → note_all s r (words_of w) e t ≡ note_all s r (row_in s r) e t
+noted_same s r e t w h =
+    rw (← h.next_read, ← h.child_read, ← h.file_read, ← h.a_read, ← h.b_read) (noted_read s r (kind s r) w.kind h.kind_read w.next w.child w.file w.a w.b e t)
 
 -- a loop over rows that stops at the first that fails a test
 pub row_fails : (p : ℕ → Bool) (n r : ℕ) → r < n → p r ≡ false → false ≡ all p (from 0 n)

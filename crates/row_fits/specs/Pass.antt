@@ -4,12 +4,20 @@ use Rattle.std.specs.Prelude.{List, Bool, true, not, ◌&&◌, ◌||◌, ℕ, ze
 use Rattle.definition.specs.Basics.{when◌then◌else◌}
 use Rattle.definition.specs.Sheet.{Sheet, word, kind, next, child, file, a, b}
 use Rattle.definition.specs.Shape.{holds}
-use Rattle.row_fits.specs.declared.row.Row.{Row}
 use Rattle.row_fits.specs.declared.row.Entry.{Entry}
 use Rattle.shapes.specs.States.{entry_of, kind_table, state_table, rule_at}
 
--- the words of row r that are asked about
-abbrev pub row_in : Sheet → ℕ → Row
+-- The words of a row that are asked about.
+pub record Words : Type 0 where
+  pub kind : ℕ
+  pub next : ℕ
+  pub child : ℕ
+  pub file : ℕ
+  pub a : ℕ
+  pub b : ℕ
+
+-- those of row r
+abbrev pub row_in : Sheet → ℕ → Words
 row_in s r = record { kind = kind s r; next = next s r; child = child s r; file = file s r; a = a s r; b = b s r }
 
 -- The table: of each row, in word 0 the row that has it as a child, 1 its depth, 2 its unit, 3 its function, 4 the class whose
@@ -22,11 +30,11 @@ unfoldable pub columns_ok : Sheet → ℕ → ℕ → ℕ → ℕ → Bool
 columns_ok s last k x y = holds s last (rule_at (entry_of kind_table k 2)) x && holds s last (rule_at (entry_of kind_table k 3)) y
 
 -- is the file in range, and the value of a constant no literal?
-unfoldable pub plain_ok : Sheet → Row → Bool
+unfoldable pub plain_ok : Sheet → Words → Bool
 plain_ok s w = ltb w.file 262144 && (not (eqb w.kind 29) || (ltb w.b 2 || not (eqb (kind s w.child) 52)))
 
 -- is a function marked as a unit's exactly where it is one, with a block alone; has a method a name? p is its parent
-unfoldable pub function_ok : Sheet → Row → ℕ → Bool
+unfoldable pub function_ok : Sheet → Words → ℕ → Bool
 function_ok s w p =
     when not (eqb w.kind 6) then true
     else when eqb (kind s p) 2 then eqb w.b 1 && (eqb (kind s w.child) 25 && eqb (next s w.child) 0)
@@ -41,15 +49,15 @@ unfoldable pub ends_in : ℕ → Bool
 ends_in q = eqb (entry_of state_table q 0) 1
 
 -- may the child list of row r be empty if it is; may the list that it is in end if it does? q is the state before it
-unfoldable pub ends_ok : Row → ℕ → ℕ → Bool
+unfoldable pub ends_ok : Words → ℕ → ℕ → Bool
 ends_ok w r q = (not (eqb w.child 0) || ends_in (entry_of kind_table w.kind 1)) && (eqb r 0 || (not (eqb w.next 0) || ends_in (state_after q w.kind)))
 
 -- is a class declaration the first of its class?
-unfoldable pub new_ok : List ℕ → Row → Bool
+unfoldable pub new_ok : List ℕ → Words → Bool
 new_ok t w = not (eqb w.kind 30) || eqb (word t w.a 7) 0
 
 -- what is asked of row r with words w, parent p and the state q of its list before it
-unfoldable pub row_asked : Sheet → ℕ → Row → ℕ → ℕ → ℕ → List ℕ → Bool
+unfoldable pub row_asked : Sheet → ℕ → Words → ℕ → ℕ → ℕ → List ℕ → Bool
 row_asked s last w r p q t =
     columns_ok s last w.kind w.a w.b && (plain_ok s w && (function_ok s w p && (ends_ok w r q && new_ok t w)))
 
@@ -95,7 +103,7 @@ unfoldable pub note_next : ℕ → ℕ → Entry → List ℕ → List ℕ
 note_next n k e t = when eqb n 0 then t else put_entry t n (next_entry k e)
 
 -- the table with the entry of the first child of row r, with words w and entry e
-unfoldable pub note_child : Sheet → ℕ → Row → Entry → List ℕ → List ℕ
+unfoldable pub note_child : Sheet → ℕ → Words → Entry → List ℕ → List ℕ
 note_child s r w e t = when eqb w.child 0 then t else put_entry t w.child (child_entry s r w.kind e)
 
 -- the table with the own unit and class of a row
@@ -103,11 +111,11 @@ unfoldable pub note_own : Sheet → ℕ → ℕ → Entry → List ℕ → List 
 note_own s r k e t = set (set t (8 * r + 2) (unit_here r k e)) (8 * r + 4) (class_here s k e)
 
 -- the table with the class that a row declares
-unfoldable pub note_declared : ℕ → Row → List ℕ → List ℕ
+unfoldable pub note_declared : ℕ → Words → List ℕ → List ℕ
 note_declared r w t = when eqb w.kind 30 then set t (8 * w.a + 7) r else t
 
 -- the table after row r with words w and entry e
-unfoldable pub note_all : Sheet → ℕ → Row → Entry → List ℕ → List ℕ
+unfoldable pub note_all : Sheet → ℕ → Words → Entry → List ℕ → List ℕ
 note_all s r w e t = note_declared r w (note_own s r w.kind e (note_child s r w e (note_next w.next w.kind e t)))
 
 -- the same when the pass reaches row r

@@ -1,5 +1,5 @@
--- A table read by a match on a number: each arm by a test of its entry, the last by one over the whole table.
-use mathlib.Core.Path.{◌≡◌, ap, ◌∙◌}
+-- A table read by a match on a number: the last arm by a test over the whole table.
+use mathlib.Core.Path.{◌≡◌}
 use mathlib.Core.Logic.{◌⊎◌, inl, inr}
 use mathlib.Core.Bool.{◌||◌}
 use mathlib.Core.List.{List, [], ◌∷◌}
@@ -10,30 +10,47 @@ use Rattle.definition.specs.Basics.{all, from, any}
 use Rattle.definition.proofs.Lists.Tests.{or_cases, ℕ-trichotomy}
 use Rattle.definition.proofs.Lists.Counts.{all_below}
 
-pub at_key : (p : ℕ → ℕ) (k v : ℕ) → T (eqb (p k) v) → (n : ℕ) → n ≡ k → p n ≡ v
-at_key p k v h n e = ap p e ∙ eqb→eq (p k) v h
+-- n is one of an arm's numbers: k or one of ks
+abbrev pub OneOf : ℕ → ℕ → List ℕ → Type 0
+OneOf n k [] = n ≡ k
+OneOf n k (j ∷ ks) = (n ≡ k) ⊎ OneOf n j ks
 
 -- n is the number of no arm; the last arm comes first, as the fact about a match has it
-abbrev pub Outside : ℕ → List ℕ → Type 0
+abbrev pub Outside : ℕ → List (List ℕ) → Type 0
 Outside n [] = Unit
-Outside n (k ∷ ks) = Outside n ks × (n ≡ k → ⊥)
+Outside n ([] ∷ arms) = Outside n arms
+Outside n ((k ∷ ks) ∷ arms) = Outside n arms × (OneOf n k ks → ⊥)
 
-nowhere : (ks : List ℕ) (n : ℕ) → T (any (eqb n) ks) → Outside n ks → ⊥
-nowhere [] n h o = h
-nowhere (k ∷ ks) n h o = go (or_cases (eqb n k) (any (eqb n) ks) h) (nowhere ks n)
+one_of : (n k : ℕ) (ks : List ℕ) → T (any (eqb n) (k ∷ ks)) → OneOf n k ks
+one_of n k [] h = go (or_cases (eqb n k) (any (eqb n) []) h)
   where
-    go : T (eqb n k) ⊎ T (any (eqb n) ks) → (T (any (eqb n) ks) → Outside n ks → ⊥) → ⊥
-    go (inl x) up = o.1 (eqb→eq n k x)
+    go : T (eqb n k) ⊎ T (any (eqb n) []) → n ≡ k
+    go (inl x) = eqb→eq n k x
+    go (inr x) = absurd x
+one_of n k (j ∷ ks) h = go (or_cases (eqb n k) (any (eqb n) (j ∷ ks)) h) (one_of n j ks)
+  where
+    go : T (eqb n k) ⊎ T (any (eqb n) (j ∷ ks)) → (T (any (eqb n) (j ∷ ks)) → OneOf n j ks) → (n ≡ k) ⊎ OneOf n j ks
+    go (inl x) up = inl (eqb→eq n k x)
+    go (inr x) up = inr (up x)
+
+nowhere : (arms : List (List ℕ)) (n : ℕ) → T (any (any (eqb n)) arms) → Outside n arms → ⊥
+nowhere [] n h o = h
+nowhere ([] ∷ arms) n h o = nowhere arms n h o
+nowhere ((k ∷ ks) ∷ arms) n h o = go (or_cases (any (eqb n) (k ∷ ks)) (any (any (eqb n)) arms) h) (nowhere arms n)
+  where
+    go : T (any (eqb n) (k ∷ ks)) ⊎ T (any (any (eqb n)) arms) → (T (any (any (eqb n)) arms) → Outside n arms → ⊥) → ⊥
+    go (inl x) up = o.1 (one_of n k ks x)
     go (inr x) up = up x o.0
 
-pub none_of : (p : ℕ → ℕ) (m : ℕ) (ks : List ℕ) → T (all (λ k. eqb (p k) 0 || any (eqb k) ks) (from 0 m)) → ((k : ℕ) → m ≤ k → p k ≡ 0) → (n : ℕ) → Outside n ks → p n ≡ 0
-none_of p m ks h beyond n o = go (ℕ-trichotomy n m)
+pub none_of : (p : ℕ → ℕ) (m : ℕ) (arms : List (List ℕ)) → T (all (λ k. eqb (p k) 0 || any (any (eqb k)) arms) (from 0 m)) → ((k : ℕ) → m ≤ k → p k ≡ 0)
+    → (n : ℕ) → Outside n arms → p n ≡ 0
+none_of p m arms h beyond n o = go (ℕ-trichotomy n m)
   where
-    inside : T (eqb (p n) 0) ⊎ T (any (eqb n) ks) → p n ≡ 0
+    inside : T (eqb (p n) 0) ⊎ T (any (any (eqb n)) arms) → p n ≡ 0
     inside (inl x) = eqb→eq (p n) 0 x
-    inside (inr x) = absurd (nowhere ks n x o)
+    inside (inr x) = absurd (nowhere arms n x o)
 
     go : (n < m) ⊎ ((n ≡ m) ⊎ (m < n)) → p n ≡ 0
-    go (inl l) = inside (or_cases (eqb (p n) 0) (any (eqb n) ks) (all_below (λ k. eqb (p k) 0 || any (eqb k) ks) m h n l))
+    go (inl l) = inside (or_cases (eqb (p n) 0) (any (any (eqb n)) arms) (all_below (λ k. eqb (p k) 0 || any (any (eqb k)) arms) m h n l))
     go (inr (inl e)) = beyond n (omega arith)
     go (inr (inr l)) = beyond n (omega arith)

@@ -1,26 +1,18 @@
-// The sorts of rows among children.
-pub const NONE: u32 = 0;
-
-pub const UNIT: u32 = 1;
-
-pub const IMPORT: u32 = 2;
-
-pub const CLASS: u32 = 3;
-
-pub const FUNCTION: u32 = 4;
-
-pub const FUNCTION_EXPORT: u32 = 5;
-
-pub const CONSTANT_EXPORT: u32 = 6;
-
-pub const LISTED: u32 = 7;
-
-pub const FIELD: u32 = 8;
-
-pub const PARAMETER: u32 = 9;
-
-pub const PAIR: u32 = 10;
-
-pub const STATEMENT: u32 = 11;
-
-pub const EXPRESSION: u32 = 12;
+// The sort of a row among children, by its kind.
+#[derive(Clone, Copy, Debug, PartialEq, Eq)]
+pub enum Sort {
+    // The header's. No child list has it.
+    Header = 0,
+    Unit = 1,
+    Import = 2,
+    Class = 3,
+    Function = 4,
+    FunctionExport = 5,
+    ConstantExport = 6,
+    Listed = 7,
+    Field = 8,
+    Parameter = 9,
+    Pair = 10,
+    Statement = 11,
+    Expression = 12,
+}

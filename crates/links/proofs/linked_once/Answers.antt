@@ -3,6 +3,4 @@ use mathlib.Core.Path.{◌∙◌}
 use Rattle.links.proofs.linked_once.Goals as goal
 
 pub returns : goal.returns
-returns c =
-    c.all_once.ensures
-    ∙ once_linked c.args.sheet.now c.args.n _ c.requires.0 c.count_links.ensures
+returns c = c.all_once.ensures ∙ once_linked c.args.sheet.now _ c.count_links.ensures

@@ -1,16 +1,16 @@
-use mathlib.Core.Path.{sym, ◌∙◌}
+use mathlib.Core.Path.{refl, sym, ◌∙◌}
 use lib.ListN.{length}
+use Rattle.ast.proofs.QuestionLaws.{question_none}
 use Rattle.order_units.proofs.AskedLaws.{fitting, ordered_no, ordered_on}
 use Rattle.order_units.proofs.order_units.Goals as goal
 
-pub returns-then-no-ne0 : goal.returns-then-no-ne0
-returns-then-no-ne0 c =
-    ordered_no c.args.sheet.now c.args.names.now (length c.args.list.now) c.first_four-no.ensures c.if-no-ne0.true c.refuse.ensures
+pub returns-in-Err : goal.returns-in-Err
+returns-in-Err c =
+    ordered_no c.args.sheet.now c.args.names.now (length c.args.list.now) (c.number.ensures ∙ c.in-Err.ensures) (λ z. question_none _ (sym c.number.ensures ∙ z)) c.refuse.ensures
 
 pub order_fitting-requires : goal.order_fitting-requires
-order_fitting-requires c =
-    fitting c.args.sheet.now c.args.names.now (sym c.first_four-no.ensures ∙ c.if-no-ne0.false)
+order_fitting-requires c = fitting c.args.sheet.now c.args.names.now (sym c.in-Ok.ensures)
 
-pub returns : goal.returns
-returns c =
-    ordered_on c.args.sheet.now c.args.names.now (length c.args.list.now) c.first_four-no.ensures c.if-no-ne0.false c.order_fitting.ensures
+pub returns-in-Ok : goal.returns-in-Ok
+returns-in-Ok c =
+    ordered_on c.args.sheet.now c.args.names.now (length c.args.list.now) c.in-Ok.ensures refl c.order_fitting.ensures

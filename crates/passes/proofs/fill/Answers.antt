@@ -20,12 +20,6 @@ returns-then-not-row_fits c =
       table_after = λ e. absurd (subst T (sym e) tt);
     }
 
-pub overflow_add-r : goal.overflow_add-r
-overflow_add-r c = omega arith
-
-pub loop-r-smaller : goal.loop-r-smaller
-loop-r-smaller c = omega arith
-
 pub loop-r-preserved : goal.loop-r-preserved
 loop-r-preserved c = (
   omega arith,

@@ -8,6 +8,3 @@ abbrev pub invariant-loop-r : goal.invariant-loop-r
 invariant-loop-r l =
     (l.r ≤ l.n) × (length l.table ≡ length l.initial.table) × (rows_ok l.sheet l.last (l.n - l.r) l.r l.table ≡ rows_ok l.sheet l.last l.n 0 l.initial.table)
     × (rows_noted l.sheet (l.n - l.r) l.r l.table ≡ rows_noted l.sheet l.n 0 l.initial.table)
-
-abbrev pub decreases-loop-r : goal.decreases-loop-r
-decreases-loop-r l = l.n - l.r

@@ -1,53 +1,17 @@
+use Rattle.std.proofs.Common.{◌≡◌, true, sym, ◌∙◌, arith}
+use Rattle.definition.specs.Basics.{all, from}
+use Rattle.definition.specs.Sheet.{rows}
+use Rattle.definition.specs.Format.{links_rise}
 use Rattle.first_four.proofs.Asking.{zeros_at, zeros_long}
-use Rattle.first_four.specs.Whole.{links_ok}
-use mathlib.Core.Path.{sym, ◌∙◌}
-use native.Mathlib.Omega.{arith}
+use Rattle.first_four.proofs.format.links_fit.Goals.{then-main_marked, else-main_marked}
 use Rattle.first_four.proofs.format.links_fit.Goals as goal
 
-pub returns-then-not-header_first : goal.returns-then-not-header_first
-unfolding links_ok
-returns-then-not-header_first c = rw (← c.header_first.ensures, c.if-not-header_first.true)
-
-pub returns-then-not-main_marked : goal.returns-then-not-main_marked
-unfolding links_ok
-returns-then-not-main_marked c =
-    rw (
-      ← c.header_first.ensures,
-      c.if-not-header_first.false,
-      ← c.main_marked.ensures,
-      c.if-not-main_marked.true,
-    )
-
-pub returns-then-not-links_rise : goal.returns-then-not-links_rise
-unfolding links_ok
-returns-then-not-links_rise c =
-    rw (
-      ← c.header_first.ensures,
-      c.if-not-header_first.false,
-      ← c.main_marked.ensures,
-      c.if-not-main_marked.false,
-      ← c.links_rise.ensures,
-      c.if-not-links_rise.true,
-    )
-
 pub linked_once-requires : goal.linked_once-requires
-linked_once-requires c = (
-  c.requires.0,
-  c.requires.1,
-  omega (arith, zeros_long 2048 _ c.requires.2),
-  sym c.links_rise.ensures ∙ c.if-not-links_rise.false,
-  λ k l. zeros_at 2048 _ c.requires.2 k,
-)
-
-pub returns : goal.returns
-unfolding links_ok
-returns c =
-    rw (
-      ← c.header_first.ensures,
-      c.if-not-header_first.false,
-      ← c.main_marked.ensures,
-      c.if-not-main_marked.false,
-      ← c.links_rise.ensures,
-      c.if-not-links_rise.false,
-      c.linked_once.ensures,
-    )
+linked_once-requires c =
+    let s = c.args.sheet.now in
+    let rise : all (links_rise s) (from 0 (rows s)) ≡ true =
+    elim c.if-main_marked.branch [
+      then-main_marked w ↦ sym w.links_rise.ensures ∙ sym w.value-is ∙ c.if-links_rise.true
+    | else-main_marked w ↦ cc (w.value-is, c.if-links_rise.true)
+    ] in
+    (c.requires.0, omega (arith, zeros_long 2048 _ c.requires.1), rise, λ k l. zeros_at 2048 _ c.requires.1 k)

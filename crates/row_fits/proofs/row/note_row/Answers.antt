@@ -1,4 +1,5 @@
 use Rattle.row_fits.specs.Pass.{note_all}
+use Rattle.row_fits.proofs.Laws.{noted_same}
 use Rattle.row_fits.proofs.row.note_row.Goals as goal
 
 pub returns : goal.returns
@@ -9,6 +10,5 @@ returns c =
       c.note_own.ensures,
       c.note_child.ensures,
       c.note_next.ensures,
-      c.entry_at-e.ensures,
-      c.row_at-w.ensures,
-    )
+      c.get-e.ensures,
+    ) (noted_same _ _ _ _ _ c.read-w.ensures)

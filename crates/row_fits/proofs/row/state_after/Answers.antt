@@ -1,6 +1,8 @@
+use mathlib.Core.Path.{sym}
+use Rattle.shapes.proofs.TableLaws.{no_sort}
 use Rattle.row_fits.specs.Pass.{state_after}
 use Rattle.row_fits.proofs.row.state_after.Goals as goal
 
-pub returns : goal.returns
+pub returns-in-None : goal.returns-in-None
 unfolding state_after
-returns c = rw (c.next_state.ensures, c.sort_of.ensures)
+returns-in-None c = rw c.in-None.is (sym (no_sort c.args.state))
