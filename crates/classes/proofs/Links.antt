@@ -1,4 +1,4 @@
--- What one row of the pass does: the class of its children, and entries written by links.
+-- Entries written by links.
 use mathlib.Core.Path.{◌≡◌, sym, ap, ◌∙◌}
 use mathlib.Core.Logic.{◌⊎◌, inl, inr}
 use mathlib.Core.List.{List}
@@ -13,20 +13,6 @@ use Rattle.definition.specs.Basics.{when◌then◌else◌}
 use Rattle.definition.specs.Sheet.{Sheet, kind, next, child, a}
 use Rattle.definition.proofs.Lists.Tests.{ℕ-trichotomy}
 use Rattle.classes.specs.Table.{kids_class, linked, row_done}
-
--- The children of a class, of a literal, of any other row.
-module _ (s : Sheet) (r : ℕ) {k : ℕ} (e : k ≡ kind s r) where
-  pub of_class_lem : k ≡ 4 → r ≡ kids_class s r
-  of_class_lem h = sym (ap (λ (t : Bool). when t then r else when eqb (kind s r) 52 then a s r else 0) (eq-eqb (kind s r) 4 (sym e ∙ h)))
-
-  not_class : (k ≡ 4 → ⊥) → kids_class s r ≡ (when eqb (kind s r) 52 then a s r else 0)
-  not_class h = ap (λ (t : Bool). when t then r else when eqb (kind s r) 52 then a s r else 0) (ne_eqb (kind s r) 4 (λ q. h (e ∙ q)))
-
-  pub of_literal : (k ≡ 4 → ⊥) → k ≡ 52 → {x : ℕ} → x ≡ a s r → x ≡ kids_class s r
-  of_literal h g q = q ∙ sym (not_class h ∙ ap (λ (t : Bool). when t then a s r else 0) (eq-eqb (kind s r) 52 (sym e ∙ g)))
-
-  pub of_other : (k ≡ 4 → ⊥) → (k ≡ 52 → ⊥) → 0 ≡ kids_class s r
-  of_other h g = sym (not_class h ∙ ap (λ (t : Bool). when t then a s r else 0) (ne_eqb (kind s r) 52 (λ q. g (e ∙ q))))
 
 -- A link of 0 writes nothing.
 pub linked_none : (i x : ℕ) (t : List ℕ) → i ≡ 0 → linked i x t ≡ t
@@ -69,11 +55,3 @@ module _ (g : ℕ → ℕ) (t : List ℕ) (i x : ℕ) where
       go (inr z) (inl l) = other (λ q. omega arith) z
       go (inr z) (inr (inl q)) = ap (λ (j : ℕ). get_or (linked i x t) j 0) q ∙ linked_at z (h z).0 (h z).1 ∙ ap g (sym q)
       go (inr z) (inr (inr l)) = other (λ q. omega arith) z
-
--- the calls of one row, in order
-pub row_by : (s : Sheet) (r : ℕ) (t : List ℕ) {c n x y : ℕ} {u v : List ℕ} → c ≡ child s r → n ≡ next s r → x ≡ kids_class s r → u ≡ linked c x t
-    → y ≡ get_or u r 0 → v ≡ linked n y u → v ≡ row_done s r t
-unfolding row_done
-row_by s r t {x = x} {y = y} {u = u} ec en ex eu ey ev =
-    let w : u ≡ linked (child s r) (kids_class s r) t = eu ∙ ap (λ (c : ℕ). linked c x t) ec ∙ ap (λ (x : ℕ). linked (child s r) x t) ex in
-    ev ∙ ap (λ (n : ℕ). linked n y u) en ∙ ap (λ (y : ℕ). linked (next s r) y u) ey ∙ ap (λ (u : List ℕ). linked (next s r) (get_or u r 0) u) w

@@ -7,10 +7,12 @@ ghost use Rattle.definition.specs.Outside.{Outside};
 ghost use Rattle.machine.specs.Reads.{PastFour};
 ghost use Rattle.classes.specs.Table.{kids_class, linked, row_done, Clear, ClassTable};
 
-use ast::{column, kind};
-use words::{entry_at, put_entry, word};
+use ast::column;
+use ast::kind::Kind;
+use words::{entry_at, is_kind, put_entry, word};
 
 // Writes the entry of row `i`, unless the link is 0.
+#[tactic(auto, unfolding(crate::specs::Table::linked))]
 fn put_linked(classes: &mut [u32], i: u32, x: u32)
     ensures { classes.new ≡ linked i x classes.old }
 {
@@ -23,17 +25,17 @@ fn put_linked(classes: &mut [u32], i: u32, x: u32)
 fn kids_class(sheet: &[u32], row: u32) -> u32
     ensures { result ≡ kids_class sheet.now row }
 {
-    let kind = word(sheet, row, column::KIND);
-    if kind == kind::CLASS {
-        return row;
+    if is_kind(sheet, row, Kind::Class) {
+        row
+    } else if is_kind(sheet, row, Kind::Literal) {
+        word(sheet, row, column::A)
+    } else {
+        0
     }
-    if kind == kind::LITERAL {
-        return word(sheet, row, column::A);
-    }
-    0
 }
 
 // Writes the entries of `row`'s child and next. The next has the class of the row itself.
+#[tactic(auto, unfolding(crate::specs::Table::row_done))]
 fn fill_row(sheet: &[u32], row: u32, classes: &mut [u32])
     ensures { classes.new ≡ row_done sheet.now row classes.old }
 {
@@ -48,9 +50,7 @@ pub fn class_table(sheet: &[u32], classes: &mut [u32])
     requires { ((O : Outside) × PastFour O sheet.now) × (rows sheet.now ≤ length classes.old) × (Clear classes.old) }
     ensures { ClassTable sheet.now classes.new }
 {
-    let mut r: u32 = 0;
-    while (r as usize) < sheet.len() / 8 {
-        fill_row(sheet, r, classes);
-        r += 1;
+    for row in 0..(sheet.len() / 8) as u32 {
+        fill_row(sheet, row, classes);
     }
 }

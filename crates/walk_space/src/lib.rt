@@ -5,8 +5,8 @@ ghost use Rattle.std.specs.Prelude.{◌≡◌, true, ◌≤◌, length};
 ghost use Rattle.definition.specs.Sheet.{rows};
 ghost use Rattle.machine.specs.Space.{nodes_of, nodes_for};
 
-use ast::{column, kind};
-use words::word;
+use ast::kind::Kind;
+use words::is_kind;
 
 // A small sheet has at most 320 rows and takes at most 3,360 nodes, as those do of which half of the rows are identifiers.
 const SMALL_SHEET: usize = 2560;
@@ -20,17 +20,13 @@ const MOST_FUNCTIONS: u32 = 21;
 fn nodes_of(sheet: &[u32], row: u32) -> u32
     ensures { (result ≡ nodes_of sheet.now row) × (result ≤ 21) }
 {
-    let kind = word(sheet, row, column::KIND);
-    if kind == kind::IDENTIFIER {
-        return MOST_FUNCTIONS;
+    if is_kind(sheet, row, Kind::Identifier) {
+        MOST_FUNCTIONS
+    } else if is_kind(sheet, row, Kind::Call) || is_kind(sheet, row, Kind::Assign) {
+        1
+    } else {
+        0
     }
-    if kind == kind::CALL {
-        return 1;
-    }
-    if kind == kind::ASSIGN {
-        return 1;
-    }
-    0
 }
 
 // How many nodes the walk may take.
@@ -38,11 +34,9 @@ pub fn nodes_for(sheet: &[u32]) -> u32
     requires { rows sheet.now ≤ 2048 }
     ensures { result ≡ nodes_for sheet.now }
 {
-    let mut need: u32 = 0;
-    let mut row: u32 = 0;
-    while (row as usize) < sheet.len() / 8 {
+    let mut need = 0;
+    for row in 0..(sheet.len() / 8) as u32 {
         need += nodes_of(sheet, row);
-        row += 1;
     }
     need
 }
@@ -51,8 +45,5 @@ pub fn nodes_for(sheet: &[u32]) -> u32
 pub fn is_small(sheet: &[u32]) -> bool
     ensures { result ≡ true → (length sheet.now ≤ 2560) × (nodes_for sheet.now ≤ 3360) }
 {
-    if sheet.len() > SMALL_SHEET {
-        return false;
-    }
-    nodes_for(sheet) <= SMALL_NODES
+    sheet.len() <= SMALL_SHEET && nodes_for(sheet) <= SMALL_NODES
 }

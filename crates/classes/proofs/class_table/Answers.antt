@@ -5,8 +5,8 @@ use native.Mathlib.Omega.{arith}
 use mathlib.Core.Path.{refl}
 use Rattle.classes.proofs.class_table.Goals as goal
 
-pub loop-r-init : goal.loop-r-init
-loop-r-init c = (
+pub loop-row-init : goal.loop-row-init
+loop-row-init c = (
   omega arith,
   (
     refl,
@@ -15,31 +15,18 @@ loop-r-init c = (
   ),
 )
 
-pub overflow_cast-r : goal.overflow_cast-r
-overflow_cast-r c = omega arith
-
-pub fill_row-requires : goal.fill_row-requires
-fill_row-requires c = tt
-
-pub overflow_add-r : goal.overflow_add-r
-overflow_add-r c =
-    omega (arith, rows_few c.args.sheet.now c.requires.0.1.whole)
-
-pub loop-r-smaller : goal.loop-r-smaller
-loop-r-smaller c = omega arith
-
-pub loop-r-preserved : goal.loop-r-preserved
-loop-r-preserved c = (
+pub loop-row-preserved : goal.loop-row-preserved
+loop-row-preserved c = (
   omega arith,
   next_turn c.requires.0.0 c.args.sheet.now c.requires.0.1 c.args.classes.now
-      c.loop-r.classes _ c.loop-r.r c.loop-r-test.true c.requires.1 c.loop-r.invariant.1
+      c.loop-row.classes _ c.loop-row.row c.loop-row-test.true c.requires.1 c.loop-row.invariant.1
       c.fill_row.ensures,
 )
 
 pub shape_of-classes : goal.shape_of-classes
-shape_of-classes c = c.loop-r.invariant.1.0
+shape_of-classes c = c.loop-row.invariant.1.0
 
 pub returns : goal.returns
 returns c =
-    filled_all c.requires.0.0 c.args.sheet.now c.requires.0.1 c.loop-r.classes c.loop-r.r
-    c.loop-r-test.false c.loop-r.invariant.1.1
+    filled_all c.requires.0.0 c.args.sheet.now c.requires.0.1 c.loop-row.classes c.loop-row.row
+    c.loop-row-test.false c.loop-row.invariant.1.1

@@ -6,8 +6,5 @@ use Prim.Native.Nat.{◌-◌, ◌≤◌}
 use mathlib.Core.Path.{◌≡◌}
 use Rattle.classes.proofs.class_table.Given as goal
 
-abbrev pub invariant-loop-r : goal.invariant-loop-r
-invariant-loop-r l = (l.r ≤ rows l.sheet) × ((length l.classes ≡ length l.initial.classes) × Filled l.sheet l.r l.classes)
-
-abbrev pub decreases-loop-r : goal.decreases-loop-r
-decreases-loop-r l = rows l.sheet - l.r
+abbrev pub invariant-loop-row : goal.invariant-loop-row
+invariant-loop-row l = (l.row ≤ rows l.sheet) × ((length l.classes ≡ length l.initial.classes) × Filled l.sheet l.row l.classes)

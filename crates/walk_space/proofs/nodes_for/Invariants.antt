@@ -7,6 +7,3 @@ use Rattle.walk_space.proofs.nodes_for.Given as goal
 
 abbrev pub invariant-loop-row : goal.invariant-loop-row
 invariant-loop-row l = (l.row ≤ rows l.sheet) × (l.need ≤ 21 * l.row) × (l.need ≡ total (nodes_of l.sheet) (from 0 l.row))
-
-abbrev pub decreases-loop-row : goal.decreases-loop-row
-decreases-loop-row l = rows l.sheet - l.row
