@@ -1,5 +1,5 @@
 -- What is read of a number: the kind that has it, and no other.
-use Rattle.std.proofs.Common.{◌≡◌, refl, sym, ap, ◌∙◌, ℕ, eqb, Option, Some, Result, Ok, Err, List, [], ◌∷◌}
+use Rattle.std.proofs.Common.{◌≡◌, refl, sym, ap, ◌∙◌, ℕ, eqb, Option, Some, Result, Ok, Err, [], ◌∷◌}
 use Rattle.std.specs.List.{find}
 use Rattle.ast.specs.declared.kind.Kind.{Kind}
 use Rattle.ast.specs.declared.kind.Kind.TheVariants.{Header, Unit as UnitKind, Import, Class, Function, FunctionExport, ConstantExport, Listed, Field, Parameter, ExpressionStatement, Assign, Return, Break, Continue, Block, If, For, Assert, Let, ClassDeclaration, Nil, True as TrueKind, False as FalseKind, Integer, Float, String, Bytes, Array, Dict, Pair, Identifier, HostConstant, Literal, Index, Member, Instanceof, Unary, Binary, Ternary, Call}
@@ -15,7 +15,7 @@ numbered n = find (λ x. eqb n (kind_number x)) (
     Integer ∷ Float ∷ String ∷ Bytes ∷ Array ∷ Dict ∷ Pair ∷ Identifier ∷
     HostConstant ∷ Literal ∷ Index ∷ Member ∷ Instanceof ∷ Unary ∷ Binary ∷ Ternary ∷
     Call ∷ []
-)
+    )
 
 numbered_own : (x : Kind) → numbered (kind_number x) ≡ Some x
 unfolding numbered
