@@ -1,5 +1,5 @@
 -- What is read of a number: the code that has it, and no other.
-use Rattle.std.proofs.Common.{◌≡◌, refl, sym, ap, ◌∙◌, ℕ, eqb, Option, Some, Result, Ok, Err, List, [], ◌∷◌}
+use Rattle.std.proofs.Common.{◌≡◌, refl, sym, ap, ◌∙◌, ℕ, eqb, Option, Some, Result, Ok, Err, [], ◌∷◌}
 use Rattle.std.specs.List.{find}
 use Rattle.ast.specs.declared.code.Code.{Code}
 use Rattle.ast.specs.declared.code.Code.TheVariants.{Nothing, Fun, Class, Global, Arg, Local, Captured, True as TrueCode, False as FalseCode, FunctionCounts, ClassCounts, Field, Method}
@@ -11,7 +11,7 @@ numbered : ℕ → Option Code
 numbered n = find (λ x. eqb n (code_number x)) (
     Nothing ∷ Fun ∷ Class ∷ Global ∷ Arg ∷ Local ∷ Captured ∷ TrueCode ∷
     FalseCode ∷ FunctionCounts ∷ ClassCounts ∷ Field ∷ Method ∷ []
-)
+    )
 
 numbered_own : (x : Code) → numbered (code_number x) ≡ Some x
 unfolding numbered

@@ -1,5 +1,8 @@
 -- What is read of a number: the kind that has it, and no other.
-use Rattle.std.proofs.Common.{◌≡◌, refl, sym, ap, ◌∙◌, ℕ, eqb, Option, Some, Result, Ok, Err, List, [], ◌∷◌}
+use denote.Enum.Bare.{sameb, same_true, same_false}
+use borrow.Author.Tests.{eq-eqb, ne_eqb}
+use Rattle.ast.specs.contracts.kind.Kind.{the_type}
+use Rattle.std.proofs.Common.{◌≡◌, refl, sym, ap, ◌∙◌, ℕ, Bool, true, false, rules, eqb, Option, Some, Result, Ok, Err, [], ◌∷◌}
 use Rattle.std.specs.List.{find}
 use Rattle.ast.specs.declared.kind.Kind.{Kind}
 use Rattle.ast.specs.declared.kind.Kind.TheVariants.{Header, Unit as UnitKind, Import, Class, Function, FunctionExport, ConstantExport, Listed, Field, Parameter, ExpressionStatement, Assign, Return, Break, Continue, Block, If, For, Assert, Let, ClassDeclaration, Nil, True as TrueKind, False as FalseKind, Integer, Float, String, Bytes, Array, Dict, Pair, Identifier, HostConstant, Literal, Index, Member, Instanceof, Unary, Binary, Ternary, Call}
@@ -15,7 +18,7 @@ numbered n = find (λ x. eqb n (kind_number x)) (
     Integer ∷ Float ∷ String ∷ Bytes ∷ Array ∷ Dict ∷ Pair ∷ Identifier ∷
     HostConstant ∷ Literal ∷ Index ∷ Member ∷ Instanceof ∷ Unary ∷ Binary ∷ Ternary ∷
     Call ∷ []
-)
+    )
 
 numbered_own : (x : Kind) → numbered (kind_number x) ≡ Some x
 unfolding numbered
@@ -73,3 +76,11 @@ kind_read n (Err y) x h e = absurd (h.1 x e)
 pub number_read : (n : ℕ) (r : Result Kind UnknownKind) (x : Kind) → ReadsKind n r → r ≡ Ok x → n ≡ kind_number x
 number_read n (Ok y) x h e = let q : y ≡ x = cc in h ∙ ap kind_number q
 number_read n (Err y) x h e = absurd (cc)
+
+-- a test of sameness by the derived `==`, as one of numbers
+pub same_kind : (x y : Kind) → sameb the_type x y ≡ eqb (kind_number x) (kind_number y)
+same_kind x y = go (sameb the_type x y) refl
+  where
+    go : (t : Bool) → sameb the_type x y ≡ t → t ≡ eqb (kind_number x) (kind_number y)
+    go true e = sym (eq-eqb (kind_number x) (kind_number y) (ap kind_number (same_true the_type (search rules) x y e)))
+    go false e = sym (ne_eqb (kind_number x) (kind_number y) (λ h. same_false the_type x y e (kind_of_number x y h)))

@@ -13,10 +13,10 @@ pub mod name;
 pub mod question;
 
 // The number of a function and the number of a class are two types: neither can be given for the other.
-#[derive(Clone, Copy)]
+#[derive(Clone, Copy, Debug, PartialEq, Eq)]
 pub struct FunId(pub u32);
 
-#[derive(Clone, Copy)]
+#[derive(Clone, Copy, Debug, PartialEq, Eq)]
 pub struct ClassId(pub u32);
 
 // The classes that are there without being declared.
@@ -41,7 +41,7 @@ pub const AUDIO_DATA_ID: ClassId = ClassId(102);
 // The number of the class of row 0: a class of the sheet has its row more.
 pub const FIRST_CLASS: u32 = 256;
 
-#[derive(Clone, Copy)]
+#[derive(Clone, Copy, Debug, PartialEq, Eq)]
 pub enum Decl {
     // Global function
     Fun {
@@ -79,16 +79,10 @@ impl Decl {
         ensures { result ≡ mutable self }
     {
         match self {
-            Decl::Fun { id: _ } => false,
-            Decl::Class { id: _ } => false,
-            Decl::Global { idx: _, mutable } => mutable,
-            Decl::Arg { idx: _, src_fun: _ } => false,
-            Decl::Local {
-                idx: _,
-                src_fun: _,
-                mutable,
-            } => mutable,
-            Decl::Captured { idx: _, mutable } => mutable,
+            Decl::Global { mutable, .. }
+            | Decl::Local { mutable, .. }
+            | Decl::Captured { mutable, .. } => mutable,
+            Decl::Fun { .. } | Decl::Class { .. } | Decl::Arg { .. } => false,
         }
     }
 

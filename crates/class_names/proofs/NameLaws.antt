@@ -6,6 +6,8 @@ use Prim.Native.Nat.{ℕ, zero, suc, ◌+◌, ◌-◌, ◌*◌, ◌<◌, ◌≤�
 use native.Mathlib.Omega.{arith}
 use lib.Dec.{eqb}
 use borrow.Author.Tests.{eq-eqb, ne_eqb, eqb-true}
+use Rattle.std.specs.List.{list_any}
+use Rattle.sheet.proofs.ChildLists.{eqb_flip}
 use Rattle.definition.specs.Basics.{when◌then◌else◌, filter, ◌∈?◌}
 use Rattle.definition.specs.Sheet.{Sheet, a, kids_of}
 use Rattle.definition.specs.Outside.{Outside, Method, record_of}
@@ -19,6 +21,11 @@ use Rattle.class_names.specs.Names.{row_names, own_in, names_in, inherited, new_
 pub or_false : (t : Bool) → (t || false) ≡ t
 or_false true = refl
 or_false false = refl
+
+-- whether a name is in a list, asked the other way round
+pub listed_any : (m : ℕ) (ns : List ℕ) → list_any (λ n. eqb n m) ns ≡ (m ∈? ns)
+listed_any m [] = refl
+listed_any m (n ∷ ns) = rw (eqb_flip n m) (ap (λ (t : Bool). eqb m n || t) (listed_any m ns))
 
 and_false : (t : Bool) → (t && false) ≡ false
 and_false true = refl

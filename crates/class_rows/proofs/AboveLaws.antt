@@ -1,4 +1,5 @@
 -- What stands above a class: the rows of its parent, as the table of places tells.
+use Rattle.ast.specs.Kind.{kind_number}
 use mathlib.Core.Path.{◌≡◌, refl, sym, ap, subst, ◌∙◌}
 use mathlib.Core.Bool.{Bool, true, false, not, ◌&&◌, ◌||◌}
 use mathlib.Core.List.{List, map}
@@ -180,8 +181,8 @@ shown_counted {j = j} {w = w} {a = a} h f o = ((h f o).parent, sym (column_lengt
 
 -- The same of what is wanted of the class of row r.
 module _ (O : Outside) (s t q : List ℕ) {r j : ℕ} {u : Wanted} (h : Wants r j u) where
-  pub shown_wanted : {w : List ℕ} {k : ℕ} {a : Above} → Shown O s t q j (256 + r) w k a → Shown O s t q u.kind u.class.0 w k a
+  pub shown_wanted : {w : List ℕ} {k : ℕ} {a : Above} → Shown O s t q j (256 + r) w k a → Shown O s t q (kind_number u.kind) u.class.0 w k a
   shown_wanted g = rw (h.kind_is, h.class_is) g
 
-  pub counted_wanted : {a : Above} → Counted O s t q j (256 + r) a → Counted O s t q u.kind u.class.0 a
+  pub counted_wanted : {a : Above} → Counted O s t q j (256 + r) a → Counted O s t q (kind_number u.kind) u.class.0 a
   counted_wanted g = rw (h.kind_is, h.class_is) g

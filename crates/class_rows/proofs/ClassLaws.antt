@@ -1,4 +1,5 @@
 -- The rows of a class: its first row, then the rows that tell its names.
+use Rattle.ast.specs.Kind.{kind_number}
 use mathlib.Core.Path.{◌≡◌, refl, sym, ap, ◌∙◌}
 use mathlib.Core.Bool.{not}
 use mathlib.Core.List.{List, [], ◌∷◌, ◌++◌, map}
@@ -31,10 +32,10 @@ pub bit_set : (x : ℕ) → (x ≡ 0 → ⊥) → 1 ≡ bit (not (eqb x 0))
 bit_set x f = rw (ne_eqb x 0 f)
 
 -- The names that are wanted.
-wanted_fields : (O : Outside) (s : Sheet) (o : Stored) {r : ℕ} {w : Wanted} → Wants r 10 w → names_in O s o w.kind (rows s) w.class.0 ≡ fields_in O s o (rows s) (256 + r)
+wanted_fields : (O : Outside) (s : Sheet) (o : Stored) {r : ℕ} {w : Wanted} → Wants r 10 w → names_in O s o (kind_number w.kind) (rows s) w.class.0 ≡ fields_in O s o (rows s) (256 + r)
 wanted_fields O s o {r} h = rw (h.kind_is, h.class_is) (names_fields O s o (rows s) (256 + r))
 
-wanted_methods : (O : Outside) (s : Sheet) (o : Stored) {r : ℕ} {w : Wanted} → Wants r 6 w → names_in O s o w.kind (rows s) w.class.0 ≡ method_names_in O s o (rows s) (256 + r)
+wanted_methods : (O : Outside) (s : Sheet) (o : Stored) {r : ℕ} {w : Wanted} → Wants r 6 w → names_in O s o (kind_number w.kind) (rows s) w.class.0 ≡ method_names_in O s o (rows s) (256 + r)
 wanted_methods O s o {r} h = rw (h.kind_is, h.class_is) (names_methods O s o (rows s) (256 + r))
 
 -- The first row.
@@ -43,8 +44,8 @@ module _ (O : Outside) (s t q marks : List ℕ) (r : ℕ) (h : ClassReady O s t 
   st = store_of o t q
 
   pub head_row : {p b f m : ℕ} {u v : Wanted} → p ≡ parent_in s st (256 + r) → b ≡ bit (not (eqb (get_or marks r 0) 0))
-      → Wants r 10 u → f ≡ min (length (names_in O s st u.kind (rows s) u.class.0)) 4294967295
-      → Wants r 6 v → m ≡ min (length (names_in O s st v.kind (rows s) v.class.0)) 4294967295
+      → Wants r 10 u → f ≡ min (length (names_in O s st (kind_number u.kind) (rows s) u.class.0)) 4294967295
+      → Wants r 6 v → m ≡ min (length (names_in O s st (kind_number v.kind) (rows s) v.class.0)) 4294967295
       → r ∷ 22 ∷ p ∷ b ∷ f ∷ m ∷ 0 ∷ 0 ∷ [] ≡ eight (r ∷ head_words O s st r)
   unfolding head_words
   head_row {p} {b} {f} {m} {u} {v} d e x g y i = rw (d, e ∙ ap bit (h.marked.told o q r h.row), fields_equal, methods_equal)
@@ -83,14 +84,14 @@ module _ (O : Outside) (s : Sheet) (o : Stored) (r : ℕ) (w : Wanted) (k : Fill
   method_row h m i = rw (h.kind_is, h.row_is, h.class_is)
 
   pub fields_told : {x : Filled} → Wants r 10 w → length (fields_in O s o (rows s) (256 + r)) ≤ 4294967295 → k.slot ≡ 0
-      → x ≡ put_all (name_row O s o w) (names_in O s o w.kind (rows s) w.class.0) k
+      → x ≡ put_all (name_row O s o w) (names_in O s o (kind_number w.kind) (rows s) w.class.0) k
       → x.done ≡ emit_all (map (λ vs. eight (r ∷ vs)) (numbered 0 (fields_in O s o (rows s) (256 + r)))) k.done
   fields_told h l z e =
       ap (λ (y : Filled). y.done) (e ∙ ap (λ (ms : List ℕ). put_all (name_row O s o w) ms k) (wanted_fields O s o h))
       ∙ field_rows_lem (name_row O s o w) r (field_row h) (fields_in O s o (rows s) (256 + r)) k (omega arith)
       ∙ ap (λ (i : ℕ). emit_all (map (λ vs. eight (r ∷ vs)) (numbered i (fields_in O s o (rows s) (256 + r)))) k.done) z
 
-  pub methods_told : {x : Filled} → Wants r 6 w → x ≡ put_all (name_row O s o w) (names_in O s o w.kind (rows s) w.class.0) k
+  pub methods_told : {x : Filled} → Wants r 6 w → x ≡ put_all (name_row O s o w) (names_in O s o (kind_number w.kind) (rows s) w.class.0) k
       → x.done ≡ emit_all (map (λ vs. eight (r ∷ vs)) (map (λ n. 24 ∷ n ∷ method_named n (methods_in O s o (rows s) (256 + r)) ∷ []) (method_names_in O s o (rows s) (256 + r)))) k.done
   methods_told h e =
       ap (λ (y : Filled). y.done) (e ∙ ap (λ (ms : List ℕ). put_all (name_row O s o w) ms k) (wanted_methods O s o h))

@@ -11,6 +11,7 @@ ghost use Rattle.store.specs.Stored.{store_of};
 ghost use Rattle.store.specs.declared.nodes.Store.{Store};
 ghost use Rattle.class_names.specs.Names.{ClassReady, head_words};
 ghost use Rattle.name_rows.specs.Put.{Wants, words_of};
+ghost use Rattle.ast.specs.Kind.{kind_number};
 ghost use Rattle.class_rows.specs.Places.{Placed, Shown, Counted};
 
 mod line;
@@ -18,7 +19,8 @@ mod places;
 
 use crate::line::{count_line, put_line};
 use crate::places::{Inherited, above_of, line_ends, place_of};
-use ast::{ClassId, FIRST_CLASS, code, kind};
+use ast::kind::Kind;
+use ast::{ClassId, FIRST_CLASS, code};
 use inherit::parent_of;
 use name_rows::put::{Wanted, Written};
 use sink::{AnswerRow, emit};
@@ -31,14 +33,13 @@ fn mark_bit(subclassed: &[u32], row: u32) -> u32
     requires { row < length subclassed.now }
     ensures { result ≡ bit (not (eqb (get_or subclassed.now row 0) 0)) }
 {
-    let i = row as usize;
-    if subclassed[i] == 0 { 0 } else { 1 }
+    (subclassed[row as usize] != 0) as u32
 }
 
 // What is wanted of the class of `row`: the names of the rows of a kind.
-fn wanted(row: u32, kind: u32) -> Wanted
+fn wanted(row: u32, kind: Kind) -> Wanted
     requires { row < 2048 }
-    ensures { Wants row kind result }
+    ensures { Wants row (kind_number kind) result }
 {
     Wanted {
         kind: kind,
@@ -71,7 +72,7 @@ fn class_head(
         outside,
         results,
         nodes,
-        wanted(row, kind::FIELD),
+        wanted(row, Kind::Field),
         above.fields,
     );
     let method_count = count_line(
@@ -79,7 +80,7 @@ fn class_head(
         outside,
         results,
         nodes,
-        wanted(row, kind::FUNCTION),
+        wanted(row, Kind::Function),
         above.methods,
     );
     AnswerRow {
@@ -122,7 +123,7 @@ fn write_class(
         outside,
         results,
         nodes,
-        wanted(row, kind::FIELD),
+        wanted(row, Kind::Field),
         above.fields,
         first,
         out,
@@ -136,7 +137,7 @@ fn write_class(
         outside,
         results,
         nodes,
-        wanted(row, kind::FUNCTION),
+        wanted(row, Kind::Function),
         above.methods,
         second,
         out,
@@ -173,8 +174,8 @@ pub fn emit_class(
     let parent = parent_of(sheet, results, ClassId(FIRST_CLASS + row));
     let at = place_of(starts, parent);
     let above = Inherited {
-        fields: above_of(out, at, kind::FIELD),
-        methods: above_of(out, at, kind::FUNCTION),
+        fields: above_of(out, at, Kind::Field),
+        methods: above_of(out, at, Kind::Function),
     };
     let count = write_class(
         sheet, outside, results, nodes, subclassed, above, row, k, out,

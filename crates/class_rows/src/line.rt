@@ -6,6 +6,7 @@ ghost use Rattle.store.specs.Stored.{store_of};
 ghost use Rattle.store.specs.declared.nodes.Store.{Store};
 ghost use Rattle.class_names.specs.Names.{names_in};
 ghost use Rattle.name_rows.specs.Put.{filled, name_row, put_all};
+ghost use Rattle.ast.specs.Kind.{kind_number};
 ghost use Rattle.class_rows.specs.Places.{Shown, Counted};
 
 use crate::places::Above;
@@ -25,10 +26,10 @@ pub fn put_line(
     out: &mut [u32],
 ) -> Written
     requires { (0 < rows sheet.now) ×
-        (Shown (over outside.now) sheet.now results.now nodes.now wanted.kind wanted.class.0 out.old k.count a) }
+        (Shown (over outside.now) sheet.now results.now nodes.now (kind_number wanted.kind) wanted.class.0 out.old k.count a) }
     ensures { (o : Store) → filled result out.new
         ≡ put_all (name_row (over outside.now) sheet.now (store_of o results.now nodes.now) wanted)
-        (names_in (over outside.now) sheet.now (store_of o results.now nodes.now) wanted.kind
+        (names_in (over outside.now) sheet.now (store_of o results.now nodes.now) (kind_number wanted.kind)
         (rows sheet.now) wanted.class.0) (filled k out.old) }
 {
     let n = sheet.len() / 8;
@@ -53,10 +54,10 @@ pub fn count_line(
     wanted: Wanted,
     a: Above,
 ) -> u32
-    requires { (0 < rows sheet.now) × (Counted (over outside.now) sheet.now results.now nodes.now wanted.kind wanted.class.0 a) }
+    requires { (0 < rows sheet.now) × (Counted (over outside.now) sheet.now results.now nodes.now (kind_number wanted.kind) wanted.class.0 a) }
     ensures { (o : Store) → result ≡ min
         (length (names_in (over outside.now) sheet.now (store_of o results.now nodes.now)
-        wanted.kind (rows sheet.now) wanted.class.0)) 4294967295 }
+        (kind_number wanted.kind) (rows sheet.now) wanted.class.0)) 4294967295 }
 {
     let n = sheet.len() / 8;
     let c = wanted.class;

@@ -1,9 +1,11 @@
 // Where the rows of classes stand in the answer words: a table with an entry for each sheet row.
 ghost use Rattle.std.specs.Prelude.{◌≡◌, not, ◌&&◌, ◌||◌, ◌/◌, ◌≤◌, eqb, ltb, length};
 ghost use Rattle.definition.specs.Classes.{of_sheet};
+ghost use Rattle.ast.specs.Kind.{kind_number};
 ghost use Rattle.class_rows.specs.Places.{place_of, above_of};
 
-use ast::{ClassId, FIRST_CLASS, kind};
+use ast::kind::Kind;
+use ast::{ClassId, FIRST_CLASS};
 use sheet::is_class_row;
 
 // Where the names of a class stand: their first row and their number. Row 0: nowhere.
@@ -21,29 +23,28 @@ pub struct Inherited {
 }
 
 // The entry of class `c`: one more than the answer row where it begins, or 0.
+#[tactic(auto, unfolding(crate::specs::Places::place_of))]
 pub fn place_of(starts: &[usize], c: ClassId) -> usize
     ensures { result ≡ place_of starts.now c.0 }
 {
-    if c.0 >= FIRST_CLASS {
-        let i = (c.0 - FIRST_CLASS) as usize;
-        if i < starts.len() {
-            return starts[i];
-        }
+    match c.0.checked_sub(FIRST_CLASS) {
+        Some(row) => starts.get(row as usize).copied().unwrap_or(0),
+        None => 0,
     }
-    0
 }
 
 // Where the names of a class of entry `at` stand.
-pub fn above_of(out: &[u32], at: usize, kind: u32) -> Above
+#[tactic(auto, using(ast::proofs::KindLaws::same_kind), unfolding(crate::specs::Places::above_of))]
+pub fn above_of(out: &[u32], at: usize, kind: Kind) -> Above
     requires { at ≤ length out.now / 8 }
-    ensures { result ≡ above_of out.now at kind }
+    ensures { result ≡ above_of out.now at (kind_number kind) }
 {
     if at == 0 {
         return Above { row: 0, count: 0 };
     }
     let first = 8 * (at - 1);
     let fields = out[first + 4];
-    if kind == kind::FIELD {
+    if kind == Kind::Field {
         return Above {
             row: at,
             count: fields,
@@ -60,11 +61,5 @@ pub fn above_of(out: &[u32], at: usize, kind: u32) -> Above
 pub fn line_ends(sheet: &[u32], at: usize, c: ClassId, row: u32) -> bool
     ensures { result ≡ (not (eqb at 0) || (not (of_sheet sheet.now c.0) && ltb 0 row)) }
 {
-    if at != 0 {
-        return true;
-    }
-    if !is_class_row(sheet, c) {
-        return 0 < row;
-    }
-    false
+    at != 0 || !is_class_row(sheet, c) && 0 < row
 }

@@ -1,32 +1,17 @@
 -- Rows copied from rows written before.
 use mathlib.Core.Path.{◌≡◌, sym, ap, ◌∙◌}
-use mathlib.Core.List.{List, [], ◌∷◌}
+use mathlib.Core.List.{List}
 use Prim.Native.Nat.{ℕ, suc, ◌+◌, ◌-◌, ◌*◌, ◌/◌, ◌<◌, ◌≤◌}
 use native.Mathlib.Omega.{arith}
-use lib.Dec.{eqb}
 use lib.ListN.{length, get_or}
-use borrow.Author.Tests.{eq-eqb, ne_eqb}
-use Rattle.definition.specs.Basics.{when◌then◌else◌, from}
+use Rattle.definition.specs.Basics.{from}
 use Rattle.definition.specs.Sheet.{Sheet}
 use Rattle.definition.specs.Outside.{Outside}
-use Rattle.definition.specs.Classes.{own_methods, method_named}
 use Rattle.sink.specs.Sink.{sink}
 use Rattle.name_rows.specs.Put.{Filled, put, put_all, copied_row}
 use Rattle.name_rows.specs.declared.put.Wanted.{Wanted}
 use Rattle.name_rows.proofs.KeptLaws.{Kept, emit_kept, kept_then}
 use Rattle.name_rows.proofs.PutLaws.{put_none}
-
--- A copied row, by its kind.
-module _ (O : Outside) (s : Sheet) (w : Wanted) (v : List ℕ) (i k : ℕ) where
-  pub copied_field : w.kind ≡ 10 → w.row ∷ 23 ∷ k ∷ get_or v (8 * i + 3) 0 ∷ 0 ∷ 0 ∷ 0 ∷ 0 ∷ [] ≡ copied_row O s w v i k
-  unfolding copied_row
-  copied_field e = rw (eq-eqb w.kind 10 e)
-
-  pub copied_method : (x : ℕ) → (w.kind ≡ 10 → ⊥)
-      → x ≡ (when eqb (method_named (get_or v (8 * i + 2) 0) (own_methods O s w.class.0)) 0 then get_or v (8 * i + 3) 0 else method_named (get_or v (8 * i + 2) 0) (own_methods O s w.class.0))
-      → w.row ∷ 24 ∷ get_or v (8 * i + 2) 0 ∷ x ∷ 0 ∷ 0 ∷ 0 ∷ 0 ∷ [] ≡ copied_row O s w v i k
-  unfolding copied_row
-  copied_method x f e = rw (ne_eqb w.kind 10 f, e)
 
 -- The rows of a range, copied one after another.
 module _ (O : Outside) (s : Sheet) (w : Wanted) where

@@ -5,33 +5,21 @@ use mathlib.Core.List.{List, [], ◌∷◌, ◌++◌, map, append-nil}
 use Prim.Native.Nat.{ℕ, zero, suc, ◌+◌, ◌-◌, ◌*◌, ◌<◌, ◌≤◌, min}
 use native.Mathlib.Omega.{arith}
 use lib.Dec.{ltb}
-use lib.ListN.{length, get_or}
+use lib.ListN.{length}
 use borrow.Author.Tests.{eq-eqb, ne_eqb, ltb-true, ltb-false}
-use Rattle.definition.specs.Basics.{when◌then◌else◌, filter, ◌∈?◌}
-use Rattle.definition.specs.Sheet.{Sheet, kind, next, child, a, rows, chain, is, kids_of}
+use Rattle.definition.specs.Basics.{when◌then◌else◌, ◌∈?◌}
+use Rattle.definition.specs.Sheet.{Sheet, a, kids_of}
 use Rattle.definition.specs.Outside.{Outside}
-use Rattle.outside.specs.Words.{spaced_at}
 use Rattle.outside.specs.Found.{recorded_names}
-use Rattle.definition.specs.Classes.{of_sheet, method_named}
+use Rattle.definition.specs.Classes.{of_sheet}
 use Rattle.definition.proofs.Lists.Members.{filter_append}
 use Rattle.machine.specs.Machine.{Store, Node, one_more, cell, node_word, node_at, previous, chain_to, list_at}
 use Rattle.machine.proofs.ByKind.{list_none, list_more}
-use Rattle.after.specs.Inherited.{parent_in, methods_in}
+use Rattle.after.specs.Inherited.{parent_in}
 use Rattle.sink.specs.Sink.{Sink, emit}
 use Rattle.class_names.specs.Names.{row_names, own_in, names_in, inherited, new_of}
-use Rattle.name_rows.specs.Put.{Filled, name_row, put, put_all}
-use Rattle.name_rows.specs.declared.put.Wanted.{Wanted}
+use Rattle.name_rows.specs.Put.{Filled, put, put_all}
 use Rattle.class_names.proofs.NameLaws.{names_split}
-
--- the row that tells a name
-pub row_field : (O : Outside) (s : Sheet) (o : Store) (w : Wanted) (m i : ℕ) → w.kind ≡ 10 → w.row ∷ 23 ∷ i ∷ m ∷ 0 ∷ 0 ∷ 0 ∷ 0 ∷ [] ≡ name_row O s o w m i
-unfolding name_row
-row_field O s o w m i e = rw (eq-eqb w.kind 10 e)
-
-pub row_method : (O : Outside) (s : Sheet) (o : Store) (w : Wanted) (m i x : ℕ) → (w.kind ≡ 10 → ⊥) → x ≡ method_named m (methods_in O s o (rows s) w.class.0)
-    → w.row ∷ 24 ∷ m ∷ x ∷ 0 ∷ 0 ∷ 0 ∷ 0 ∷ [] ≡ name_row O s o w m i
-unfolding name_row
-row_method O s o w m i x f e = rw (ne_eqb w.kind 10 f, e)
 
 -- A name, and the names of a list, by the row f that tells a name at a slot; up are the inherited names.
 module _ (f : ℕ → ℕ → List ℕ) where
@@ -67,65 +55,12 @@ module _ (f : ℕ → ℕ → List ℕ) where
     new_first : (m : ℕ) (ms : List ℕ) (k : Filled) {x : Filled} → x ≡ put_all f (new_of up (m ∷ [])) k → put_all f (new_of up ms) x ≡ put_all f (new_of up (m ∷ ms)) k
     new_first m ms k e = new_both (m ∷ []) ms k e refl
 
-    -- n words from place p on, every d-th; m is the first
-    module _ (w : List ℕ) (d p n : ℕ) (k : Filled) where
-      pub spaced_end : n ≤ 0 → k ≡ put_all f (new_of up (spaced_at w d p n)) k
-      unfolding spaced_at
-      spaced_end l = let z : n ≡ 0 = omega arith in put_none k ∙ sym (ap (λ (i : ℕ). put_all f (new_of up (spaced_at w d p i)) k) z)
+    -- a list of names from its first on, and at its end
+    pub new_rest : {m : ℕ} {ms all : List ℕ} (k : Filled) {x : Filled} → all ≡ m ∷ ms → x ≡ put_all f (new_of up (m ∷ [])) k → put_all f (new_of up ms) x ≡ put_all f (new_of up all) k
+    new_rest {m} {ms} {all} k e h = new_first m ms k h ∙ ap (λ (l : List ℕ). put_all f (new_of up l) k) (sym e)
 
-      pub spaced_next : {m : ℕ} {x : Filled} → 0 < n → m ≡ get_or w p 0 → x ≡ put_all f (new_of up (m ∷ [])) k
-          → put_all f (new_of up (spaced_at w d (p + d) (n - 1))) x ≡ put_all f (new_of up (spaced_at w d p n)) k
-      unfolding spaced_at
-      spaced_next {m} l g e =
-          let z : n ≡ suc (n - 1) = omega arith in
-          new_first m (spaced_at w d (p + d) (n - 1)) k e ∙ ap (λ (i : ℕ). put_all f (new_of up (i ∷ spaced_at w d (p + d) (n - 1))) k) g
-          ∙ sym (ap (λ (i : ℕ). put_all f (new_of up (spaced_at w d p i)) k) z)
-
--- The names of the children of a kind, where n rows are left to look at from row k on.
-abbrev pub names_from : Sheet → ℕ → ℕ → ℕ → List ℕ
-names_from s j n k = map (a s) (filter (is s j) (chain n s k))
-
-chain_none : (s : Sheet) (n k : ℕ) → n ≤ 0 → chain n s k ≡ []
-chain_none s zero k l = refl
-chain_none s (suc n) k l = absurd (omega arith)
-
-chain_end : (s : Sheet) (n k : ℕ) → k ≡ 0 → chain n s k ≡ []
-chain_end s zero k e = refl
-chain_end s (suc n) zero e = refl
-chain_end s (suc n) (suc k) e = absurd (omega arith)
-
-chain_step : (s : Sheet) (n k : ℕ) → 0 < n → (k ≡ 0 → ⊥) → chain n s k ≡ k ∷ chain (n - 1) s (next s k)
-chain_step s zero k l f = absurd (omega arith)
-chain_step s (suc n) zero l f = absurd (f refl)
-chain_step s (suc n) (suc k) l f = let e : suc n - 1 ≡ n = omega arith in rw e
-
-module _ (f : ℕ → ℕ → List ℕ) (up : List ℕ) (s : Sheet) (j : ℕ) where
-  -- the rows of kind j of a chain
-  abbrev of_kind : List ℕ → List ℕ
-  of_kind ks = map (a s) (filter (is s j) ks)
-
-  pub listed_start : (r x : ℕ) (k : Filled) → x ≡ child s r → put_all f (new_of up (names_from s j (rows s) x)) k ≡ put_all f (new_of up (map (a s) (kids_of s j r))) k
-  listed_start r x k e = rw e
-
-  pub listed_none : (n x : ℕ) (k : Filled) → n ≤ 0 → k ≡ put_all f (new_of up (names_from s j n x)) k
-  listed_none n x k l = put_none f k ∙ ap (λ (ks : List ℕ). put_all f (new_of up (of_kind ks)) k) (sym (chain_none s n x l))
-
-  pub listed_end : (n x : ℕ) (k : Filled) → x ≡ 0 → k ≡ put_all f (new_of up (names_from s j n x)) k
-  listed_end n x k e = put_none f k ∙ ap (λ (ks : List ℕ). put_all f (new_of up (of_kind ks)) k) (sym (chain_end s n x e))
-
-  -- row x, of which y is the next
-  module _ (n x : ℕ) (k : Filled) (l : 0 < n) (g : x ≡ 0 → ⊥) {y : ℕ} (to : y ≡ next s x) where
-    step : put_all f (new_of up (names_from s j n x)) k ≡ put_all f (new_of up (of_kind (x ∷ chain (n - 1) s y))) k
-    step = ap (λ (ks : List ℕ). put_all f (new_of up (of_kind ks)) k) (chain_step s n x l g ∙ ap (λ (i : ℕ). x ∷ chain (n - 1) s i) (sym to))
-
-    pub listed_here : {z m : ℕ} {d : Filled} → z ≡ kind s x → z ≡ j → m ≡ a s x → d ≡ put_all f (new_of up (m ∷ [])) k
-        → put_all f (new_of up (names_from s j (n - 1) y)) d ≡ put_all f (new_of up (names_from s j n x)) k
-    listed_here {m = m} w e h q =
-        new_first f up m (names_from s j (n - 1) y) k q
-        ∙ sym (step ∙ rw (eq-eqb (kind s x) j (sym w ∙ e), sym h))
-
-    pub listed_skip : {z : ℕ} → z ≡ kind s x → (z ≡ j → ⊥) → put_all f (new_of up (names_from s j (n - 1) y)) k ≡ put_all f (new_of up (names_from s j n x)) k
-    listed_skip w e = sym (step ∙ rw (ne_eqb (kind s x) j (λ h. e (w ∙ h))))
+    pub new_end : {ms : List ℕ} (k : Filled) → ms ≡ [] → k ≡ put_all f (new_of up ms) k
+    new_end k e = put_none k ∙ ap (λ (l : List ℕ). put_all f (new_of up l) k) (sym e)
 
 -- The keys of a list of nodes.
 abbrev pub keys_to : List ℕ → ℕ → List ℕ

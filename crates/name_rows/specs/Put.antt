@@ -1,4 +1,5 @@
 -- The rows that tell names, written one after another.
+use Rattle.ast.specs.Kind.{kind_number}
 use Rattle.std.specs.Prelude.{◌≡◌, List, [], ◌∷◌, ℕ, ◌+◌, ◌*◌, eqb, get_or}
 use Rattle.definition.specs.Basics.{when◌then◌else◌}
 use Rattle.definition.specs.Sheet.{Sheet, rows}
@@ -15,7 +16,7 @@ use Rattle.name_rows.specs.declared.put.Written.{Written}
 
 -- The names of kind j of the class of row r are wanted.
 pub record Wants (r j : ℕ) (w : Wanted) : Type 0 where
-  pub kind_is : w.kind ≡ j
+  pub kind_is : kind_number w.kind ≡ j
   pub row_is : w.row ≡ r
   pub class_is : w.class.0 ≡ 256 + r
 
@@ -34,7 +35,7 @@ words_of x = x.row ∷ x.code ∷ x.one ∷ x.two ∷ x.three ∷ x.four ∷ 0 �
 -- the row that tells name m: a field by its slot, a method by its function
 unfoldable pub name_row : Outside → Sheet → Stored → Wanted → ℕ → ℕ → List ℕ
 name_row O s o w m i =
-    when eqb w.kind 10 then w.row ∷ 23 ∷ i ∷ m ∷ 0 ∷ 0 ∷ 0 ∷ 0 ∷ []
+    when eqb (kind_number w.kind) 10 then w.row ∷ 23 ∷ i ∷ m ∷ 0 ∷ 0 ∷ 0 ∷ 0 ∷ []
     else w.row ∷ 24 ∷ m ∷ method_named m (methods_in O s o (rows s) w.class.0) ∷ 0 ∷ 0 ∷ 0 ∷ 0 ∷ []
 
 -- one name more, and the names of a list, by the row f that tells a name at a slot
@@ -47,7 +48,7 @@ put_all f (m ∷ ms) k = put_all f ms (put f m k)
 
 -- the names of a list that are not inherited from the parent p
 abbrev pub put_new : Outside → Sheet → Stored → Wanted → Passed → List ℕ → Filled → Filled
-put_new O s o w p ms k = put_all (name_row O s o w) (new_of (inherited O s o w.kind p.left p.class.0) ms) k
+put_new O s o w p ms k = put_all (name_row O s o w) (new_of (inherited O s o (kind_number w.kind) p.left p.class.0) ms) k
 
 -- the row that tells the name of row i of the words v, at slot k: a method by the own function of that name, else by that of row i
 unfoldable pub copied_row : Outside → Sheet → Wanted → List ℕ → ℕ → ℕ → List ℕ
@@ -55,4 +56,4 @@ copied_row O s w v i k =
     let m : ℕ = get_or v (8 * i + 2) 0 in
     let f : ℕ = get_or v (8 * i + 3) 0 in
     let own : ℕ = method_named m (own_methods O s w.class.0) in
-    when eqb w.kind 10 then w.row ∷ 23 ∷ k ∷ f ∷ 0 ∷ 0 ∷ 0 ∷ 0 ∷ [] else w.row ∷ 24 ∷ m ∷ (when eqb own 0 then f else own) ∷ 0 ∷ 0 ∷ 0 ∷ 0 ∷ []
+    when eqb (kind_number w.kind) 10 then w.row ∷ 23 ∷ k ∷ f ∷ 0 ∷ 0 ∷ 0 ∷ 0 ∷ [] else w.row ∷ 24 ∷ m ∷ (when eqb own 0 then f else own) ∷ 0 ∷ 0 ∷ 0 ∷ 0 ∷ []

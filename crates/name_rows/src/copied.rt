@@ -6,7 +6,8 @@ ghost use Rattle.outside.specs.Words.{over};
 ghost use Rattle.name_rows.specs.Put.{filled, words_of, copied_row, put, put_all};
 
 use crate::put::{Wanted, Written};
-use ast::{ClassId, FunId, code, kind};
+use ast::kind::Kind;
+use ast::{ClassId, FunId, code};
 use outside::records::own_method;
 use sink::{AnswerRow, emit};
 use words::one_more;
@@ -22,6 +23,7 @@ fn own_or(sheet: &[u32], outside: &[u32], c: ClassId, m: u32, f: FunId) -> FunId
 }
 
 // The name that row `at` tells, told of the wanted class at slot `i`.
+#[tactic(auto, using(ast::proofs::KindLaws::same_kind), unfolding(crate::specs::Put::copied_row))]
 fn copied_row(
     sheet: &[u32],
     outside: &[u32],
@@ -34,7 +36,7 @@ fn copied_row(
     ensures { words_of result ≡ copied_row (over outside.now) sheet.now wanted out.now at i }
 {
     let last = out[8 * at + 3];
-    if wanted.kind == kind::FIELD {
+    if wanted.kind == Kind::Field {
         return AnswerRow {
             row: wanted.row,
             code: code::FIELD,
@@ -94,12 +96,8 @@ pub fn put_copied(
         (filled k out.old) }
 {
     let mut done = k;
-    let mut at = i;
-    let mut left = n;
-    while 0 < left {
+    for at in i..i + n as usize {
         done = put_copy(sheet, outside, wanted, at, done, out);
-        at += 1;
-        left -= 1;
     }
     done
 }

@@ -2,27 +2,30 @@
 ghost use Rattle.std.specs.Prelude.{◌≡◌, List, [], ◌∷◌, map, ℕ, min, length};
 ghost use Rattle.definition.specs.Sheet.{a, kids_of};
 ghost use Rattle.outside.specs.Words.{over};
-ghost use Rattle.outside.specs.Found.{listed};
+ghost use Rattle.ast.specs.Kind.{kind_number};
+ghost use Rattle.outside.specs.Left.{names_left};
 ghost use Rattle.machine.specs.Machine.{chain_to};
 ghost use Rattle.store.specs.Stored.{store_of};
 ghost use Rattle.store.specs.declared.nodes.Store.{Store};
 ghost use Rattle.class_names.specs.Names.{own_in, names_in};
 ghost use Rattle.name_rows.specs.Put.{filled, words_of, name_row, put, put_all, put_new};
 
-use ast::{ClassId, FIRST_CLASS, code, column, kind};
+use ast::kind::Kind;
+use ast::{ClassId, FIRST_CLASS, code, column};
 use class_names::held::is_inherited;
 use inherit::{find_method, parent_of};
-use outside::records::{Listed, recorded_names, step_of};
-use sheet::is_class_row;
+use outside::recorded_names::RecordedNames;
+use outside::records::recorded_names;
+use sheet::{is_class_row, kids_of};
 use sink::{AnswerRow, emit};
 use store::nodes::{node_before, node_word};
 use store::{node, result};
-use words::{one_more, word, word_at};
+use words::{one_more, word};
 
 // Whose names are written, and which: the kind of their rows, the class's row, the class.
 #[derive(Clone, Copy)]
 pub struct Wanted {
-    pub kind: u32,
+    pub kind: Kind,
     pub row: u32,
     pub class: ClassId,
 }
@@ -42,6 +45,7 @@ pub struct Passed {
 }
 
 // The row that tells name `m` at slot `i`.
+#[tactic(auto, using(ast::proofs::KindLaws::same_kind), unfolding(crate::specs::Put::name_row))]
 fn name_row(
     sheet: &[u32],
     outside: &[u32],
@@ -53,7 +57,7 @@ fn name_row(
     ensures { (o : Store) (nodes : List ℕ) → words_of result
         ≡ name_row (over outside.now) sheet.now (store_of o results.now nodes) wanted m i }
 {
-    if wanted.kind == kind::FIELD {
+    if wanted.kind == Kind::Field {
         return AnswerRow {
             row: wanted.row,
             code: code::FIELD,
@@ -136,32 +140,17 @@ fn put_recorded(
     nodes: &[u32],
     wanted: Wanted,
     p: Passed,
-    names: Listed,
+    names: RecordedNames,
     k: Written,
     out: &mut [u32],
 ) -> Written
     ensures { (o : Store) → filled result out.new
         ≡ put_new (over outside.now) sheet.now (store_of o results.now nodes.now) wanted p
-        (listed outside.now names) (filled k out.old) }
+        (names_left names.entry) (filled k out.old) }
 {
-    let step = step_of(names.kind);
     let mut done = k;
-    let mut at = names.at as usize;
-    let mut left = names.count;
-    while 0 < left {
-        done = put_new(
-            sheet,
-            outside,
-            results,
-            nodes,
-            wanted,
-            p,
-            word_at(outside, at),
-            done,
-            out,
-        );
-        at += step;
-        left -= 1;
+    for name in names {
+        done = put_new(sheet, outside, results, nodes, wanted, p, name, done, out);
     }
     done
 }
@@ -180,31 +169,12 @@ fn put_listed(
 ) -> Written
     ensures { (o : Store) → filled result out.new
         ≡ put_new (over outside.now) sheet.now (store_of o results.now nodes.now) wanted p
-        (map (a sheet.now) (kids_of sheet.now wanted.kind r)) (filled k out.old) }
+        (map (a sheet.now) (kids_of sheet.now (kind_number wanted.kind) r)) (filled k out.old) }
 {
     let mut done = k;
-    let mut left = sheet.len() / 8;
-    let mut at = word(sheet, r, column::CHILD);
-    while 0 < left {
-        if at == 0 {
-            return done;
-        }
-        let row = at;
-        at = word(sheet, row, column::NEXT);
-        left -= 1;
-        if word(sheet, row, column::KIND) == wanted.kind {
-            done = put_new(
-                sheet,
-                outside,
-                results,
-                nodes,
-                wanted,
-                p,
-                word(sheet, row, column::A),
-                done,
-                out,
-            );
-        }
+    for row in kids_of(sheet, r, wanted.kind) {
+        let name = word(sheet, row, column::A);
+        done = put_new(sheet, outside, results, nodes, wanted, p, name, done, out);
     }
     done
 }
@@ -258,13 +228,13 @@ pub fn put_own(
 ) -> Written
     ensures { (o : Store) → filled result out.new
         ≡ put_new (over outside.now) sheet.now (store_of o results.now nodes.now) wanted p
-        (own_in (over outside.now) sheet.now (store_of o results.now nodes.now) wanted.kind
+        (own_in (over outside.now) sheet.now (store_of o results.now nodes.now) (kind_number wanted.kind)
         c.0) (filled k out.old) }
 {
     if is_class_row(sheet, c) {
         let r = c.0 - FIRST_CLASS;
         let done = put_listed(sheet, outside, results, nodes, wanted, p, r, k, out);
-        if wanted.kind == kind::FIELD {
+        if wanted.kind == Kind::Field {
             return put_stored(
                 sheet,
                 outside,
@@ -297,7 +267,7 @@ pub fn put_names(
 ) -> Written
     ensures { (o : Store) → filled result out.new
         ≡ put_all (name_row (over outside.now) sheet.now (store_of o results.now nodes.now) wanted)
-        (names_in (over outside.now) sheet.now (store_of o results.now nodes.now) wanted.kind n
+        (names_in (over outside.now) sheet.now (store_of o results.now nodes.now) (kind_number wanted.kind) n
         c.0) (filled k out.old) }
 {
     if n == 0 {
@@ -327,7 +297,7 @@ pub fn count_names(
 ) -> u32
     ensures { (o : Store) → result ≡ min
         (length (names_in (over outside.now) sheet.now (store_of o results.now nodes.now)
-        wanted.kind n c.0)) 4294967295 }
+        (kind_number wanted.kind) n c.0)) 4294967295 }
 {
     let mut none = [0u32; 1];
     let start = Written { count: 0, slot: 0 };

@@ -7,15 +7,23 @@ use native.Mathlib.Omega.{arith}
 use lib.Dec.{eqb}
 use lib.ListN.{get_or}
 use borrow.Author.Tests.{eq-eqb, ne_eqb}
-use Rattle.definition.specs.Basics.{when◌then◌else◌, filter, head, any, first, from, ◌∈?◌}
+use Rattle.definition.specs.Basics.{when◌then◌else◌, any, first, from}
 use Rattle.definition.specs.Sheet.{Sheet, word, a, kids_of}
 use Rattle.definition.specs.Outside.{Method as Held, ClassRecord, is_recorded, record_of, no_record}
 use Rattle.definition.specs.Classes.{of_sheet, has_record, class_name, own_methods, method_at, method_of, arity, no_method}
 use Rattle.outside.specs.Words.{spaced_at, method_in, methods_at, record_at, over}
-use Rattle.outside.specs.Found.{row_record, Records, Tells, step_of}
+use Rattle.std.proofs.Common.{Option, None, Some, []}
+use Rattle.ast.specs.declared.kind.Kind.{Kind}
+use Rattle.ast.specs.declared.kind.Kind.TheVariants.{Field}
+use Rattle.ast.specs.Kind.{kind_number}
+use Rattle.ast.proofs.KindLaws.{kind_of_number}
+use Rattle.std.specs.Option.{is_some}
+use Rattle.outside.specs.Found.{row_record, named_in, fields_in, methods_in, Records, Tells}
 use Rattle.outside.specs.declared.records.Recorded.{Recorded}
 use Rattle.outside.specs.declared.records.Method.{Method}
-use Rattle.sheet.proofs.FindLaws.{row_number, method_function, method_params}
+use Rattle.std.specs.Option.{MatchOption}
+use Rattle.sheet.specs.Rest.{or_zero}
+use Rattle.sheet.proofs.FindLaws.{row_number, method_function, method_params, found_in, found_row, found_none_row}
 
 -- What is told of a record: whether there is one, its name, fields and methods.
 pub record Seen : Type 0 where
@@ -28,16 +36,16 @@ abbrev seen : Bool → ClassRecord → Seen
 seen t x = record { some = t; name = x.name; fields = x.fields; methods = x.methods }
 
 -- what x tells
-abbrev pub told : List ℕ → Recorded → Seen
-told w x = record { some = x.some; name = x.name; fields = spaced_at w 1 x.field x.fields; methods = methods_at w x.method x.methods }
+abbrev pub told : List ℕ → Option Recorded → Seen
+told w x = record { some = is_some x; name = named_in x; fields = fields_in w x; methods = methods_in w x }
 
 module _ (w : List ℕ) (c : ℕ) where
   -- the record of class c among those of n rows from row i on
   unfoldable pub sought : ℕ → ℕ → Seen
   sought i n = seen (any (λ x. eqb x.number c) (map (record_at w) (from i n))) (first (λ x. eqb x.number c) no_record (map (record_at w) (from i n)))
 
-  pub sought_none : (i n : ℕ) → n ≤ 0 → told w (record { some = false; name = 0; field = 0; fields = 0; method = 0; methods = 0 }) ≡ sought i n
-  unfolding sought spaced_at methods_at
+  pub sought_none : (i n : ℕ) → n ≤ 0 → told w None ≡ sought i n
+  unfolding sought
   sought_none i zero l = refl
   sought_none i (suc n) l = absurd (omega arith)
 
@@ -58,7 +66,7 @@ module _ (w : List ℕ) (c : ℕ) where
     here : sought i n ≡ (when eqb (word w i 0) c then seen true (record_at w i) else sought (suc i) (n - 1))
     here = let z : n ≡ suc (n - 1) = omega arith in ap (sought i) z ∙ step i (n - 1)
 
-    pub sought_here : k ≡ c → told w (row_record w i) ≡ sought i n
+    pub sought_here : k ≡ c → told w (Some (row_record w i)) ≡ sought i n
     sought_here h = sym (here ∙ ap (λ (t : Bool). when t then seen true (record_at w i) else sought (suc i) (n - 1)) (eq-eqb (word w i 0) c (sym e ∙ h)))
 
     pub sought_next : (k ≡ c → ⊥) → sought (i + 1) (n - 1) ≡ sought i n
@@ -68,7 +76,7 @@ module _ (w : List ℕ) (c : ℕ) where
         ∙ sym (here ∙ ap (λ (t : Bool). when t then seen true (record_at w i) else sought (suc i) (n - 1)) (ne_eqb (word w i 0) c (λ z. h (e ∙ z))))
 
   -- among all
-  pub all_sought : {i n : ℕ} (x : Recorded) → i ≡ word w 0 0 → n ≡ word w 0 1 → told w x ≡ sought i (n - i) → Records w c x
+  pub all_sought : {i n : ℕ} (x : Option Recorded) → i ≡ word w 0 0 → n ≡ word w 0 1 → told w x ≡ sought i (n - i) → Records w c x
   unfolding sought over
   all_sought {i} {n} x d f e =
       let whole : told w x ≡ sought (word w 0 0) (word w 0 1 - word w 0 0) = e ∙ ap (λ (j : ℕ). sought j (n - j)) d ∙ ap (λ (j : ℕ). sought (word w 0 0) (j - word w 0 0)) f in
@@ -97,30 +105,15 @@ module _ (w : List ℕ) (m p n : ℕ) where
     methods_next h =
         sym (method_first ∙ ap (λ (t : Bool). when t then method_in w p else method_of m (methods_at w (p + 3) (n - 1))) (ne_eqb (get_or w p 0) m (λ z. h (e ∙ z))))
 
--- Name m among n names, d words from one to the next.
-module _ (w : List ℕ) (d m p n : ℕ) where
-  pub spaced_none : n ≤ 0 → false ≡ (m ∈? spaced_at w d p n)
+-- n names, d words from one to the next
+module _ (w : List ℕ) (d p n : ℕ) where
+  pub spaced_none : n ≡ 0 → spaced_at w d p n ≡ []
   unfolding spaced_at
-  spaced_none l = let z : n ≡ 0 = omega arith in sym (ap (λ (j : ℕ). m ∈? spaced_at w d p j) z)
+  spaced_none z = ap (spaced_at w d p) z
 
-  module _ (l : 0 < n) {k : ℕ} (e : k ≡ get_or w p 0) where
-    name_first : (m ∈? spaced_at w d p n) ≡ (eqb m (get_or w p 0) || (m ∈? spaced_at w d (p + d) (n - 1)))
-    unfolding spaced_at
-    name_first = let z : n ≡ suc (n - 1) = omega arith in ap (λ (j : ℕ). m ∈? spaced_at w d p j) z
-
-    pub spaced_here : k ≡ m → true ≡ (m ∈? spaced_at w d p n)
-    spaced_here h = sym (name_first ∙ ap (λ (t : Bool). t || (m ∈? spaced_at w d (p + d) (n - 1))) (eq-eqb m (get_or w p 0) (sym h ∙ e)))
-
-    pub spaced_next : (k ≡ m → ⊥) → (m ∈? spaced_at w d (p + d) (n - 1)) ≡ (m ∈? spaced_at w d p n)
-    spaced_next h = sym (name_first ∙ ap (λ (t : Bool). t || (m ∈? spaced_at w d (p + d) (n - 1))) (ne_eqb m (get_or w p 0) (λ z. h (e ∙ sym z))))
-
--- a field or a method takes at most three words
-pub step_few : (j : ℕ) → step_of j ≤ 3
-step_few j = go (eqb j 10)
-  where
-    go : (t : Bool) → (when t then 1 else 3) ≤ 3
-    go true = omega arith
-    go false = omega arith
+  pub spaced_next : (n ≡ 0 → ⊥) → spaced_at w d p n ≡ get_or w p 0 ∷ spaced_at w d (p + d) (n - 1)
+  unfolding spaced_at
+  spaced_next f = let z : n ≡ suc (n - 1) = omega arith in ap (spaced_at w d p) z
 
 -- the names of methods
 pub method_names_lem : (w : List ℕ) (p n : ℕ) → spaced_at w 3 p n ≡ map (λ (m : Held). m.name) (methods_at w p n)
@@ -146,20 +139,33 @@ module _ (s : Sheet) (w : List ℕ) (c : ℕ) {x : Bool} (e : x ≡ of_sheet s c
   pub own_number : x ≡ true → 256 ≤ c
   own_number h = row_number s c (sym e ∙ h)
 
-  pub own_listed : x ≡ true → {n f : ℕ} {m : Method} → f ≡ head (filter (λ k. eqb (a s k) n) (kids_of s 6 (c - 256))) → m.fun.0 ≡ f → m.params ≡ (when eqb f 0 then 0 else arity s f)
-      → Tells n (own_methods (over w) s c) m
-  own_listed h {n} {f} i j k =
-      tells_as n {ms = map (method_at s) (kids_of s 6 (c - 256))} (record { fun_is = j ∙ method_function s n (c - 256) f i; params_are = k ∙ method_params s n (c - 256) f i })
+  pub own_listed : x ≡ true → {n : ℕ} (f : Option ℕ) {m : Method} → f ≡ found_in s 6 n (c - 256) → m.fun.0 ≡ or_zero f
+      → MatchOption f (m.params ≡ 0) (λ row. m.params ≡ arity s row) → Tells n (own_methods (over w) s c) m
+  own_listed h {n} f {m} i j k =
+      let z = listed_tells f i j k in
+      tells_as n {ms = map (method_at s) (kids_of s 6 (c - 256))} z
       (sym (ap (λ (t : Bool). method_of n (when t then map (method_at s) (kids_of s 6 (c - 256)) else (record_of (over w) c).methods)) (sym e ∙ h)))
+    where
+      listed_tells : (f : Option ℕ) → f ≡ found_in s 6 n (c - 256) → m.fun.0 ≡ or_zero f → MatchOption f (m.params ≡ 0) (λ row. m.params ≡ arity s row)
+          → Tells n (map (method_at s) (kids_of s 6 (c - 256))) m
+      listed_tells (Some row) i j k =
+          let q = found_row s 6 n (c - 256) row i in
+          record {
+            fun_is = j ∙ method_function s n (c - 256) row q.0;
+            params_are = k ∙ sym (ap (λ (t : Bool). when t then 0 else arity s row) (ne_eqb row 0 q.1)) ∙ method_params s n (c - 256) row q.0;
+          }
+      listed_tells None i j k =
+          let q = found_none_row s 6 n (c - 256) i in
+          record { fun_is = j ∙ method_function s n (c - 256) 0 q; params_are = k ∙ method_params s n (c - 256) 0 q }
 
-  module _ (h : x ≡ false) {r : Recorded} (k : Records w c r) where
-    pub has_record_lem : r.some ≡ has_record (over w) s c
+  module _ (h : x ≡ false) {r : Option Recorded} (k : Records w c r) where
+    pub has_record_lem : is_some r ≡ has_record (over w) s c
     has_record_lem = k.recorded ∙ sym (ap (λ (t : Bool). t || is_recorded (over w) c) (sym e ∙ h))
 
-    pub name_record : r.name ≡ class_name (over w) s c
+    pub name_record : named_in r ≡ class_name (over w) s c
     name_record = k.named ∙ sym (ap (λ (t : Bool). when t then a s (c - 256) else (record_of (over w) c).name) (sym e ∙ h))
 
-    pub own_recorded : {n : ℕ} {m : Method} → Tells n (methods_at w r.method r.methods) m → Tells n (own_methods (over w) s c) m
+    pub own_recorded : {n : ℕ} {m : Method} → Tells n (methods_in w r) m → Tells n (own_methods (over w) s c) m
     own_recorded {n} t =
         tells_as n t
         (ap (method_of n) k.methods_are ∙ sym (ap (λ (t : Bool). method_of n (when t then map (method_at s) (kids_of s 6 (c - 256)) else (record_of (over w) c).methods)) (sym e ∙ h)))
@@ -168,3 +174,7 @@ module _ (s : Sheet) (w : List ℕ) (c : ℕ) {x : Bool} (e : x ≡ of_sheet s c
 pub over_base : (w : List ℕ) → (over w).base ≡ 0
 unfolding over
 over_base w = refl
+
+-- a kind that is not that of fields has another number
+pub no_field : (k : Kind) → (k ≡ Field → ⊥) → eqb (kind_number k) 10 ≡ false
+no_field k f = ne_eqb (kind_number k) 10 (λ e. f (kind_of_number k Field e))

@@ -4,4 +4,5 @@
 
 pub mod layout;
 pub mod plain;
+pub mod recorded_names;
 pub mod records;

@@ -1,19 +1,23 @@
 // Class records from outside a sheet, and what a class has by its record or, if it is of the sheet, by its rows.
-ghost use Rattle.std.specs.Prelude.{◌≡◌, eqb};
-ghost use Rattle.definition.specs.Basics.{when◌then◌else◌, ◌∈?◌};
+ghost use Rattle.std.specs.Prelude.{◌≡◌};
+ghost use Rattle.std.specs.Option.{MatchOption};
 ghost use Rattle.definition.specs.Classes.{has_record, class_name, own_methods, arity as arity_of};
 ghost use Rattle.outside.specs.Words.{methods_at, over};
-ghost use Rattle.outside.specs.Found.{row_record, Records, Tells, recorded_names, step_of, listed};
+ghost use Rattle.outside.specs.Found.{row_record, Records, Tells, recorded_names};
+ghost use Rattle.outside.specs.Left.{names_left};
+ghost use Rattle.sheet.specs.Rest.{or_zero};
+ghost use Rattle.ast.specs.Kind.{kind_number};
 
 use crate::layout;
-use ast::{ClassId, FIRST_CLASS, FunId, column, kind};
+use crate::recorded_names::RecordedNames;
+use ast::kind::Kind;
+use ast::{ClassId, FIRST_CLASS, FunId, column};
 use sheet::{arity, first_named, is_class_row};
 use words::{word, word_at};
 
-// The record of a class from outside: its name, where its fields and methods begin and how many there are. `some` is false if it has none.
-#[derive(Clone, Copy)]
+// The record of a class from outside: its name, where its fields and methods begin and how many there are.
+#[derive(Clone, Copy, Debug, PartialEq, Eq)]
 pub struct Recorded {
-    pub some: bool,
     pub name: u32,
     pub field: u32,
     pub fields: u32,
@@ -21,29 +25,13 @@ pub struct Recorded {
     pub methods: u32,
 }
 
-// A method: its function, and how many parameters that has. Function 0: no method.
-#[derive(Clone, Copy)]
+// A method: its function, and how many parameters that has. Function 0: no method. An Option would say so in two ways, since a record may tell
+// of a method that its function is 0.
+#[derive(Clone, Copy, Debug, PartialEq, Eq)]
 pub struct Method {
     pub fun: FunId,
     pub params: usize,
 }
-
-// Names in the lent words, of fields or of methods by the kind of their rows: where the first stands, and how many there are.
-#[derive(Clone, Copy)]
-pub struct Listed {
-    pub kind: u32,
-    pub at: u32,
-    pub count: u32,
-}
-
-const NO_RECORD: Recorded = Recorded {
-    some: false,
-    name: 0,
-    field: 0,
-    fields: 0,
-    method: 0,
-    methods: 0,
-};
 
 pub const NO_METHOD: Method = Method {
     fun: FunId(0),
@@ -55,7 +43,6 @@ fn record_at(outside: &[u32], i: u32) -> Recorded
     ensures { result ≡ row_record outside.now i }
 {
     Recorded {
-        some: true,
         name: word(outside, i, layout::CLASS_NAME),
         field: word(outside, i, layout::FIELD),
         fields: word(outside, i, layout::FIELDS),
@@ -65,28 +52,22 @@ fn record_at(outside: &[u32], i: u32) -> Recorded
 }
 
 // The record of class `c`.
-fn find_record(outside: &[u32], c: ClassId) -> Recorded
+fn find_record(outside: &[u32], c: ClassId) -> Option<Recorded>
     ensures { Records outside.now c.0 result }
 {
-    let end = word(outside, 0, layout::RECORDS_END);
-    let mut i = word(outside, 0, layout::NAMES_END);
-    while i < end {
+    for i in word(outside, 0, layout::NAMES_END)..word(outside, 0, layout::RECORDS_END) {
         if word(outside, i, layout::CLASS) == c.0 {
-            return record_at(outside, i);
+            return Some(record_at(outside, i));
         }
-        i += 1;
     }
-    NO_RECORD
+    None
 }
 
 // Has a class a record? Those of the sheet have, and some from outside.
 pub fn has_record(sheet: &[u32], outside: &[u32], c: ClassId) -> bool
     ensures { result ≡ has_record (over outside.now) sheet.now c.0 }
 {
-    if is_class_row(sheet, c) {
-        return true;
-    }
-    find_record(outside, c).some
+    is_class_row(sheet, c) || find_record(outside, c).is_some()
 }
 
 // The name of a class that has a record.
@@ -96,38 +77,38 @@ pub fn class_name(sheet: &[u32], outside: &[u32], c: ClassId) -> u32
     if is_class_row(sheet, c) {
         return word(sheet, c.0 - FIRST_CLASS, column::A);
     }
-    find_record(outside, c).name
+    match find_record(outside, c) {
+        Some(record) => record.name,
+        None => 0,
+    }
 }
 
 // The method of name `n` among `count` methods from place `at` on.
 fn recorded_method(outside: &[u32], at: u32, count: u32, n: u32) -> Method
     ensures { Tells n (methods_at outside.now at count) result }
 {
-    let mut p = at as usize;
-    let mut left = count;
-    while 0 < left {
-        if word_at(outside, p) == n {
+    for i in 0..count as usize {
+        let place = at as usize + 3 * i;
+        if word_at(outside, place) == n {
             return Method {
-                fun: FunId(word_at(outside, p + 1)),
-                params: word_at(outside, p + 2) as usize,
+                fun: FunId(word_at(outside, place + 1)),
+                params: word_at(outside, place + 2) as usize,
             };
         }
-        p += 3;
-        left -= 1;
     }
     NO_METHOD
 }
 
-// The method of the sheet that is function `f`; none for function 0.
-fn listed_method(sheet: &[u32], f: FunId) -> Method
-    ensures { (result.fun.0 ≡ f.0) × (result.params ≡ (when eqb f.0 0 then 0 else arity_of sheet.now f.0)) }
+// The method of the sheet that is a function.
+fn listed_method(sheet: &[u32], f: Option<u32>) -> Method
+    ensures { (result.fun.0 ≡ or_zero f) × MatchOption f (result.params ≡ 0) (λ row. result.params ≡ arity_of sheet.now row) }
 {
-    if f.0 == 0 {
-        return NO_METHOD;
-    }
-    Method {
-        fun: f,
-        params: arity(sheet, f),
+    match f {
+        Some(row) => Method {
+            fun: FunId(row),
+            params: arity(sheet, FunId(row)),
+        },
+        None => NO_METHOD,
     }
 }
 
@@ -138,52 +119,24 @@ pub fn own_method(sheet: &[u32], outside: &[u32], c: ClassId, n: u32) -> Method
     if is_class_row(sheet, c) {
         return listed_method(
             sheet,
-            FunId(first_named(sheet, c.0 - FIRST_CLASS, kind::FUNCTION, n)),
+            first_named(sheet, c.0 - FIRST_CLASS, Kind::Function, n),
         );
     }
-    let x = find_record(outside, c);
-    recorded_method(outside, x.method, x.methods, n)
-}
-
-// The names of a class from outside that are told by rows of a kind: 10 fields, 6 methods.
-pub fn recorded_names(outside: &[u32], kind: u32, c: ClassId) -> Listed
-    ensures { listed outside.now result ≡ recorded_names (over outside.now) kind c.0 }
-{
-    let x = find_record(outside, c);
-    if kind == kind::FIELD {
-        return Listed {
-            kind: kind,
-            at: x.field,
-            count: x.fields,
-        };
-    }
-    Listed {
-        kind: kind,
-        at: x.method,
-        count: x.methods,
+    match find_record(outside, c) {
+        Some(record) => recorded_method(outside, record.method, record.methods, n),
+        None => NO_METHOD,
     }
 }
 
-// How many words it is from one name to the next: a field is one, a method three.
-pub fn step_of(kind: u32) -> usize
-    ensures { result ≡ step_of kind }
+// The names of a class from outside that are told by rows of a kind: fields, or else methods. A field is one word, a method three.
+pub fn recorded_names(outside: &[u32], kind: Kind, c: ClassId) -> RecordedNames<'_>
+    ensures { names_left result ≡ recorded_names (over outside.now) (kind_number kind) c.0 }
 {
-    if kind == kind::FIELD { 1 } else { 3 }
-}
-
-// Is `m` among names from outside?
-pub fn is_listed(outside: &[u32], names: Listed, m: u32) -> bool
-    ensures { result ≡ (m ∈? listed outside.now names) }
-{
-    let step = step_of(names.kind);
-    let mut p = names.at as usize;
-    let mut left = names.count;
-    while 0 < left {
-        if word_at(outside, p) == m {
-            return true;
-        }
-        p += step;
-        left -= 1;
+    match find_record(outside, c) {
+        None => RecordedNames::none(outside),
+        Some(record) => match kind {
+            Kind::Field => RecordedNames::spaced(outside, record.field, 1, record.fields),
+            _ => RecordedNames::spaced(outside, record.method, 3, record.methods),
+        },
     }
-    false
 }

@@ -1,19 +1,23 @@
 -- What follows from the first row of a name in a child list: a listed field, a method, an export; and class rows.
 use mathlib.Core.Path.{◌≡◌, refl, sym, ap, ◌∙◌}
-use mathlib.Core.Bool.{Bool, true, false, not, ◌||◌}
+use Rattle.std.proofs.Common.{Option, None, Some, cond, subst}
+use mathlib.Core.Bool.{Bool, true, false}
 use mathlib.Core.List.{List, [], ◌∷◌, ◌++◌, map}
-use Prim.Native.Nat.{ℕ, zero, suc, ◌+◌, ◌-◌, ◌<◌, ◌≤◌}
+use Prim.Native.Nat.{ℕ, zero, suc, ◌+◌, ◌-◌, ◌≤◌}
 use native.Mathlib.Omega.{arith}
 use lib.Dec.{eqb, leb}
-use borrow.Author.Tests.{eq-eqb, ne_eqb, eqb-true, eqb-false, le-leb, lt-leb, leb-true}
-use Rattle.definition.specs.Basics.{when◌then◌else◌, filter, first, head, ◌∈?◌}
+use borrow.Author.Tests.{eq-eqb, ne_eqb, eqb-true, eqb-false, leb-true}
+use Rattle.definition.specs.Basics.{when◌then◌else◌, filter, first, head}
 use Rattle.definition.specs.Sheet.{Sheet, kind, next, child, a, b, rows, is, kids_of}
 use Rattle.definition.specs.Meaning.{Meaning, Named, named, nothing, function, class, global}
 use Rattle.definition.specs.Outside.{Method}
 use Rattle.definition.specs.Classes.{of_sheet, method_at, method_of, arity, no_method}
 use Rattle.definition.specs.Walk.{exports, seen}
 use Rattle.definition.proofs.Lists.Tests.{and_left, T_true, true_of}
+use Rattle.std.specs.List.{find}
+use Rattle.std.specs.Option.{MatchOption}
 use Rattle.sheet.specs.Exports.{export_of}
+use Rattle.sheet.specs.Rest.{or_zero}
 use Rattle.sheet.proofs.ListLaws.{chain_of, first_named}
 
 -- g of the first row of a list, or d
@@ -75,42 +79,44 @@ first_append {ℓ} : {A : Type ℓ} (q : A → Bool) (d : A) (xs ys : List A) �
 first_append q d [] ys = refl
 first_append q d (x ∷ xs) ys = rw (first_append q d xs ys)
 
--- Whether a name is listed.
+-- What `find` finds in the children of row r: a row that is not 0, and the first of the name; or none, and then there is none.
 
-eqb_flip : (x y : ℕ) → eqb x y ≡ eqb y x
-eqb_flip x y = go (eqb y x) refl
-  where
-    go : (t : Bool) → eqb y x ≡ t → eqb x y ≡ t
-    go true e = eq-eqb x y (sym (eqb-true y x e))
-    go false e = ne_eqb x y (λ h. eqb-false y x e (sym h))
+abbrev first_row : List ℕ → Option ℕ
+first_row [] = None
+first_row (k ∷ ks) = Some k
 
-listed_pick : (s : Sheet) (m : ℕ) (ks : List ℕ) → (m ∈? map (a s) ks) ≡ pick false (λ _. true) (all_named s m ks)
-listed_pick s m [] = refl
-listed_pick s m (k ∷ ks) = rw (eqb_flip m (a s k)) (go (eqb (a s k) m) (listed_pick s m ks))
+found_first : (p : ℕ → Bool) (ks : List ℕ) → find p ks ≡ first_row (filter p ks)
+found_first p [] = refl
+found_first p (k ∷ ks) = go (p k) (found_first p ks)
   where
-    go : (t : Bool) → (m ∈? map (a s) ks) ≡ pick false (λ _. true) (all_named s m ks) → (t || (m ∈? map (a s) ks)) ≡ pick false (λ _. true) (when t then k ∷ all_named s m ks else all_named s m ks)
+    go : (t : Bool) → find p ks ≡ first_row (filter p ks) → cond t (Some k) (find p ks) ≡ first_row (when t then k ∷ filter p ks else filter p ks)
     go true e = refl
     go false e = e
 
--- x, the first row of a kind and a name, is not 0 just if some row has the name
-pub named_listed : (s : Sheet) (j m r x : ℕ) → x ≡ first_named s m (kids_of s j r) → not (eqb x 0) ≡ (m ∈? map (a s) (kids_of s j r))
-named_listed s j m r x e = ap (λ (k : ℕ). not (eqb k 0)) e ∙ go (all_named s m (kids_of s j r)) (search s j m r) ∙ sym (listed_pick s m (kids_of s j r))
-  where
-    go : (ks : List ℕ) → Searched s j ks → not (eqb (head ks) 0) ≡ pick false (λ _. true) ks
-    go _ none = refl
-    go _ (some k ks f h) = ap not (ne_eqb k 0 f)
+-- the row that is found of a kind and a name among the children of row r
+abbrev pub found_in : Sheet → ℕ → ℕ → ℕ → Option ℕ
+found_in s j m r = find (λ k. eqb (a s k) m) (kids_of s j r)
+
+module _ (s : Sheet) (j m r : ℕ) where
+  pub found_row : (x : ℕ) → Some x ≡ found_in s j m r → (x ≡ first_named s m (kids_of s j r)) × (x ≡ 0 → ⊥)
+  found_row x e = go (all_named s m (kids_of s j r)) (search s j m r) (e ∙ found_first (λ k. eqb (a s k) m) (kids_of s j r))
+    where
+      go : (ks : List ℕ) → Searched s j ks → Some x ≡ first_row ks → (x ≡ head ks) × (x ≡ 0 → ⊥)
+      go _ none h = absurd (cc)
+      go _ (some k ks f q) h = let i : x ≡ k = cc in (i, λ z. f (sym i ∙ z))
+
+  pub found_none_row : None ≡ found_in s j m r → 0 ≡ first_named s m (kids_of s j r)
+  found_none_row e = go (all_named s m (kids_of s j r)) (e ∙ found_first (λ k. eqb (a s k) m) (kids_of s j r))
+    where
+      go : (ks : List ℕ) → None ≡ first_row ks → 0 ≡ head ks
+      go [] h = refl
+      go (k ∷ ks) h = absurd (cc)
 
 -- Class rows.
 
-module _ (s : Sheet) (c : ℕ) where
-  pub row_of : {w : ℕ} → w ≡ kind s (c - 256) → 256 ≤ c → eqb w 4 ≡ of_sheet s c
-  row_of e l = rw (le-leb 256 c l, e)
-
-  pub row_outside : c < 256 → false ≡ of_sheet s c
-  row_outside l = rw (lt-leb 256 c l)
-
-  pub row_number : of_sheet s c ≡ true → 256 ≤ c
-  row_number h = leb-true 256 c (true_of (leb 256 c) (and_left (leb 256 c) (is s 4 (c - 256)) (T_true (of_sheet s c) h)))
+-- the number of a class of a sheet is past those of other classes
+pub row_number : (s : Sheet) (c : ℕ) → of_sheet s c ≡ true → 256 ≤ c
+row_number s c h = leb-true 256 c (true_of (leb 256 c) (and_left (leb 256 c) (is s 4 (c - 256)) (T_true (of_sheet s c) h)))
 
 -- Methods: x is the first row of name m among those of row r.
 
@@ -228,3 +234,21 @@ module _ (s : Sheet) (m w : ℕ) where
           go false p =
               is_constant s k (eqb-false k 0 p) (found_of s m w 8 as_constant (named 0 nothing) k l (eqb-false k 0 p))
               ∙ sym (found_one s m w 8 as_constant (named 0 nothing) k l (eqb-false k 0 p))
+
+  -- the export of the three kinds that is found first
+  pub export_found : (o p q : Option ℕ) → o ≡ found_in s 7 m w → MatchOption o (p ≡ found_in s 4 m w) (λ x. p ≡ Some x) → MatchOption p (q ≡ found_in s 8 m w) (λ x. q ≡ Some x)
+      → export_of s (or_zero q) ≡ sought m (exports s w)
+  export_found (Some x) p q e h g =
+      let f = found_row s 7 m w x e in
+      let i : q ≡ Some x = subst (λ o. MatchOption o (q ≡ found_in s 8 m w) (λ y. q ≡ Some y)) h g in
+      ap (λ o. export_of s (or_zero o)) i ∙ export_function x f.0 f.1
+  export_found None (Some y) q e h g =
+      let f = found_row s 4 m w y h in
+      ap (λ o. export_of s (or_zero o)) g ∙ export_class 0 (found_none_row s 7 m w e) refl y f.0 f.1
+  export_found None None q e h g =
+      ap (λ o. export_of s (or_zero o)) g
+      ∙ export_constant 0 (found_none_row s 7 m w e) refl 0 (found_none_row s 4 m w h) refl (or_zero (found_in s 8 m w)) (go (found_in s 8 m w) refl)
+    where
+      go : (o : Option ℕ) → o ≡ found_in s 8 m w → or_zero o ≡ first_named s m (kids_of s 8 w)
+      go None i = found_none_row s 8 m w i
+      go (Some k) i = (found_row s 8 m w k i).0

@@ -1,61 +1,21 @@
-use Rattle.sheet.proofs.ListLaws.{of_start, of_none, of_end, place_none, place_here, place_other, place_skip}
-use mathlib.Core.Path.{sym, ap, ◌∙◌}
-use native.Mathlib.Omega.{arith}
-use lib.Dec.{eqb}
-use Rattle.definition.specs.Basics.{place}
+use Rattle.std.proofs.Common.{not, eqb, inl, arith, ap, ◌∙◌, length, rules, tests}
+use Rattle.std.proofs.lemmas.Iterator.Search.{YieldsList-from_take_while}
+use Rattle.std.proofs.lemmas.Iterator.Consumers.{count_from_yields_List}
+use Rattle.definition.specs.Sheet.{kids_of}
+use Rattle.sheet.proofs.ChildLists.{kind_given, before_row, place_short, kids_of_short}
+use Rattle.sheet.specs.declared.child_rows.KindRows.{KindRows}
+use Rattle.sheet.specs.Rest.{kind_left}
 use Rattle.sheet.proofs.param_index.Goals as goal
-use Rattle.sheet.proofs.param_index.Goals.{then-word-eq-PARAMETER+else-row-k, else-word-eq-PARAMETER}
 
-pub loop-left-init : goal.loop-left-init
-loop-left-init c = (omega (arith, c.requires), omega arith)
-
-pub returns-then-k-eq0 : goal.returns-then-k-eq0
-returns-then-k-eq0 c =
-    place_none c.args.sheet.now 11 c.loop-left.left c.loop-left.k c.loop-left.index c.args.row
-    (of_end c.args.sheet.now 11 c.loop-left.left c.loop-left.k c.if-k-eq0.true)
-    ∙ c.loop-left.invariant.1
-    ∙ ap (place (eqb c.args.row))
-    (of_start c.args.sheet.now 11 c.args.f.0 c.word-k.result c.word-k.ensures)
-
-pub returns-then-row-k : goal.returns-then-row-k
-returns-then-row-k c =
-    place_here c.args.sheet.now 11 c.loop-left.left c.loop-left.k c.loop-left.index c.args.row c.loop-left-test.true
-    c.if-k-eq0.false (sym c.word.ensures ∙ c.if-word-eq-PARAMETER.true)
-    c.if-row-k.true
-    ∙ c.loop-left.invariant.1
-    ∙ ap (place (eqb c.args.row))
-    (of_start c.args.sheet.now 11 c.args.f.0 c.word-k.result c.word-k.ensures)
-
-pub overflow_add-index : goal.overflow_add-index
-overflow_add-index c = omega (arith, c.loop-left.invariant.0)
-
-pub overflow_sub-left : goal.overflow_sub-left
-overflow_sub-left c = omega arith
-
-pub loop-left-smaller : goal.loop-left-smaller
-loop-left-smaller c = omega arith
+pub count-requires-clause-fits : goal.count-requires-clause-fits
+count-requires-clause-fits c =
+    inl (omega (arith, kids_of_short c.args.sheet.now 11 c.args.f.0, ap length c.kids_of.ensures, ap (λ (i : KindRows). length (kind_left i)) c.take_while.ensures.source))
 
 pub returns : goal.returns
 returns c =
-    place_none c.args.sheet.now 11 c.loop-left.left c.loop-left.k c.loop-left.index c.args.row
-    (of_none c.args.sheet.now 11 c.loop-left.left c.loop-left.k c.loop-left-test.false)
-    ∙ c.loop-left.invariant.1
-    ∙ ap (place (eqb c.args.row))
-    (of_start c.args.sheet.now 11 c.args.f.0 c.word-k.result c.word-k.ensures)
+    count_from_yields_List c.take_while.result _ c.count.ensures.ran
+    (YieldsList-from_take_while _ (λ k. not (eqb k c.args.row)) (kind_given (ap kind_left c.take_while.ensures.source ∙ c.kids_of.ensures)) c.take_while.ensures.closure c.take_while.ensures.done (λ x b q k. search (rules, tests)))
+    ∙ before_row c.args.row (kids_of c.args.sheet.now 11 c.args.f.0)
 
-pub loop-left-preserved : goal.loop-left-preserved
-loop-left-preserved c = (
-  elim c.if-word-eq-PARAMETER.branch [
-    | then-word-eq-PARAMETER+else-row-k w ↦ omega (arith, w.index-is, c.loop-left.invariant.0, c.loop-left-test.true)
-    | else-word-eq-PARAMETER w ↦ omega (arith, w.index-is, c.loop-left.invariant.0)
-  ],
-  elim c.if-word-eq-PARAMETER.branch [
-    | then-word-eq-PARAMETER+else-row-k w ↦
-        place_other c.args.sheet.now 11 c.loop-left.left c.loop-left.k c.loop-left.index c.args.row c.loop-left-test.true c.if-k-eq0.false
-        c.word-k-in-loop-left.ensures (sym c.word.ensures ∙ w.if-word-eq-PARAMETER.true) w.if-row-k.false w.index-is
-    | else-word-eq-PARAMETER w ↦
-        place_skip c.args.sheet.now 11 c.loop-left.left c.loop-left.k c.loop-left.index c.args.row c.loop-left-test.true c.if-k-eq0.false
-        c.word-k-in-loop-left.ensures (λ e. w.if-word-eq-PARAMETER.false (c.word.ensures ∙ e)) w.index-is
-  ]
-      ∙ c.loop-left.invariant.1,
-)
+pub overflow_cast-result : goal.overflow_cast-result
+overflow_cast-result c = omega (arith, returns c, place_short (eqb c.args.row) (kids_of c.args.sheet.now 11 c.args.f.0), kids_of_short c.args.sheet.now 11 c.args.f.0)

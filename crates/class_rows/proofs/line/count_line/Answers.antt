@@ -1,3 +1,4 @@
+use Rattle.ast.specs.Kind.{kind_number}
 use native.Mathlib.Omega.{arith}
 use Rattle.store.specs.Stored.{store_of}
 use Rattle.name_rows.specs.Put.{name_row}
@@ -10,6 +11,6 @@ returns c =
     λ o. line_counted _ (name_row (over c.args.outside.now) c.args.sheet.now
     (store_of o c.args.results.now c.args.nodes.now) c.args.wanted)
     c.args.sheet.now (store_of o c.args.results.now c.args.nodes.now)
-    c.args.wanted.kind c.args.wanted.class.0 _ c.requires.0
+    (kind_number c.args.wanted.kind) c.args.wanted.class.0 _ c.requires.0
     (c.parent_of.ensures o c.args.nodes.now) (c.requires.1 c.if-a-eq0.false o).0
     (omega arith) (c.requires.1 c.if-a-eq0.false o).1 (c.put_own.ensures o)

@@ -1,3 +1,4 @@
+use Rattle.ast.specs.Kind.{kind_number}
 use mathlib.Core.Path.{refl, ◌∙◌}
 use Rattle.store.specs.Stored.{store_of}
 use Rattle.name_rows.specs.Put.{filled, name_row}
@@ -18,7 +19,7 @@ returns c =
     line_after _ (name_row (over c.args.outside.now) c.args.sheet.now
     (store_of o c.args.results.now c.args.nodes.now) c.args.wanted)
     c.args.sheet.now (store_of o c.args.results.now c.args.nodes.now)
-    c.args.wanted.kind c.args.wanted.class.0 (filled c.args.k c.args.out.now)
+    (kind_number c.args.wanted.kind) c.args.wanted.class.0 (filled c.args.k c.args.out.now)
     c.requires.0 (c.parent_of.ensures o c.args.nodes.now) h.parent refl
     (c.put_copied-done.ensures
     ∙ copied_all (over c.args.outside.now) c.args.sheet.now

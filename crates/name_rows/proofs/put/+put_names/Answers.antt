@@ -1,3 +1,4 @@
+use Rattle.ast.specs.Kind.{kind_number}
 use Rattle.name_rows.proofs.PutLaws.{names_zero, names_first, names_after}
 use Rattle.name_rows.specs.Put.{filled, name_row}
 use Rattle.store.specs.Stored.{store_of}
@@ -10,7 +11,7 @@ returns-then-n-eq0 t c =
     λ o. names_zero _ (name_row (over c.args.outside.now) c.args.sheet.now
     (store_of o c.args.results.now c.args.nodes.now) c.args.wanted)
     c.args.sheet.now (store_of o c.args.results.now c.args.nodes.now)
-    c.args.wanted.kind c.args.n c.args.c.0 (filled c.args.k c.args.out.now)
+    (kind_number c.args.wanted.kind) c.args.n c.args.c.0 (filled c.args.k c.args.out.now)
     c.if-n-eq0.true
 
 pub overflow_sub-p : goal.overflow_sub-p
@@ -21,7 +22,7 @@ returns-then-up-eq0 t c =
     λ o. names_first _ (name_row (over c.args.outside.now) c.args.sheet.now
     (store_of o c.args.results.now c.args.nodes.now) c.args.wanted)
     c.args.sheet.now (store_of o c.args.results.now c.args.nodes.now)
-    c.args.wanted.kind c.args.n c.args.c.0 (filled c.args.k c.args.out.now)
+    (kind_number c.args.wanted.kind) c.args.n c.args.c.0 (filled c.args.k c.args.out.now)
     c.if-n-eq0.false (c.parent_of-up.ensures o c.args.nodes.now) c.if-up-eq0.true (c.put_own.ensures o)
 
 pub overflow_sub-n : goal.overflow_sub-n
@@ -40,6 +41,6 @@ returns t c =
     λ o. names_after _ (name_row (over c.args.outside.now) c.args.sheet.now
     (store_of o c.args.results.now c.args.nodes.now) c.args.wanted)
     c.args.sheet.now (store_of o c.args.results.now c.args.nodes.now)
-    c.args.wanted.kind c.args.n c.args.c.0 (filled c.args.k c.args.out.now)
+    (kind_number c.args.wanted.kind) c.args.n c.args.c.0 (filled c.args.k c.args.out.now)
     c.if-n-eq0.false (c.parent_of-up.ensures o c.args.nodes.now) c.if-up-eq0.false (c.put_names-done.ensures o)
     (c.put_own-2.ensures o)

@@ -1,3 +1,4 @@
+use Rattle.ast.specs.Kind.{kind_number}
 use Rattle.name_rows.proofs.PutLaws.{stored_none, stored_last}
 use Rattle.name_rows.specs.Put.{filled, name_row}
 use Rattle.class_names.specs.Names.{inherited}
@@ -11,7 +12,7 @@ returns-then-last-eq0 t c =
     λ o. stored_none (name_row (over c.args.outside.now) c.args.sheet.now
     (store_of o c.args.results.now c.args.nodes.now) c.args.wanted)
     (inherited (over c.args.outside.now) c.args.sheet.now
-    (store_of o c.args.results.now c.args.nodes.now) c.args.wanted.kind c.args.p.left
+    (store_of o c.args.results.now c.args.nodes.now) (kind_number c.args.wanted.kind) c.args.p.left
     c.args.p.class.0)
     c.args.nodes.now c.args.last (filled c.args.k c.args.out.now) c.if-last-eq0.true
 
@@ -31,7 +32,7 @@ returns t c =
     λ o. stored_last (name_row (over c.args.outside.now) c.args.sheet.now
     (store_of o c.args.results.now c.args.nodes.now) c.args.wanted)
     (inherited (over c.args.outside.now) c.args.sheet.now
-    (store_of o c.args.results.now c.args.nodes.now) c.args.wanted.kind c.args.p.left
+    (store_of o c.args.results.now c.args.nodes.now) (kind_number c.args.wanted.kind) c.args.p.left
     c.args.p.class.0)
     c.args.nodes.now c.args.last (filled c.args.k c.args.out.now) c.if-last-eq0.false
     c.node_before-before.ensures c.node_word.ensures (c.put_stored-done.ensures o) (c.put_new.ensures o)

@@ -1,3 +1,4 @@
+use Rattle.ast.specs.Kind.{kind_number}
 use Rattle.name_rows.proofs.PutLaws.{names_counted}
 use Rattle.name_rows.specs.Put.{name_row}
 use Rattle.class_names.specs.Names.{names_in}
@@ -11,6 +12,6 @@ returns c =
     λ o. names_counted (name_row (over c.args.outside.now) c.args.sheet.now
     (store_of o c.args.results.now c.args.nodes.now) c.args.wanted)
     (names_in (over c.args.outside.now) c.args.sheet.now
-    (store_of o c.args.results.now c.args.nodes.now) c.args.wanted.kind c.args.n
+    (store_of o c.args.results.now c.args.nodes.now) (kind_number c.args.wanted.kind) c.args.n
     c.args.c.0)
     _ refl (c.put_names.ensures o)

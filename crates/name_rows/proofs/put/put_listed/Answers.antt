@@ -1,89 +1,29 @@
-use Rattle.name_rows.proofs.PutLaws.{listed_start, listed_none, listed_end, listed_here, listed_skip}
-use Rattle.name_rows.specs.Put.{filled, name_row}
-use Rattle.class_names.specs.Names.{inherited}
-use Rattle.store.specs.Stored.{store_of}
+use Rattle.std.proofs.Common.{sym, ap, ◌∙◌, map, List, ◌∷◌, ℕ}
+use Rattle.ast.specs.Kind.{kind_number}
+use Rattle.definition.specs.Sheet.{a}
 use Rattle.outside.specs.Words.{over}
-use native.Mathlib.Omega.{arith}
-use mathlib.Core.Path.{refl, ◌∙◌}
+use Rattle.sheet.specs.Rest.{kind_left}
+use Rattle.store.specs.Stored.{store_of}
+use Rattle.class_names.specs.Names.{inherited}
+use Rattle.name_rows.specs.Put.{filled, name_row, put_new}
+use Rattle.name_rows.proofs.PutLaws.{new_rest, new_end}
 use Rattle.name_rows.proofs.put.put_listed.Goals as goal
 
-pub loop-left-init : goal.loop-left-init
-loop-left-init c = (
-  λ o. listed_start (name_row (over c.args.outside.now) c.args.sheet.now
-      (store_of o c.args.results.now c.args.nodes.now) c.args.wanted)
-      (inherited (over c.args.outside.now) c.args.sheet.now
-      (store_of o c.args.results.now c.args.nodes.now) c.args.wanted.kind
-      c.args.p.left c.args.p.class.0)
-      c.args.sheet.now c.args.wanted.kind c.args.r c.word-at.result
-      (filled c.args.k c.args.out.now) c.word-at.ensures,
-  omega arith,
-  refl,
-)
-
-pub shape_of-out-then-at-eq0 : goal.shape_of-out-then-at-eq0
-shape_of-out-then-at-eq0 c = c.loop-left.invariant.2
-
-pub returns-then-at-eq0 : goal.returns-then-at-eq0
-returns-then-at-eq0 c =
-    λ o. listed_end (name_row (over c.args.outside.now) c.args.sheet.now
-    (store_of o c.args.results.now c.args.nodes.now) c.args.wanted)
-    (inherited (over c.args.outside.now) c.args.sheet.now
-    (store_of o c.args.results.now c.args.nodes.now) c.args.wanted.kind c.args.p.left
-    c.args.p.class.0)
-    c.args.sheet.now c.args.wanted.kind c.loop-left.left c.loop-left.at (filled c.loop-left.done c.loop-left.out)
-    c.if-at-eq0.true
-    ∙ c.loop-left.invariant.0 o
-
-pub overflow_sub-left : goal.overflow_sub-left
-overflow_sub-left c = omega (arith, c.loop-left-test.true)
-
-pub loop-left-smaller-then-word-wanted : goal.loop-left-smaller-then-word-wanted
-loop-left-smaller-then-word-wanted c =
-    omega (arith, c.loop-left-test.true)
-
-pub loop-left-preserved-then-word-wanted : goal.loop-left-preserved-then-word-wanted
-loop-left-preserved-then-word-wanted c = (
-  λ o. listed_here (name_row (over c.args.outside.now) c.args.sheet.now
-      (store_of o c.args.results.now c.args.nodes.now) c.args.wanted)
-      (inherited (over c.args.outside.now) c.args.sheet.now
-      (store_of o c.args.results.now c.args.nodes.now) c.args.wanted.kind
-      c.args.p.left c.args.p.class.0)
-      c.args.sheet.now c.args.wanted.kind c.loop-left.left c.loop-left.at
-      (filled c.loop-left.done c.loop-left.out) c.loop-left-test.true c.if-at-eq0.false c.word-at-in-loop-left.ensures c.word.ensures
-      c.if-word-wanted.true c.word-then-word-wanted.ensures (c.put_new-done.ensures o)
-      ∙ c.loop-left.invariant.0 o,
-  omega (arith, c.loop-left.invariant.1),
-  omega (arith, c.put_new-done.auto, c.loop-left.invariant.2),
-)
-
-pub loop-left-smaller : goal.loop-left-smaller
-loop-left-smaller c = omega (arith, c.loop-left-test.true)
-
-pub loop-left-preserved : goal.loop-left-preserved
-loop-left-preserved c = (
-  λ o. listed_skip (name_row (over c.args.outside.now) c.args.sheet.now
-      (store_of o c.args.results.now c.args.nodes.now) c.args.wanted)
-      (inherited (over c.args.outside.now) c.args.sheet.now
-      (store_of o c.args.results.now c.args.nodes.now) c.args.wanted.kind
-      c.args.p.left c.args.p.class.0)
-      c.args.sheet.now c.args.wanted.kind c.loop-left.left c.loop-left.at
-      (filled c.loop-left.done c.loop-left.out) c.loop-left-test.true c.if-at-eq0.false c.word-at-in-loop-left.ensures
-      c.word.ensures c.if-word-wanted.false
-      ∙ c.loop-left.invariant.0 o,
-  omega (arith, c.loop-left.invariant.1),
-  c.loop-left.invariant.2,
-)
-
-pub shape_of-out : goal.shape_of-out
-shape_of-out c = c.loop-left.invariant.2
+pub loop-row-preserved : goal.loop-row-preserved
+loop-row-preserved c =
+    λ o.
+    let O = over c.args.outside.now in
+    let st = store_of o c.args.results.now c.args.nodes.now in
+    let f = name_row O c.args.sheet.now st c.args.wanted in
+    let up = inherited O c.args.sheet.now st (kind_number c.args.wanted.kind) c.args.p.left c.args.p.class.0 in
+    new_rest f up (filled c.loop-row.done c.loop-row.out) (ap (map (a c.args.sheet.now)) c.in-Some.ensures.steps ∙ ap (λ (m : ℕ). m ∷ map (a c.args.sheet.now) (kind_left c.next.new.self)) (sym c.word-name.ensures)) (c.put_new-done.ensures o) ∙ c.loop-row.invariant o
 
 pub returns : goal.returns
 returns c =
-    λ o. listed_none (name_row (over c.args.outside.now) c.args.sheet.now
-    (store_of o c.args.results.now c.args.nodes.now) c.args.wanted)
-    (inherited (over c.args.outside.now) c.args.sheet.now
-    (store_of o c.args.results.now c.args.nodes.now) c.args.wanted.kind c.args.p.left
-    c.args.p.class.0)
-    c.args.sheet.now c.args.wanted.kind c.loop-left.left c.loop-left.at (filled c.loop-left.done c.loop-left.out)
-    c.loop-left-test.false
-    ∙ c.loop-left.invariant.0 o
+    λ o.
+    let O = over c.args.outside.now in
+    let st = store_of o c.args.results.now c.args.nodes.now in
+    let f = name_row O c.args.sheet.now st c.args.wanted in
+    let up = inherited O c.args.sheet.now st (kind_number c.args.wanted.kind) c.args.p.left c.args.p.class.0 in
+    new_end f up (filled c.loop-row.done c.loop-row.out) (ap (map (a c.args.sheet.now)) c.in-None.ensures.steps.0) ∙ c.loop-row.invariant o
+    ∙ ap (λ (ns : List ℕ). put_new O c.args.sheet.now st c.args.wanted c.args.p ns (filled c.args.k c.args.out.now)) (ap (map (a c.args.sheet.now)) (ap kind_left c.into_iter-row-iterator.ensures.into_iter_gives ∙ c.kids_of-row-items.ensures))

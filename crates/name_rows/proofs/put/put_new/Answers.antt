@@ -1,3 +1,4 @@
+use Rattle.ast.specs.Kind.{kind_number}
 use Rattle.name_rows.proofs.PutLaws.{new_old, new_put}
 use Rattle.name_rows.specs.Put.{filled, name_row}
 use Rattle.class_names.specs.Names.{inherited}
@@ -11,7 +12,7 @@ returns-then-is_inherited c =
     λ o. new_old (name_row (over c.args.outside.now) c.args.sheet.now
     (store_of o c.args.results.now c.args.nodes.now) c.args.wanted)
     (inherited (over c.args.outside.now) c.args.sheet.now
-    (store_of o c.args.results.now c.args.nodes.now) c.args.wanted.kind c.args.p.left
+    (store_of o c.args.results.now c.args.nodes.now) (kind_number c.args.wanted.kind) c.args.p.left
     c.args.p.class.0)
     c.args.m (filled c.args.k c.args.out.now)
     (sym c.if-is_inherited.true ∙ c.is_inherited.ensures o)
@@ -21,7 +22,7 @@ returns c =
     λ o. new_put (name_row (over c.args.outside.now) c.args.sheet.now
     (store_of o c.args.results.now c.args.nodes.now) c.args.wanted)
     (inherited (over c.args.outside.now) c.args.sheet.now
-    (store_of o c.args.results.now c.args.nodes.now) c.args.wanted.kind c.args.p.left
+    (store_of o c.args.results.now c.args.nodes.now) (kind_number c.args.wanted.kind) c.args.p.left
     c.args.p.class.0)
     c.args.m (filled c.args.k c.args.out.now) (sym c.if-is_inherited.false ∙ c.is_inherited.ensures o)
     (c.put_name.ensures o c.args.nodes.now)

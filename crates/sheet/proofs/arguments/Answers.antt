@@ -1,0 +1,6 @@
+use Rattle.std.proofs.Common.{inl, arith, ap, length}
+use Rattle.sheet.proofs.ChildLists.{kids_short}
+use Rattle.sheet.proofs.arguments.Goals as goal
+
+pub count-requires-clause-fits : goal.count-requires-clause-fits
+count-requires-clause-fits c = inl (omega (arith, kids_short c.args.sheet.now c.args.row, ap length c.kids.ensures))
