@@ -1,92 +1,35 @@
 -- The walk over a child list that marks names, and the pass over all rows that asks for it.
-use mathlib.Core.Path.{◌≡◌, refl, sym, ap, ◌∙◌}
-use mathlib.Core.Logic.{◌⊎◌, inl, inr}
+use mathlib.Core.Path.{◌≡◌, sym, ap, ◌∙◌}
 use mathlib.Core.List.{List, [], ◌∷◌}
 use mathlib.Core.Bool.{Bool, true, false, ◌&&◌}
-use Prim.Native.Nat.{ℕ, zero, suc, ◌+◌, ◌-◌, ◌<◌, ◌≤◌}
+use Prim.Native.Nat.{ℕ, suc, ◌+◌, ◌-◌, ◌<◌, ◌≤◌}
 use native.Mathlib.Omega.{arith}
-use lib.Dec.{eqb}
-use borrow.Author.Tests.{ne_eqb}
-use Rattle.definition.specs.Basics.{when◌then◌else◌}
-use Rattle.definition.specs.Sheet.{Sheet, next, child, rows, chain}
-use Rattle.definition.proofs.Format.Links.{Rises}
-use Rattle.definition.proofs.Format.Passes.{chain_on}
-use Rattle.links.specs.Rising.{Rising}
+use Rattle.definition.specs.Sheet.{Sheet}
 use Rattle.distinct.specs.Apart.{child_unmarked, child_marked, unmarked, marked, row_unmarked, row_marked, all_unmarked}
 
--- a place in a child list: its end, or a row
-abbrev pub Place : Sheet → ℕ → Type 0
-Place s c = (c ≡ 0) ⊎ (c < rows s)
-
--- how many rows are ahead
-abbrev pub ahead : Sheet → ℕ → ℕ
-ahead s c = when eqb c 0 then 0 else rows s - c
-
--- what is left to ask from row c on, and the marks then
-abbrev pub left : Sheet → ℕ → ℕ → List ℕ → ℕ → Bool
-left s k v m c = unmarked s k v m (chain (rows s) s c)
-
-abbrev pub left_marks : Sheet → ℕ → ℕ → List ℕ → ℕ → List ℕ
-left_marks s k v m c = marked s k v m (chain (rows s) s c)
-
-placed : (s : Sheet) (r x : ℕ) → Rises s r x → Place s x
-placed s r x (inl e) = inl e
-placed s r x (inr q) = inr q.1
-
-positive : (c : ℕ) → (c ≡ 0 → ⊥) → 0 < c
-positive zero f = absurd (f refl)
-positive (suc c) f = omega arith
-
-chain_zero : (n : ℕ) (s : Sheet) → chain n s 0 ≡ []
-chain_zero zero s = refl
-chain_zero (suc n) s = refl
-
-module _ (s : Sheet) (up : Rising s) where
-  pub child_placed : (r : ℕ) → r < rows s → Place s (child s r)
-  child_placed r l = placed s r (child s r) (up.children r l)
-
-  row_of : (c : ℕ) → Place s c → (c ≡ 0 → ⊥) → c < rows s
-  row_of c (inl e) z = absurd (z e)
-  row_of c (inr l) z = l
-
-  pub next_placed : (c : ℕ) → Place s c → (c ≡ 0 → ⊥) → Place s (next s c)
-  next_placed c p z = placed s c (next s c) (up.nexts c (row_of c p z))
-
-  pub ahead_less : (c : ℕ) → Place s c → (c ≡ 0 → ⊥) → ahead s (next s c) < ahead s c
-  ahead_less c p z = go (up.nexts c (row_of c p z)) (ne_eqb c 0 z) (row_of c p z)
-    where
-      go : Rises s c (next s c) → eqb c 0 ≡ false → c < rows s → ahead s (next s c) < ahead s c
-      go (inl e) w l = rw (w, ap (λ (x : ℕ). eqb x 0) e) (omega arith)
-      go (inr q) w l = rw (w, ne_eqb (next s c) 0 (λ e. omega (arith, q.0))) (omega (arith, q.0))
-
-  list_on : (c : ℕ) → Place s c → (c ≡ 0 → ⊥) → chain (rows s) s c ≡ c ∷ chain (rows s) s (next s c)
-  list_on c p z = chain_on s up.nexts c (positive c z) (row_of c p z)
-
-  pub left_refused : (k v : ℕ) (m : List ℕ) (c : ℕ) {x w : Bool} → Place s c → (c ≡ 0 → ⊥) → x ≡ child_unmarked s k v m c → x ≡ false → left s k v m c ≡ w → false ≡ w
+-- one child of a list more, and the end of the list
+module _ (s : Sheet) (k v : ℕ) (m : List ℕ) {cs ds : List ℕ} {c : ℕ} (e : cs ≡ c ∷ ds) where
+  pub list_refused : {x w : Bool} → x ≡ child_unmarked s k v m c → x ≡ false → unmarked s k v m cs ≡ w → false ≡ w
   unfolding unmarked
-  left_refused k v m c p z e f i =
-      ap (λ (y : Bool). y && unmarked s k v (child_marked s k v m c) (chain (rows s) s (next s c))) (sym (sym e ∙ f)) ∙ sym (ap (unmarked s k v m) (list_on c p z)) ∙ i
+  list_refused h f i = sym (ap (λ (t : Bool). t && unmarked s k v (child_marked s k v m c) ds) (sym h ∙ f)) ∙ sym (ap (unmarked s k v m) e) ∙ i
 
-  pub left_next : (k v : ℕ) (m : List ℕ) (c : ℕ) {x w : Bool} {u : List ℕ} {d : ℕ} → Place s c → (c ≡ 0 → ⊥) → x ≡ child_unmarked s k v m c → x ≡ true
-      → (x ≡ true → u ≡ child_marked s k v m c) → d ≡ next s c → left s k v m c ≡ w → left s k v u d ≡ w
-  unfolding unmarked
-  left_next k v m c {d = d} p z e f g h i =
-      ap (λ (y : List ℕ). left s k v y d) (g f) ∙ ap (λ (y : ℕ). left s k v (child_marked s k v m c) y) h
-      ∙ ap (λ (y : Bool). y && unmarked s k v (child_marked s k v m c) (chain (rows s) s (next s c))) (sym (sym e ∙ f)) ∙ sym (ap (unmarked s k v m) (list_on c p z)) ∙ i
+  module _ {x : Bool} {u : List ℕ} (f : x ≡ true) (g : x ≡ true → u ≡ child_marked s k v m c) where
+    pub list_next : {w : Bool} → x ≡ child_unmarked s k v m c → unmarked s k v m cs ≡ w → unmarked s k v u ds ≡ w
+    unfolding unmarked
+    list_next h i =
+        ap (λ (y : List ℕ). unmarked s k v y ds) (g f) ∙ sym (ap (λ (t : Bool). t && unmarked s k v (child_marked s k v m c) ds) (sym h ∙ f)) ∙ sym (ap (unmarked s k v m) e) ∙ i
 
-  pub marks_next : (k v : ℕ) (m : List ℕ) (c : ℕ) {x : Bool} {u w : List ℕ} {d : ℕ} → Place s c → (c ≡ 0 → ⊥) → x ≡ true → (x ≡ true → u ≡ child_marked s k v m c) → d ≡ next s c
-      → left_marks s k v m c ≡ w → left_marks s k v u d ≡ w
-  unfolding marked
-  marks_next k v m c {d = d} p z f g h i =
-      ap (λ (y : List ℕ). left_marks s k v y d) (g f) ∙ ap (λ (y : ℕ). left_marks s k v (child_marked s k v m c) y) h ∙ sym (ap (marked s k v m) (list_on c p z)) ∙ i
+    pub marks_next : {w : List ℕ} → marked s k v m cs ≡ w → marked s k v u ds ≡ w
+    unfolding marked
+    marks_next i = ap (λ (y : List ℕ). marked s k v y ds) (g f) ∙ sym (ap (marked s k v m) e) ∙ i
 
-pub left_done : (s : Sheet) (k v : ℕ) (m : List ℕ) (c : ℕ) → c ≡ 0 → left s k v m c ≡ true
+pub list_done : (s : Sheet) (k v : ℕ) (m : List ℕ) {cs : List ℕ} → cs ≡ [] → unmarked s k v m cs ≡ true
 unfolding unmarked
-left_done s k v m c e = ap (left s k v m) e ∙ ap (unmarked s k v m) (chain_zero (rows s) s)
+list_done s k v m e = ap (unmarked s k v m) e
 
-pub marks_done : (s : Sheet) (k v : ℕ) (m : List ℕ) (c : ℕ) → c ≡ 0 → left_marks s k v m c ≡ m
+pub marks_done : (s : Sheet) (k v : ℕ) (m : List ℕ) {cs : List ℕ} → cs ≡ [] → marked s k v m cs ≡ m
 unfolding marked
-marks_done s k v m c e = ap (left_marks s k v m) e ∙ ap (marked s k v m) (chain_zero (rows s) s)
+marks_done s k v m e = ap (marked s k v m) e
 
 -- the pass over all rows
 count_down : (n r : ℕ) → r < n → n - r ≡ suc (n - (r + 1))

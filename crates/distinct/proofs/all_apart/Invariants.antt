@@ -4,8 +4,5 @@ use Prim.Native.Nat.{◌≤◌, ◌-◌}
 use mathlib.Core.Path.{◌≡◌}
 use Rattle.distinct.proofs.all_apart.Given as goal
 
-abbrev pub invariant-loop-r : goal.invariant-loop-r
-invariant-loop-r l = (l.r ≤ l.n) × (length l.marks ≡ length l.initial.marks) × (all_unmarked l.sheet (l.n - l.r) l.r l.marks ≡ all_unmarked l.sheet l.n 0 l.initial.marks)
-
-abbrev pub decreases-loop-r : goal.decreases-loop-r
-decreases-loop-r l = l.n - l.r
+abbrev pub invariant-loop-row : goal.invariant-loop-row
+invariant-loop-row l = (l.row ≤ l.n) × (length l.marks ≡ length l.initial.marks) × (all_unmarked l.sheet (l.n - l.row) l.row l.marks ≡ all_unmarked l.sheet l.n 0 l.initial.marks)
