@@ -127,10 +127,12 @@ fn is_name_rule(rule: Rule) -> bool
 fn holds_name(kind: u32, c: u32) -> bool
     ensures { result ≡ in_column kind c }
 {
-    match (Kind::try_from(kind), c) {
-        (Ok(kind), column::A) => is_name_rule(rule_a(kind)),
-        (Ok(kind), column::B) => is_name_rule(rule_b(kind)),
-        _ => false,
+    match Kind::try_from(kind) {
+        Ok(kind) => {
+            c == column::A && is_name_rule(rule_a(kind))
+                || c == column::B && is_name_rule(rule_b(kind))
+        }
+        Err(_) => false,
     }
 }
 

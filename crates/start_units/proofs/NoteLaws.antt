@@ -2,70 +2,40 @@
 use mathlib.Core.Path.{◌≡◌, refl, sym, ap, ◌∙◌, subst}
 use mathlib.Core.Logic.{◌⊎◌, inl, inr, ⊎_elim}
 use mathlib.Core.Bool.{Bool, true, false}
-use mathlib.Core.List.{List, [], ◌∷◌}
+use mathlib.Core.List.{List, [], ◌∷◌, map}
 use Prim.Native.Nat.{ℕ, zero, suc, ◌+◌, ◌<◌, ◌≤◌}
 use native.Mathlib.Omega.{arith}
 use lib.Dec.{T, T_not, eqb}
 use lib.ListN.{length, get_or, set, length-set}
 use lib.Seq.{get_or-set_same, get_or-set_other}
-use borrow.Author.Tests.{eq-eqb, ne_eqb, eqb-true, eqb-false}
+use borrow.Author.Tests.{eqb-true, eqb-false}
 use Rattle.definition.specs.Basics.{when◌then◌else◌, ◌∈?◌}
 use Rattle.definition.specs.Kind.{UNIT, IMPORT}
-use Rattle.definition.specs.Sheet.{Sheet, kind, next, child, a, rows, is}
+use Rattle.definition.specs.Sheet.{Sheet, a, rows, is, kids_of}
 use Rattle.definition.proofs.Lists.Tests.{T_true}
 use Rattle.definition.proofs.Lists.Counts.{in_cases}
 use Rattle.unit_order.specs.Order.{units, imports_of}
 use Rattle.unit_order.proofs.SheetLaws.{unit_row_lem, row_unit}
-use Rattle.start_units.specs.Starting.{Importing, imports_from, Unnoted, noted, noted_at, noted_unit, Importers}
-use Rattle.start_units.proofs.ReadyLaws.{from_none, from_step, from_child, same_or}
+use Rattle.start_units.specs.Starting.{Importing, Unnoted, noted, noted_unit, Importers}
+use Rattle.start_units.proofs.ReadyLaws.{same_or}
 
--- One row of a child list.
-module _ (s : Sheet) (u k : ℕ) (low : List ℕ) where
-  pub note_other : (kind s k ≡ IMPORT → ⊥) → low ≡ noted_at s u k low
-  unfolding noted_at
-  note_other f = sym (ap (λ (t : Bool). when t then noted u (a s k ∷ []) low else low) (ne_eqb (kind s k) IMPORT f))
-
-  module _ (e : kind s k ≡ IMPORT) (v : ℕ) (to : v ≡ a s k) where
-    at_import : (when eqb (get_or low v 0) 0 then set low v u else low) ≡ noted_at s u k low
-    unfolding noted_at noted
-    at_import =
-        ap (λ (i : ℕ). when eqb (get_or low i 0) 0 then set low i u else low) to
-        ∙ sym (ap (λ (t : Bool). when t then noted u (a s k ∷ []) low else low) (eq-eqb (kind s k) IMPORT e))
-
-    pub note_new : {x : List ℕ} → get_or low v 0 ≡ 0 → x ≡ set low v u → x ≡ noted_at s u k low
-    note_new free done = done ∙ sym (ap (λ (t : Bool). when t then set low v u else low) (eq-eqb (get_or low v 0) 0 free)) ∙ at_import
-
-    pub note_old : (get_or low v 0 ≡ 0 → ⊥) → low ≡ noted_at s u k low
-    note_old f = sym (ap (λ (t : Bool). when t then set low v u else low) (ne_eqb (get_or low v 0) 0 f)) ∙ at_import
-
--- A child list: from row k on, what is noted at k and then from the next row on.
-note_step : (s : Sheet) → Importing s → (u k : ℕ) (low : List ℕ) → (k ≡ 0 → ⊥) → k < rows s
-    → noted u (imports_from s (next s k)) (noted_at s u k low) ≡ noted u (imports_from s k) low
-unfolding noted noted_at
-note_step s ok u k low f l = go (is s IMPORT k) ∙ ap (λ (vs : List ℕ). noted u vs low) (sym (from_step s ok k f l))
-  where
-    go : (t : Bool) → noted u (imports_from s (next s k)) (when t then noted u (a s k ∷ []) low else low)
-        ≡ noted u (when t then a s k ∷ imports_from s (next s k) else imports_from s (next s k)) low
-    go true = refl
-    go false = refl
-
-pub note_more : (s : Sheet) → Importing s → (u k : ℕ) (low : List ℕ) {x : ℕ} {after r : List ℕ} → (k ≡ 0 → ⊥) → k < rows s
-    → x ≡ next s k → after ≡ noted_at s u k low → noted u (imports_from s k) low ≡ r → noted u (imports_from s x) after ≡ r
-note_more s ok u k low f l to e h = rw (to, e) (note_step s ok u k low f l ∙ h)
-
-pub note_end : (s : Sheet) (u k : ℕ) (low : List ℕ) → k ≡ 0 → low ≡ noted u (imports_from s k) low
+-- The import rows of a unit: one more, and the end of them.
+pub note_more : (s : Sheet) (u : ℕ) (low : List ℕ) {ks js : List ℕ} {k : ℕ} {after r : List ℕ} → ks ≡ k ∷ js → after ≡ noted u (a s k ∷ []) low
+    → noted u (map (a s) ks) low ≡ r → noted u (map (a s) js) after ≡ r
 unfolding noted
-note_end s u k low e = sym (ap (λ (vs : List ℕ). noted u vs low) (from_none s k e))
+note_more s u low {js = js} e f h = ap (noted u (map (a s) js)) f ∙ sym (ap (λ (l : List ℕ). noted u (map (a s) l) low) e) ∙ h
 
-pub note_start : (s : Sheet) (u k : ℕ) (low : List ℕ) → kind s u ≡ UNIT → k ≡ child s u → noted u (imports_from s k) low ≡ noted_unit s u low
-unfolding noted_unit
-note_start s u k low e to =
-    ap (λ (i : ℕ). noted u (imports_from s i) low) to ∙ ap (λ (vs : List ℕ). noted u vs low) (sym (from_child s u))
-    ∙ sym (ap (λ (t : Bool). when t then noted u (imports_of s u) low else low) (eq-eqb (kind s u) UNIT e))
+pub note_end : (s : Sheet) (u : ℕ) (low : List ℕ) {ks : List ℕ} → ks ≡ [] → noted u (map (a s) ks) low ≡ low
+unfolding noted
+note_end s u low e = ap (λ (l : List ℕ). noted u (map (a s) l) low) e
 
-pub note_none : (s : Sheet) (u : ℕ) (low : List ℕ) → (kind s u ≡ UNIT → ⊥) → low ≡ noted_unit s u low
+pub note_start : (s : Sheet) (u : ℕ) (low : List ℕ) → is s UNIT u ≡ true → noted u (map (a s) (kids_of s IMPORT u)) low ≡ noted_unit s u low
+unfolding noted_unit imports_of
+note_start s u low e = sym (ap (λ (t : Bool). when t then noted u (imports_of s u) low else low) e)
+
+pub note_none : (s : Sheet) (u : ℕ) (low : List ℕ) → is s UNIT u ≡ false → low ≡ noted_unit s u low
 unfolding noted_unit
-note_none s u low f = sym (ap (λ (t : Bool). when t then noted u (imports_of s u) low else low) (ne_eqb (kind s u) UNIT f))
+note_none s u low f = sym (ap (λ (t : Bool). when t then noted u (imports_of s u) low else low) f)
 
 set_either : (l : List ℕ) (i y x : ℕ) → (get_or (set l i y) x 0 ≡ y) ⊎ (get_or (set l i y) x 0 ≡ get_or l x 0)
 set_either [] i y x = inr refl

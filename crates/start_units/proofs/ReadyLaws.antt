@@ -16,7 +16,9 @@ use Rattle.definition.proofs.Format.Passes.{chain_on}
 use Rattle.definition.proofs.Lists.Tests.{T_and, and_both, T_true, true_of}
 use Rattle.unit_order.specs.Order.{units, imports_of}
 use Rattle.unit_order.proofs.SheetLaws.{row_unit}
-use Rattle.start_units.specs.Starting.{Importing, marked, startable, imports_from, waits_for, WaitsAt, Waits, waiting_from}
+use Rattle.start_units.specs.Starting.{Importing, marked, startable, imports_from, waits_for, WaitsAt, WaitsFound, Waits, waiting_from}
+use Rattle.std.specs.Prelude.{Option, Some, None}
+use Rattle.std.specs.Option.{unwrap_or, is_none}
 
 pub false_of : (t : Bool) → (T t → ⊥) → t ≡ false
 false_of true f = absurd (f tt)
@@ -92,18 +94,6 @@ module _ (s : Sheet) (ok : Importing s) (k : ℕ) (f : k ≡ 0 → ⊥) (l : k <
       let r = T_and (marked m (a s k)) (all (marked m) (imports_from s (next s k))) (subst (λ (x : List ℕ). T (all (marked m) x)) e g) in
       T_not (eqb (get_or m (a s k) 0) 0) r.0 q.1
 
--- the test of one row, as the routine makes it
-module _ (s : Sheet) (m : List ℕ) (k : ℕ) where
-  pub waits_other : (kind s k ≡ IMPORT → ⊥) → false ≡ waits_for s m k
-  unfolding waits_for
-  waits_other f = sym (ap (λ (t : Bool). t && eqb (get_or m (a s k) 0) 0) (ne_eqb (kind s k) IMPORT f))
-
-  pub waits_import : kind s k ≡ IMPORT → {v x : ℕ} → v ≡ a s k → x ≡ get_or m v 0 → eqb x 0 ≡ waits_for s m k
-  unfolding waits_for
-  waits_import e to is =
-      ap (λ (y : ℕ). eqb y 0) (is ∙ ap (λ (i : ℕ). get_or m i 0) to)
-      ∙ sym (ap (λ (t : Bool). t && eqb (get_or m (a s k) 0) 0) (eq-eqb (kind s k) IMPORT e))
-
 -- The loop stands at row k: the imports passed since row `from` have marks.
 abbrev pub Passed : Sheet → List ℕ → ℕ → ℕ → Type 0
 Passed s m from k = (k < rows s) × ((passed : List ℕ) × (imports_from s from ≡ passed ++ imports_from s k) × T (all (marked m) passed))
@@ -134,15 +124,43 @@ module _ (s : Sheet) (ok : Importing s) (m : List ℕ) (from k : ℕ) (h : Passe
         rest = λ z. absurd (z refl);
       }
 
--- the row from which a unit's imports are looked at, as the routine finds it
-module _ (s : Sheet) (w : List ℕ) (u : ℕ) {x : ℕ} (at : x ≡ get_or w u 0) where
-  pub waiting_child : {k : ℕ} → x ≡ 0 → k ≡ child s u → k ≡ waiting_from s w u
-  unfolding waiting_from
-  waiting_child e to = to ∙ sym (ap (λ (t : Bool). when t then child s u else get_or w u 0) (eq-eqb (get_or w u 0) 0 (sym at ∙ e)))
+-- The loop stands at a row, and the iterator has left what is in the list from there on.
+abbrev pub Standing : Sheet → List ℕ → ℕ → List ℕ → Type 0
+Standing s m from ks = (k : ℕ) × (ks ≡ chain (rows s) s k) × Passed s m from k
 
-  pub waiting_kept : (x ≡ 0 → ⊥) → x ≡ waiting_from s w u
-  unfolding waiting_from
-  waiting_kept f = at ∙ sym (ap (λ (t : Bool). when t then child s u else get_or w u 0) (ne_eqb (get_or w u 0) 0 (λ e. f (at ∙ e))))
+pub standing_start : (s : Sheet) (m : List ℕ) (from : ℕ) {ks : List ℕ} → from < rows s → ks ≡ chain (rows s) s from → Standing s m from ks
+standing_start s m from l e = (from, e, (l, ([], refl, tt)))
+
+module _ (s : Sheet) (ok : Importing s) (m : List ℕ) (from : ℕ) {ks : List ℕ} (h : Standing s m from ks) where
+  module _ {x : ℕ} {js : List ℕ} (e : ks ≡ x ∷ js) where
+    -- the row given is the one
+    standing_row : (h.0 ≡ x) × (h.0 ≡ 0 → ⊥) × (js ≡ chain (rows s) s (next s h.0))
+    standing_row =
+        let some : h.0 ≡ 0 → ⊥ = λ q. let none : x ∷ js ≡ [] = sym e ∙ h.1 ∙ ap (chain (rows s) s) q ∙ chain_none (rows s) s in cc in
+        let on : x ∷ js ≡ h.0 ∷ chain (rows s) s (next s h.0) = sym e ∙ h.1 ∙ chain_on s ok.nexts h.0 (omega (arith, some)) h.2.0 in
+        (cc, some, cc)
+
+    pub standing_found : waits_for s m x ≡ true → (x ≡ 0 → ⊥) × WaitsAt s m from x
+    standing_found w =
+        let r = standing_row in
+        subst (λ (y : ℕ). (y ≡ 0 → ⊥) × WaitsAt s m from y) r.0 (r.1, passed_here s ok m from h.0 h.2 r.1 (ap (waits_for s m) r.0 ∙ w))
+
+    pub standing_more : waits_for s m x ≡ false → Standing s m from js
+    standing_more w =
+        let r = standing_row in
+        (next s h.0, r.2, passed_more s ok m from h.0 h.2 (next s h.0) r.1 (ap (waits_for s m) r.0 ∙ w) refl)
+
+  pub standing_end : ks ≡ [] → WaitsAt s m from 0
+  standing_end e =
+      passed_all s ok m from h.0 h.2
+      (⊎_elim (λ q. q)
+      (λ f. let on : [] ≡ h.0 ∷ chain (rows s) s (next s h.0) = sym e ∙ h.1 ∙ chain_on s ok.nexts h.0 (omega (arith, f)) h.2.0 in cc)
+      (same_or h.0 0))
+
+-- what is found, as a number
+pub found_at : (s : Sheet) (m : List ℕ) (from : ℕ) (o : Option ℕ) → WaitsFound s m from o → WaitsAt s m from (unwrap_or o 0) × (is_none o ≡ eqb (unwrap_or o 0) 0)
+found_at s m from None h = (h, refl)
+found_at s m from (Some x) h = (h.1, sym (ne_eqb x 0 h.0))
 
 -- Whether a unit is ready, by the import that it waits for.
 pub from_child : (s : Sheet) (u : ℕ) → imports_of s u ≡ imports_from s (child s u)
@@ -230,12 +248,12 @@ module _ (s : Sheet) (ok : Importing s) (m w : List ℕ) (u : ℕ) (l : u < rows
               (p.0, p.1 ∙ ap (λ (i : ℕ). p.0 ++ imports_from s i) (sym old), p.2)
 
 -- other rows are not ready
-pub not_unit : (s : Sheet) (m : List ℕ) (u : ℕ) → (kind s u ≡ UNIT → ⊥) → false ≡ startable s m u
+pub not_unit : (s : Sheet) (m : List ℕ) (u : ℕ) → is s UNIT u ≡ false → false ≡ startable s m u
 unfolding startable
-not_unit s m u f = sym (ap (λ (t : Bool). t && not (marked m u) && all (marked m) (imports_of s u)) (ne_eqb (kind s u) UNIT f))
+not_unit s m u f = sym (ap (λ (t : Bool). t && not (marked m u) && all (marked m) (imports_of s u)) f)
 
-pub not_free : (s : Sheet) (m : List ℕ) (u : ℕ) → kind s u ≡ UNIT → (get_or m u 0 ≡ 0 → ⊥) → false ≡ startable s m u
+pub not_free : (s : Sheet) (m : List ℕ) (u : ℕ) → is s UNIT u ≡ true → (get_or m u 0 ≡ 0 → ⊥) → false ≡ startable s m u
 unfolding startable
 not_free s m u e f =
-    sym (ap (λ (t : Bool). t && not (marked m u) && all (marked m) (imports_of s u)) (eq-eqb (kind s u) UNIT e)
+    sym (ap (λ (t : Bool). t && not (marked m u) && all (marked m) (imports_of s u)) e
     ∙ ap (λ (t : Bool). not (not t) && all (marked m) (imports_of s u)) (ne_eqb (get_or m u 0) 0 f))

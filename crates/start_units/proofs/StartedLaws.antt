@@ -22,21 +22,8 @@ use Rattle.unit_order.proofs.SheetLaws.{units_rising, unit_row_lem, row_unit}
 use Rattle.start_units.specs.Starting.{Importing, marked, startable, Waits, following, LowestFrom, Unnoted, Importers, after_start, Marks, Started}
 use Rattle.start_units.proofs.ReadyLaws.{all_more, either, false_of, same_or}
 
--- The row to look at after row u, as the routine finds it.
+-- The row to look at after row u.
 module _ (s : Sheet) (u : ℕ) where
-  pub following_other : (kind s u ≡ UNIT → ⊥) → u + 1 ≡ following s u
-  unfolding following
-  following_other f = rw (ne_eqb (kind s u) UNIT f)
-
-  module _ (e : kind s u ≡ UNIT) {x : ℕ} (to : x ≡ next s u) where
-    pub following_none : x ≡ 0 → 4294967295 ≡ following s u
-    unfolding following
-    following_none z = rw (eq-eqb (kind s u) UNIT e, eq-eqb (next s u) 0 (sym to ∙ z))
-
-    pub following_next : (x ≡ 0 → ⊥) → x ≡ following s u
-    unfolding following
-    following_next f = to ∙ rw (eq-eqb (kind s u) UNIT e, ne_eqb (next s u) 0 (λ z. f (to ∙ z)))
-
   -- it lies above u, and no unit lies between
   module _ (ok : Importing s) (l : u < rows s) where
     pub following_above : (u < following s u) × (following s u ≤ 4294967295)
@@ -61,20 +48,7 @@ module _ (s : Sheet) (u : ℕ) where
         go true p true e = absurd ((ok.in_line u v (row_unit s u l (T_true (is s UNIT u) p)) m b).0 (eqb-true (next s u) 0 e))
         go true p false e = (ok.in_line u v (row_unit s u l (T_true (is s UNIT u) p)) m b).1
 
--- Where the next unit is looked for, as the routine finds it.
-module _ (s low : List ℕ) (u : ℕ) {x : ℕ} (at : x ≡ get_or low u 0) where
-  pub after_none : {y : ℕ} → x ≡ 0 → y ≡ following s u → y ≡ after_start s low u
-  unfolding after_start
-  after_none e to = to ∙ rw (eq-eqb (get_or low u 0) 0 (sym at ∙ e))
-
-  pub after_lower : (x ≡ 0 → ⊥) → x < u → x ≡ after_start s low u
-  unfolding after_start
-  after_lower f l = at ∙ rw (ne_eqb (get_or low u 0) 0 (λ e. f (at ∙ e)), lt-ltb (get_or low u 0) u (omega arith))
-
-  pub after_higher : {y : ℕ} → (x ≡ 0 → ⊥) → u ≤ x → y ≡ following s u → y ≡ after_start s low u
-  unfolding after_start
-  after_higher f l to = to ∙ rw (ne_eqb (get_or low u 0) 0 (λ e. f (at ∙ e)), le-ltb (get_or low u 0) u (omega arith))
-
+-- Where the next unit is looked for:
 -- it is no later than the next row to look at, and a lower unit noted at u
 after_most : (s low : List ℕ) (u : ℕ) → u < following s u → after_start s low u ≤ following s u
 unfolding after_start
@@ -86,7 +60,8 @@ after_most s low u l = go (eqb (get_or low u 0) 0) (ltb (get_or low u 0) u) refl
     go false false e = omega arith
 
 after_low : (s low : List ℕ) (u : ℕ) → 0 < get_or low u 0 → get_or low u 0 < u → after_start s low u ≡ get_or low u 0
-after_low s low u p l = sym (after_lower s low u refl (λ z. omega (arith, z)) l)
+unfolding after_start
+after_low s low u p l = rw (ne_eqb (get_or low u 0) 0 (λ e. omega (arith, e)), lt-ltb (get_or low u 0) u l)
 
 startable_unit : (s : Sheet) (m : List ℕ) (u : ℕ) → T (startable s m u) → T (is s UNIT u)
 unfolding startable
@@ -114,12 +89,12 @@ module _ (s : Sheet) (m : List ℕ) (start u : ℕ) (h : Looking s m start u) wh
             (same_or v u),
       )
 
+  pub looking_some : Importing s → startable s m u ≡ true → u ≡ 0 → ⊥
+  looking_some ok e z = T_not (is s UNIT 0) ok.header (subst (λ (i : ℕ). T (is s UNIT i)) z (startable_unit s m u (T_true (startable s m u) e)))
+
   pub looking_found : Importing s → u < rows s → startable s m u ≡ true → LowestFrom s m start u
   looking_found ok l e =
-      record { none = λ z. absurd (header z); some = λ f. (h.0, l, T_true (startable s m u) e); least = λ f v j b. h.1 v j b (omega arith) }
-    where
-      header : u ≡ 0 → ⊥
-      header z = T_not (is s UNIT 0) ok.header (subst (λ (i : ℕ). T (is s UNIT i)) z (startable_unit s m u (T_true (startable s m u) e)))
+      record { none = λ z. absurd (looking_some ok e z); some = λ f. (h.0, l, T_true (startable s m u) e); least = λ f v j b. h.1 v j b (omega arith) }
 
   pub looking_none : rows s ≤ u → LowestFrom s m start 0
   looking_none l = record { none = λ z v b k. h.1 v b (omega arith) k; some = λ f. absurd (f refl); least = λ f. absurd (f refl) }

@@ -1,5 +1,5 @@
 -- The program's own: what its tables tell while units are started. A reader need not believe these; the contract of the entry cites the definition alone.
-use Rattle.std.specs.Prelude.{◌≡◌, Bool, not, ◌&&◌, List, [], ◌∷◌, ◌++◌, map, ℕ, ◌+◌, ◌<◌, ◌≤◌, T, eqb, ltb, length, get_or, set}
+use Rattle.std.specs.Prelude.{◌≡◌, Bool, not, ◌&&◌, List, [], ◌∷◌, ◌++◌, map, ℕ, ◌+◌, ◌<◌, ◌≤◌, T, eqb, ltb, length, get_or, set, Option, Some, None, MatchOption}
 use Rattle.std.proofs.lemmas.List.Edits.{sets}
 use Rattle.definition.specs.Basics.{when◌then◌else◌, filter, all, ◌∈?◌}
 use Rattle.definition.specs.Kind.{UNIT, IMPORT}
@@ -39,6 +39,10 @@ pub record WaitsAt (s : Sheet) (m : List ℕ) (k x : ℕ) : Type 0 where
   pub row : (x ≡ 0 → ⊥) → (x < rows s) × T (waits_for s m x)
   pub rest : (x ≡ 0 → ⊥) → (passed : List ℕ) × (imports_from s k ≡ passed ++ imports_from s x) × T (all (marked m) passed)
 
+-- the same of what is found: a row, or none
+abbrev pub WaitsFound : Sheet → List ℕ → ℕ → Option ℕ → Type 0
+WaitsFound s m k o = MatchOption o (WaitsAt s m k 0) (λ x. (x ≡ 0 → ⊥) × WaitsAt s m k x)
+
 -- The table w tells of a unit 0, or a row of its child list: all that it imports before that row has a mark.
 pub record Waits (s : Sheet) (m w : List ℕ) : Type 0 where
   pub room : rows s ≤ length w
@@ -60,6 +64,15 @@ pub record LowestFrom (s : Sheet) (m : List ℕ) (start x : ℕ) : Type 0 where
   pub some : (x ≡ 0 → ⊥) → (start ≤ x) × (x < rows s) × T (startable s m x)
   pub least : (x ≡ 0 → ⊥) → (v : ℕ) → start ≤ v → v < x → T (startable s m v) → ⊥
 
+-- the same of what is found: a unit, or none
+abbrev pub LowestFound : Sheet → List ℕ → ℕ → Option ℕ → Type 0
+LowestFound s m start o = MatchOption o (LowestFrom s m start 0) (λ x. (x ≡ 0 → ⊥) × LowestFrom s m start x)
+
+-- a row to look at, or the number past all rows that stands for none
+abbrev pub or_past : Option ℕ → ℕ
+or_past (Some u) = u
+or_past None = 4294967295
+
 -- the table tells nothing yet
 pub record Unnoted (s : Sheet) (w : List ℕ) : Type 0 where
   pub room : rows s ≤ length w
@@ -69,10 +82,6 @@ pub record Unnoted (s : Sheet) (w : List ℕ) : Type 0 where
 unfoldable pub noted : ℕ → List ℕ → List ℕ → List ℕ
 noted u [] low = low
 noted u (v ∷ vs) low = noted u vs (when eqb (get_or low v 0) 0 then set low v u else low)
-
--- the same for row k of a child list: if it is an import, at its unit
-unfoldable pub noted_at : Sheet → ℕ → ℕ → List ℕ → List ℕ
-noted_at s u k low = when is s IMPORT k then noted u (a s k ∷ []) low else low
 
 -- the same for row u: if it is a unit, at all that it imports
 unfoldable pub noted_unit : Sheet → ℕ → List ℕ → List ℕ

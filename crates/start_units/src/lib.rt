@@ -1,43 +1,45 @@
 // Starts the units of a sheet one after another, each time the lowest of those ready: what comes of it is the order of document 02, F-10.
 #![tactic(auto)]
 
-ghost use Rattle.std.specs.Prelude.{◌≡◌, [], ◌<◌};
-ghost use Rattle.definition.specs.Sheet.{rows as rows_of};
-ghost use Rattle.start_units.specs.Starting.{Importing, waits_for, WaitsAt, Waits, waiting_from, startable, LowestFrom, Unnoted, noted_at, noted_unit, Importers};
-ghost use Rattle.start_units.specs.Starting.{following as following_row, after_start, Marks, Started};
+ghost use Rattle.std.specs.Prelude.{◌≡◌, [], ◌∷◌, ◌<◌};
+ghost use Rattle.definition.specs.Sheet.{a, rows as rows_of};
+ghost use Rattle.start_units.specs.Starting.{Importing, waits_for, WaitsFound, Waits, waiting_from, startable, LowestFound, Unnoted, noted, noted_unit, Importers};
+ghost use Rattle.start_units.specs.Starting.{following as following_row, or_past, after_start, Marks, Started};
 
-use ast::{column, kind};
-use words::{entry_at, put_at, put_entry, word};
-
-// No row of a sheet.
-const NO_UNIT: u32 = 4294967295;
+use ast::column;
+use ast::kind::Kind;
+use sheet::child_rows::ChildRows;
+use sheet::kids_of;
+use words::{entry_at, is_kind, put_at, put_entry, word};
 
 // Is row `k` an import whose unit has no mark?
+#[tactic(auto, unfolding(crate::specs::Starting::waits_for))]
 fn waits_for(sheet: &[u32], k: u32, marks: &[u32]) -> bool
     ensures { result ≡ waits_for sheet.now marks.now k }
 {
-    if word(sheet, k, column::KIND) != kind::IMPORT {
-        return false;
-    }
-    entry_at(marks, word(sheet, k, column::A)) == 0
+    is_kind(sheet, k, Kind::Import) && entry_at(marks, word(sheet, k, column::A)) == 0
 }
 
-// The first import row, from row `from` of a child list on, whose unit has no mark; or 0.
-fn first_waiting(sheet: &[u32], from: u32, marks: &[u32]) -> u32
+// The first import row, from row `from` of a child list on, whose unit has no mark.
+fn first_waiting(sheet: &[u32], from: u32, marks: &[u32]) -> Option<u32>
     requires { Importing sheet.now × (from < rows_of sheet.now) }
-    ensures { WaitsAt sheet.now marks.now from result }
+    ensures { WaitsFound sheet.now marks.now from result }
 {
-    let mut k = from;
-    while k != 0 {
+    let rest = ChildRows {
+        sheet,
+        next: from,
+        left: sheet.len() / 8,
+    };
+    for k in rest {
         if waits_for(sheet, k, marks) {
-            return k;
+            return Some(k);
         }
-        k = word(sheet, k, column::NEXT);
     }
-    0
+    None
 }
 
 // The child of unit `u` from which its imports are looked at: all that it imports before that child has started.
+#[tactic(auto, unfolding(crate::specs::Starting::waiting_from))]
 fn waiting_from(sheet: &[u32], u: u32, waits: &[u32]) -> u32
     ensures { result ≡ waiting_from sheet.now waits.now u }
 {
@@ -54,53 +56,59 @@ fn is_ready(sheet: &[u32], u: u32, marks: &[u32], waits: &mut [u32]) -> bool
     requires { Importing sheet.now × (u < rows_of sheet.now) × Waits sheet.now marks.now waits.old }
     ensures { (result ≡ startable sheet.now marks.now u) × Waits sheet.now marks.now waits.new }
 {
-    if word(sheet, u, column::KIND) != kind::UNIT {
+    if !is_kind(sheet, u, Kind::Unit) {
         return false;
     }
     if entry_at(marks, u) != 0 {
         return false;
     }
     let from = waiting_from(sheet, u, waits);
-    let k = first_waiting(sheet, from, marks);
-    put_entry(waits, u, k);
-    k == 0
+    let waiting = first_waiting(sheet, from, marks);
+    put_entry(waits, u, waiting.unwrap_or(0));
+    waiting.is_none()
 }
 
-// The row to look at after row `u` for a unit: after a unit the next one, or NO_UNIT; else the row after it.
-fn following(sheet: &[u32], u: u32) -> u32
+// The row to look at after row `u` for a unit: after a unit the next one, if there is one; else the row after it.
+#[tactic(auto, unfolding(crate::specs::Starting::following))]
+fn following(sheet: &[u32], u: u32) -> Option<u32>
     requires { u < 4294967295 }
-    ensures { result ≡ following_row sheet.now u }
+    ensures { or_past result ≡ following_row sheet.now u }
 {
-    if word(sheet, u, column::KIND) != kind::UNIT {
-        return u + 1;
+    if !is_kind(sheet, u, Kind::Unit) {
+        return Some(u + 1);
     }
     let next = word(sheet, u, column::NEXT);
-    if next == 0 { NO_UNIT } else { next }
+    if next == 0 { None } else { Some(next) }
 }
 
-// The lowest unit from row `start` on that is ready, or 0.
-fn lowest_ready(sheet: &[u32], start: u32, marks: &[u32], waits: &mut [u32]) -> u32
+// The lowest unit from row `start` on that is ready.
+fn lowest_ready(
+    sheet: &[u32],
+    start: Option<u32>,
+    marks: &[u32],
+    waits: &mut [u32],
+) -> Option<u32>
     requires { Importing sheet.now × Waits sheet.now marks.now waits.old }
-    ensures { LowestFrom sheet.now marks.now start result × Waits sheet.now marks.now waits.new }
+    ensures { LowestFound sheet.now marks.now (or_past start) result × Waits sheet.now marks.now waits.new }
 {
-    let mut u = start;
-    while (u as usize) < sheet.len() / 8 {
-        if is_ready(sheet, u, marks, waits) {
-            return u;
+    let mut at = start;
+    while let Some(u) = at {
+        if sheet.len() / 8 <= u as usize {
+            return None;
         }
-        u = following(sheet, u);
+        if is_ready(sheet, u, marks, waits) {
+            return Some(u);
+        }
+        at = following(sheet, u);
     }
-    0
+    None
 }
 
-// Notes unit `u` at the unit that row `k` imports, if it is an import and none is noted there yet.
-fn note_import(sheet: &[u32], k: u32, u: u32, low: &mut [u32])
-    ensures { low.new ≡ noted_at sheet.now u k low.old }
+// Notes unit `u` at unit `v`, if none is noted there yet.
+#[tactic(auto, unfolding(crate::specs::Starting::noted))]
+fn note(v: u32, u: u32, low: &mut [u32])
+    ensures { low.new ≡ noted u (v ∷ []) low.old }
 {
-    if word(sheet, k, column::KIND) != kind::IMPORT {
-        return;
-    }
-    let v = word(sheet, k, column::A);
     if entry_at(low, v) == 0 {
         put_entry(low, v, u);
     }
@@ -108,16 +116,13 @@ fn note_import(sheet: &[u32], k: u32, u: u32, low: &mut [u32])
 
 // Notes row `u`, if it is a unit, at all that it imports.
 fn note_unit(sheet: &[u32], u: u32, low: &mut [u32])
-    requires { Importing sheet.now × (u < rows_of sheet.now) }
     ensures { low.new ≡ noted_unit sheet.now u low.old }
 {
-    if word(sheet, u, column::KIND) != kind::UNIT {
+    if !is_kind(sheet, u, Kind::Unit) {
         return;
     }
-    let mut k = word(sheet, u, column::CHILD);
-    while k != 0 {
-        note_import(sheet, k, u, low);
-        k = word(sheet, k, column::NEXT);
+    for k in kids_of(sheet, u, Kind::Import) {
+        note(word(sheet, k, column::A), u, low);
     }
 }
 
@@ -126,26 +131,23 @@ fn note_importers(sheet: &[u32], low: &mut [u32])
     requires { Importing sheet.now × Unnoted sheet.now low.old }
     ensures { Importers sheet.now low.new }
 {
-    let mut u: u32 = 0;
-    while (u as usize) < sheet.len() / 8 {
+    for u in 0..(sheet.len() / 8) as u32 {
         note_unit(sheet, u, low);
-        u += 1;
     }
 }
 
 // The row from which the next ready unit is looked for, once `u` has started: a unit below `u` can only have become ready if it imports `u`.
-fn after_start(sheet: &[u32], low: &[u32], u: u32) -> u32
+#[tactic(auto, unfolding(crate::specs::Starting::after_start))]
+fn after_start(sheet: &[u32], low: &[u32], u: u32) -> Option<u32>
     requires { u < 4294967295 }
-    ensures { result ≡ after_start sheet.now low.now u }
+    ensures { or_past result ≡ after_start sheet.now low.now u }
 {
     let first = entry_at(low, u);
-    if first == 0 {
-        return following(sheet, u);
+    if first == 0 || u <= first {
+        following(sheet, u)
+    } else {
+        Some(first)
     }
-    if u <= first {
-        return following(sheet, u);
-    }
-    first
 }
 
 // Starts all units that ever get ready, and answers how many they are. Each gets as its mark how many have started with it, and is written into
@@ -160,19 +162,19 @@ fn start_all(
     requires { Importing sheet.now × Importers sheet.now low.now × Marks sheet.now marks.old [] × Waits sheet.now marks.old waits.old }
     ensures { Started sheet.now list.old result marks.new list.new }
 {
-    let mut count: usize = 0;
-    let mut start: u32 = 0;
-    while count < sheet.len() / 8 {
-        let u = lowest_ready(sheet, start, marks, waits);
-        if u == 0 {
-            return count;
+    let rows = sheet.len() / 8;
+    let mut start = Some(0);
+    for count in 0..rows {
+        match lowest_ready(sheet, start, marks, waits) {
+            None => return count,
+            Some(u) => {
+                put_entry(marks, u, count as u32 + 1);
+                put_at(list, count, u);
+                start = after_start(sheet, low, u);
+            }
         }
-        put_entry(marks, u, count as u32 + 1);
-        put_at(list, count, u);
-        start = after_start(sheet, low, u);
-        count += 1;
     }
-    count
+    rows
 }
 
 // The same in lent tables of zeros.

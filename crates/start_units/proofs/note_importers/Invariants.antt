@@ -7,6 +7,3 @@ use Rattle.start_units.proofs.note_importers.Given as goal
 
 abbrev pub invariant-loop-u : goal.invariant-loop-u
 invariant-loop-u l = (l.u ≤ rows_of l.sheet) × (length l.low ≡ length l.initial.low) × Noting l.sheet l.u l.low
-
-abbrev pub decreases-loop-u : goal.decreases-loop-u
-decreases-loop-u l = rows_of l.sheet - l.u
