@@ -17,8 +17,10 @@ use Rattle.definition.specs.Outcome.{rows_fit}
 use Rattle.definition.proofs.Lists.Counts.{all_below}
 use Rattle.definition.proofs.Format.Passes.{shape_beyond}
 use Rattle.names.proofs.Laws.{side}
-use Rattle.shapes.specs.States.{entry_of, kind_table, rules, rule_at}
-use Rattle.shapes.proofs.TableLaws.{no_row}
+use Rattle.shapes.specs.States.{entry_of, kind_table, rule_at}
+use Rattle.ast.specs.declared.kind.Kind.{Kind}
+use Rattle.ast.specs.Kind.{kind_number}
+use Rattle.shapes.proofs.TableLaws.{no_row, no_kind}
 use Rattle.session.specs.Session.{Session}
 use Rattle.session.specs.Entry.{own_names, new_names, names_with, renumbered, to_session, holds_name, entry_row, entry_sheet}
 use Rattle.session.proofs.NameLaws.{same_itself, place_own}
@@ -45,20 +47,6 @@ by_table p q m h beyond k = go (side k m)
     go : (k < m) ⊎ (m ≤ k) → p k ≡ q k
     go (inl l) = alike_same (p k) (q k) (all_below (λ j. alike (p j) (q j)) m h k l)
     go (inr l) = beyond k l
-
--- the rules that hold names
-name_rules : T (all (λ x. alike (eqb x 3 || eqb x 4) (holds_name (rule_at x))) (from 0 13))
-unfolding alike
-name_rules = tt
-
-name_rule : (x : ℕ) → (eqb x 3 || eqb x 4) ≡ holds_name (rule_at x)
-name_rule =
-    by_table (λ x. eqb x 3 || eqb x 4) (λ x. holds_name (rule_at x)) 13 name_rules
-    (λ x h. ap (λ (t : Bool). t || eqb x 4) (ne_eqb x 3 (λ e. absurd (omega arith))) ∙ ne_eqb x 4 (λ e. absurd (omega arith))
-    ∙ ap holds_name (sym (get_or-eq_default rules nought {n = x} h)))
-
-pub other_rule : (x : ℕ) → (x ≡ 3 → ⊥) → eqb x 4 ≡ holds_name (rule_at x)
-other_rule x f = sym (ap (λ (t : Bool). t || eqb x 4) (ne_eqb x 3 f)) ∙ name_rule x
 
 -- the columns a and b of each kind
 columns_a : T (all (λ k. alike (holds_name (rule_at (entry_of kind_table k 2))) (holds_name (shape_of k).a)) (from 0 60))
@@ -90,6 +78,18 @@ module _ (k c : ℕ) where
   in_none f g =
       sym (ap (λ (t : Bool). when t then holds_name (shape_of k).a else when eqb c 7 then holds_name (shape_of k).b else false) (ne_eqb c 6 f)
       ∙ ap (λ (t : Bool). when t then holds_name (shape_of k).b else false) (ne_eqb c 7 g))
+
+-- a number that is no kind's
+pub in_unknown : (k c : ℕ) → ((x : Kind) → k ≡ kind_number x → ⊥) → false ≡ in_column k c
+in_unknown k c h =
+    let na : false ≡ holds_name (shape_of k).a = ap (λ (i : ℕ). holds_name (rule_at i)) (sym (no_kind 2 tt k h)) ∙ column_a k in
+    let nb : false ≡ holds_name (shape_of k).b = ap (λ (i : ℕ). holds_name (rule_at i)) (sym (no_kind 3 tt k h)) ∙ column_b k in
+    rw (← na, ← nb) (go (eqb c 6) (eqb c 7))
+  where
+    go : (t u : Bool) → false ≡ (when t then false else when u then false else false)
+    go true u = refl
+    go false true = refl
+    go false false = refl
 
 -- What is told of a number: a fixed one stays,
 module _ (w : List ℕ) (n : ℕ) where

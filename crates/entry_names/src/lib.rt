@@ -129,8 +129,13 @@ fn holds_name(kind: u32, c: u32) -> bool
 {
     match Kind::try_from(kind) {
         Ok(kind) => {
-            c == column::A && is_name_rule(rule_a(kind))
-                || c == column::B && is_name_rule(rule_b(kind))
+            if c == column::A {
+                is_name_rule(rule_a(kind))
+            } else if c == column::B {
+                is_name_rule(rule_b(kind))
+            } else {
+                false
+            }
         }
         Err(_) => false,
     }

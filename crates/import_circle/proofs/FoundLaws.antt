@@ -2,27 +2,27 @@
 use mathlib.Core.Path.{◌≡◌, refl, sym, ap, ◌∙◌, subst}
 use mathlib.Core.Logic.{◌⊎◌, inl, inr, ⊎_elim}
 use mathlib.Core.Bool.{Bool, true, false, not}
-use mathlib.Core.List.{List, [], ◌∷◌, ◌++◌, append_assoc}
-use Prim.Native.Nat.{ℕ, suc, ◌<◌, ◌≤◌}
+use mathlib.Core.List.{List, [], ◌∷◌, ◌++◌, map}
+use Prim.Native.Nat.{ℕ, suc, ◌+◌, ◌<◌, ◌≤◌}
+use Rattle.std.specs.Prelude.{min}
 use native.Mathlib.Omega.{arith}
 use lib.Dec.{T, eqb}
 use lib.ListN.{length, get_or, set, replicate, length-set, length-append, get_or-append}
 use lib.Seq.{get_or-set_same, get_or-set_other, get_or-append_seam}
-use borrow.Author.Tests.{eq-eqb, ne_eqb, lt-ltb}
+use borrow.Author.Tests.{eq-eqb, ne_eqb}
 use Rattle.definition.specs.Basics.{when◌then◌else◌, ◌∈?◌}
 use Rattle.definition.specs.Kind.{IMPORT}
-use Rattle.definition.specs.Sheet.{Sheet, kind, next, child, a, rows, is}
+use Rattle.definition.specs.Sheet.{Sheet, a, rows, kids_of}
 use Rattle.definition.proofs.Lists.Tests.{true_of, T_true}
 use Rattle.definition.proofs.Lists.Counts.{in_head, in_tail, in_cases}
 use Rattle.definition.proofs.Lists.Members.{Nodup, nodup_none, nodup_one, nodup_append, mem_test, pigeonhole}
-use Rattle.machine.specs.Machine.{one_more}
 use Rattle.unit_order.specs.Order.{units, imports_of}
 use Rattle.unit_order.proofs.StartLaws.{in_before, in_last, in_either}
 use Rattle.unit_order.proofs.SheetLaws.{unit_row_lem}
-use Rattle.start_units.specs.Starting.{Importing, marked, imports_from}
-use Rattle.start_units.proofs.ReadyLaws.{same_or, from_none, from_step, from_child, next_row}
+use Rattle.start_units.specs.Starting.{Importing, marked}
+use Rattle.start_units.proofs.ReadyLaws.{same_or}
 use Rattle.start_units.proofs.StartedLaws.{in_more, zero_at}
-use Rattle.import_circle.specs.Search.{added, added_at, Holds}
+use Rattle.import_circle.specs.Search.{added, Holds}
 
 -- What is added to the units found.
 pub added_kept : (vs found : List ℕ) (x : ℕ) → T (x ∈? found) → T (x ∈? added found vs)
@@ -121,98 +121,57 @@ module _ (m q : List ℕ) (n : ℕ) (found : List ℕ) (h : Holds m q n found) w
         queue_old i f l =
             get_or-set_other q n i v 0 f ∙ h.queue i l ∙ sym (get_or-append found (v ∷ []) 0 i (omega (arith, h.count)))
 
--- One row of a child list, as the routine takes it.
-module _ (s : Sheet) (k : ℕ) (m q : List ℕ) (n : ℕ) (found : List ℕ) (h : Holds m q n found) where
-  pub add_other : (kind s k ≡ IMPORT → ⊥) → Holds m q n (added_at s k found)
-  unfolding added_at
-  add_other f = subst (Holds m q n) (sym (ap (λ (t : Bool). when t then added found (a s k ∷ []) else found) (ne_eqb (kind s k) IMPORT f))) h
+-- One unit, as the routine takes it.
+module _ (v : ℕ) (m q : List ℕ) (n : ℕ) (found : List ℕ) (h : Holds m q n found) where
+  pub add_old : (get_or m v 0 ≡ 0 → ⊥) → Holds m q n (added found (v ∷ []))
+  unfolding added
+  add_old f =
+      let there : (v ∈? found) ≡ true = sym (h.marks v) ∙ ap not (ne_eqb (get_or m v 0) 0 f) in
+      subst (Holds m q n) (sym (ap (λ (t : Bool). when t then found else found ++ v ∷ []) there)) h
 
-  module _ (e : kind s k ≡ IMPORT) (v : ℕ) (to : v ≡ a s k) where
-    at_import : added_at s k found ≡ (when v ∈? found then found else found ++ v ∷ [])
-    unfolding added_at added
-    at_import =
-        ap (λ (t : Bool). when t then added found (a s k ∷ []) else found) (eq-eqb (kind s k) IMPORT e)
-        ∙ ap (λ (i : ℕ). when i ∈? found then found else found ++ i ∷ []) (sym to)
+  pub add_new_lem : get_or m v 0 ≡ 0 → v < length m → length m ≤ 2048 → {m' q' : List ℕ} {x : ℕ}
+      → m' ≡ set m v 1 → q' ≡ set q n v → x ≡ min (n + 1) 4294967295 → Holds m' q' x (added found (v ∷ []))
+  unfolding added
+  add_new_lem free l few mark write to_n =
+      let absent : (v ∈? found) ≡ false = sym (h.marks v) ∙ ap not (eq-eqb (get_or m v 0) 0 free) in
+      let new : T (v ∈? found) → ⊥ = λ g. subst T absent g in
+      let count : min (n + 1) 4294967295 ≡ suc n = omega (arith, holds_few m q n found h) in
+      rw (mark, write, to_n ∙ count, ap (λ (t : Bool). when t then found else found ++ v ∷ []) absent) (holds_more m q n found h v l new)
 
-    pub add_old : (get_or m v 0 ≡ 0 → ⊥) → Holds m q n (added_at s k found)
-    add_old f =
-        let there : (v ∈? found) ≡ true = sym (h.marks v) ∙ ap not (ne_eqb (get_or m v 0) 0 f) in
-        subst (Holds m q n) (sym (at_import ∙ ap (λ (t : Bool). when t then found else found ++ v ∷ []) there)) h
+-- The loop over the imports of unit u has those of rows ks left: `now` is found, of what was found when it began.
+pub record Adding (s : Sheet) (u : ℕ) (m₀ q₀ : List ℕ) (count : ℕ) (m q : List ℕ) (n : ℕ) (ks : List ℕ) : Type 0 where
+  pub rest : (v : ℕ) → T (v ∈? map (a s) ks) → T (v ∈? imports_of s u)
+  pub found : (found : List ℕ) → Holds m₀ q₀ count found → (now : List ℕ) × Holds m q n now × (added now (map (a s) ks) ≡ added found (imports_of s u))
 
-    pub add_new_lem : get_or m v 0 ≡ 0 → (T (is s IMPORT k) → a s k < length m) → length m ≤ 2048 → {m' q' : List ℕ} {x : ℕ}
-        → m' ≡ set m v 1 → q' ≡ set q n v → x ≡ one_more n → Holds m' q' x (added_at s k found)
-    add_new_lem free wide few mark write to_n =
-        let absent : (v ∈? found) ≡ false = sym (h.marks v) ∙ ap not (eq-eqb (get_or m v 0) 0 free) in
-        let new : T (v ∈? found) → ⊥ = λ g. subst T absent g in
-        let l : v < length m = omega (arith, to, wide (T_true (is s IMPORT k) (eq-eqb (kind s k) IMPORT e))) in
-        let count : one_more n ≡ suc n = ap (λ (t : Bool). when t then suc n else n) (lt-ltb n 4294967295 (omega (arith, holds_few m q n found h))) in
-        rw (mark, write, to_n ∙ count, at_import ∙ ap (λ (t : Bool). when t then found else found ++ v ∷ []) absent) (holds_more m q n found h v l new)
-
--- A child list: from row k on, what is added at k and then from the next row on.
-pub add_step : (s : Sheet) → Importing s → (k : ℕ) (found : List ℕ) → (k ≡ 0 → ⊥) → k < rows s
-    → added (added_at s k found) (imports_from s (next s k)) ≡ added found (imports_from s k)
-unfolding added added_at
-add_step s ok k found f l = go (is s IMPORT k) ∙ ap (added found) (sym (from_step s ok k f l))
-  where
-    go : (t : Bool) → added (when t then added found (a s k ∷ []) else found) (imports_from s (next s k))
-        ≡ added found (when t then a s k ∷ imports_from s (next s k) else imports_from s (next s k))
-    go true = refl
-    go false = refl
-
-in_second : (x : ℕ) (xs ys : List ℕ) → T (x ∈? ys) → T (x ∈? (xs ++ ys))
-in_second x [] ys m = m
-in_second x (y ∷ xs) ys m = in_tail x y (xs ++ ys) (in_second x xs ys m)
-
--- The loop over the imports of unit u stands at row k: `now` is found, of what was found when it began.
-pub record Adding (s : Sheet) (u : ℕ) (m₀ q₀ : List ℕ) (count : ℕ) (m q : List ℕ) (n k : ℕ) : Type 0 where
-  pub row : k < rows s
-  pub rest : (passed : List ℕ) × (imports_of s u ≡ passed ++ imports_from s k)
-  pub found : (found : List ℕ) → Holds m₀ q₀ count found → (now : List ℕ) × Holds m q n now × (added now (imports_from s k) ≡ added found (imports_of s u))
-
-pub adding_start : (s : Sheet) → Importing s → (u : ℕ) → T (u ∈? units s) → (m q : List ℕ) (count k : ℕ) → k ≡ child s u → Adding s u m q count m q count k
-adding_start s ok u unit m q count k to =
+pub adding_start : (s : Sheet) (u : ℕ) (m q : List ℕ) (count : ℕ) {ks : List ℕ} → ks ≡ kids_of s IMPORT u → Adding s u m q count m q count ks
+unfolding imports_of
+adding_start s u m q count e =
     record {
-      row = ⊎_elim (λ (e : child s u ≡ 0). omega (arith, ok.some)) (λ b. omega (arith, b.1)) (ok.children u (unit_row_lem s u unit).0);
-      rest = ([], from_child s u ∙ ap (imports_from s) (sym to));
-      found = λ found h. (found, h, ap (λ (vs : List ℕ). added found vs) (ap (imports_from s) to ∙ sym (from_child s u)));
+      rest = λ v k. subst (λ (l : List ℕ). T (v ∈? map (a s) l)) e k;
+      found = λ found h. (found, h, ap (λ (l : List ℕ). added found (map (a s) l)) e);
     }
 
-module _ (s : Sheet) (ok : Importing s) (u : ℕ) (m₀ q₀ : List ℕ) (count : ℕ) (m q : List ℕ) (n k : ℕ) (h : Adding s u m₀ q₀ count m q n k) where
-  -- an import's unit has its place among the marks
-  pub adding_wide : T (u ∈? units s) → (k ≡ 0 → ⊥) → T (is s IMPORT k) → a s k < rows s
-  adding_wide unit f t =
-      let p = h.rest in
-      let e : imports_from s k ≡ a s k ∷ imports_from s (next s k) =
-      from_step s ok k f h.row ∙ ap (λ (w : Bool). when w then a s k ∷ imports_from s (next s k) else imports_from s (next s k)) (true_of (is s IMPORT k) t) in
-      let there : T (a s k ∈? imports_of s u) =
-      subst (λ (vs : List ℕ). T (a s k ∈? vs)) (sym (p.1 ∙ ap (λ (vs : List ℕ). p.0 ++ vs) e))
-      (in_second (a s k) p.0 (a s k ∷ imports_from s (next s k)) (in_head (a s k) (a s k) (imports_from s (next s k)) refl)) in
-      (unit_row_lem s (a s k) (ok.closed u (a s k) unit there)).0
+module _ (s : Sheet) (u : ℕ) (m₀ q₀ : List ℕ) (count : ℕ) (m q : List ℕ) (n : ℕ) {ks : List ℕ} (h : Adding s u m₀ q₀ count m q n ks) where
+  module _ {k : ℕ} {js : List ℕ} (e : ks ≡ k ∷ js) where
+    -- the unit that is next has its place among the marks
+    pub adding_wide : Importing s → T (u ∈? units s) → a s k < rows s
+    adding_wide ok unit =
+        let there : T (a s k ∈? imports_of s u) = h.rest (a s k) (subst (λ (l : List ℕ). T (a s k ∈? map (a s) l)) (sym e) (in_head (a s k) (a s k) (map (a s) js) refl)) in
+        (unit_row_lem s (a s k) (ok.closed u (a s k) unit there)).0
 
-  pub adding_more : (k ≡ 0 → ⊥) → {m' q' : List ℕ} {n' j : ℕ} → ((found : List ℕ) → Holds m q n found → Holds m' q' n' (added_at s k found)) → j ≡ next s k
-      → Adding s u m₀ q₀ count m' q' n' j
-  adding_more f {m'} {q'} {n'} {j} step to =
-      rw to
-      (record {
-        row = (next_row s ok k f h.row).0;
-        rest = go h.rest (is s IMPORT k) (from_step s ok k f h.row);
-        found = λ found g.
-            let p = h.found found g in
-            (added_at s k p.0, step p.0 p.1, add_step s ok k p.0 f h.row ∙ p.2);
-      })
-    where
-      go : ((passed : List ℕ) × (imports_of s u ≡ passed ++ imports_from s k)) → (t : Bool)
-          → imports_from s k ≡ (when t then a s k ∷ imports_from s (next s k) else imports_from s (next s k))
-          → (passed : List ℕ) × (imports_of s u ≡ passed ++ imports_from s (next s k))
-      go p true e =
-          (p.0 ++ a s k ∷ [], p.1 ∙ ap (λ (vs : List ℕ). p.0 ++ vs) e ∙ sym (append_assoc p.0 (a s k ∷ []) (imports_from s (next s k))))
-      go p false e = (p.0, p.1 ∙ ap (λ (vs : List ℕ). p.0 ++ vs) e)
+    pub adding_more : {m' q' : List ℕ} {n' : ℕ} → ((found : List ℕ) → Holds m q n found → Holds m' q' n' (added found (a s k ∷ []))) → Adding s u m₀ q₀ count m' q' n' js
+    unfolding added
+    adding_more step =
+        record {
+          rest = λ v g. h.rest v (subst (λ (l : List ℕ). T (v ∈? map (a s) l)) (sym e) (in_tail v (a s k) (map (a s) js) g));
+          found = λ found g. let p = h.found found g in (added p.0 (a s k ∷ []), step p.0 p.1, sym (ap (λ (l : List ℕ). added p.0 (map (a s) l)) e) ∙ p.2);
+        }
 
-  pub adding_end : k ≡ 0 → (found : List ℕ) → Holds m₀ q₀ count found → Holds m q n (added found (imports_of s u))
+  pub adding_end : ks ≡ [] → (found : List ℕ) → Holds m₀ q₀ count found → Holds m q n (added found (imports_of s u))
   unfolding added
   adding_end e found g =
       let p = h.found found g in
-      subst (Holds m q n) (sym (ap (λ (vs : List ℕ). added p.0 vs) (from_none s k e)) ∙ p.2) p.1
+      subst (Holds m q n) (sym (ap (λ (l : List ℕ). added p.0 (map (a s) l)) e) ∙ p.2) p.1
 
 -- nothing is found in tables of zeros
 pub holds_none : (n : ℕ) → Holds (replicate n 0) (replicate n 0) 0 []

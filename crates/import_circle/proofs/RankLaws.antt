@@ -1,57 +1,44 @@
 -- Ranks that spare a search, and the lowest unit on a circle, row by row.
 use mathlib.Core.Path.{◌≡◌, refl, sym, ap, ◌∙◌, subst}
-use mathlib.Core.Logic.{⊎_elim}
+use mathlib.Core.Logic.{◌⊎◌, inl, inr, ⊎_elim}
 use mathlib.Core.Bool.{Bool, true, false, ◌&&◌}
-use mathlib.Core.List.{List, [], ◌∷◌, ◌++◌, append-nil, append_assoc}
+use mathlib.Core.List.{List, [], ◌∷◌, map}
 use Prim.Native.Nat.{ℕ, suc, ◌+◌, ◌-◌, ◌<◌, ◌≤◌}
 use native.Mathlib.Omega.{arith}
 use native.Mathlib.Numerals.{add-one}
 use lib.Dec.{T}
 use lib.ListN.{get_or}
-use borrow.Author.Tests.{eq-eqb, ne_eqb}
 use Rattle.definition.specs.Basics.{when◌then◌else◌, filter, first, from, ◌∈?◌}
 use Rattle.definition.specs.Kind.{UNIT, IMPORT}
-use Rattle.definition.specs.Sheet.{Sheet, kind, next, child, a, rows, is}
-use Rattle.definition.proofs.Lists.Tests.{T_true}
+use Rattle.definition.specs.Sheet.{Sheet, a, rows, is, kids_of}
+use Rattle.definition.proofs.Lists.Counts.{in_cases}
 use Rattle.unit_order.specs.Imports.{Chain, one, more}
 use Rattle.unit_order.specs.Order.{units, imports_of, circles}
-use Rattle.unit_order.proofs.StartLaws.{in_either}
 use Rattle.unit_order.proofs.SheetLaws.{unit_row_lem}
-use Rattle.start_units.specs.Starting.{Importing, imports_from}
-use Rattle.start_units.proofs.ReadyLaws.{same_or, from_none, from_step, from_child, next_row}
+use Rattle.start_units.specs.Starting.{Importing}
+use Rattle.start_units.proofs.ReadyLaws.{same_or}
 use Rattle.import_circle.specs.Search.{Falling}
 use Rattle.import_circle.proofs.SearchLaws.{circles_not}
 
--- The loop over the imports of unit u stands at row k: no unit passed has a rank above x.
-abbrev pub Ranked : Sheet → ℕ → List ℕ → ℕ → ℕ → Type 0
-Ranked s u ranks k x =
-    (k < rows s) × ((passed : List ℕ) × (imports_of s u ≡ passed ++ imports_from s k) × ((v : ℕ) → T (v ∈? passed) → get_or ranks v 0 ≤ x))
+-- The loop over the imports of unit u has those of rows ks left: no other has a rank above x.
+abbrev pub Ranked : Sheet → ℕ → List ℕ → List ℕ → ℕ → Type 0
+Ranked s u ranks ks x = (v : ℕ) → T (v ∈? imports_of s u) → (get_or ranks v 0 ≤ x) ⊎ T (v ∈? map (a s) ks)
 
-pub ranked_start : (s : Sheet) → Importing s → (u : ℕ) (ranks : List ℕ) (k : ℕ) → u < rows s → k ≡ child s u → Ranked s u ranks k 0
-ranked_start s ok u ranks k l to = (
-  ⊎_elim (λ (e : child s u ≡ 0). omega (arith, ok.some)) (λ q. omega (arith, q.1)) (ok.children u l),
-  ([], from_child s u ∙ ap (imports_from s) (sym to), λ v m. absurd m),
-)
+pub ranked_start : (s : Sheet) (u : ℕ) (ranks : List ℕ) {ks : List ℕ} → ks ≡ kids_of s IMPORT u → Ranked s u ranks ks 0
+unfolding imports_of
+ranked_start s u ranks e v m = inr (subst (λ (l : List ℕ). T (v ∈? map (a s) l)) (sym e) m)
 
-module _ (s : Sheet) (ok : Importing s) (u : ℕ) (ranks : List ℕ) (k x : ℕ) (h : Ranked s u ranks k x) where
-  pub ranked_more : (k ≡ 0 → ⊥) → {y j : ℕ} → j ≡ next s k → (x ≤ y) × (T (is s IMPORT k) → get_or ranks (a s k) 0 ≤ y) → Ranked s u ranks j y
-  ranked_more f {y} {j} to g = rw to ((next_row s ok k f h.0).0, go h.1 (is s IMPORT k) refl (from_step s ok k f h.0))
-    where
-      go : (p : (passed : List ℕ) × (imports_of s u ≡ passed ++ imports_from s k) × ((v : ℕ) → T (v ∈? passed) → get_or ranks v 0 ≤ x)) (t : Bool)
-          → is s IMPORT k ≡ t → imports_from s k ≡ (when t then a s k ∷ imports_from s (next s k) else imports_from s (next s k))
-          → (passed : List ℕ) × (imports_of s u ≡ passed ++ imports_from s (next s k)) × ((v : ℕ) → T (v ∈? passed) → get_or ranks v 0 ≤ y)
-      go p true e q = (
-        p.0 ++ a s k ∷ [],
-        p.1 ∙ ap (λ (vs : List ℕ). p.0 ++ vs) q ∙ sym (append_assoc p.0 (a s k ∷ []) (imports_from s (next s k))),
-        λ v m.
-            ⊎_elim (λ b. omega (arith, p.2 v b, g.0)) (λ (b : v ≡ a s k). rw b (g.1 (T_true (is s IMPORT k) e))) (in_either v (a s k) p.0 m),
-      )
-      go p false e q = (p.0, p.1 ∙ ap (λ (vs : List ℕ). p.0 ++ vs) q, λ v m. omega (arith, p.2 v m, g.0))
+pub ranked_more : (s : Sheet) (u : ℕ) (ranks : List ℕ) (x : ℕ) {ks js : List ℕ} {k y : ℕ} → Ranked s u ranks ks x → ks ≡ k ∷ js → x ≤ y → get_or ranks (a s k) 0 ≤ y
+    → Ranked s u ranks js y
+ranked_more s u ranks x {js = js} {k = k} h e up here v m =
+    ⊎_elim (λ b. inl (omega (arith, b)))
+    (λ g.
+    ⊎_elim (λ (q : v ≡ a s k). inl (rw q here)) inr
+    (in_cases v (a s k) (map (a s) js) (subst (λ (l : List ℕ). T (v ∈? map (a s) l)) e g)))
+    (h v m)
 
-  pub ranked_end : k ≡ 0 → (v : ℕ) → T (v ∈? imports_of s u) → get_or ranks v 0 ≤ x
-  ranked_end e v m =
-      let p = h.1 in
-      p.2 v (subst (λ (vs : List ℕ). T (v ∈? vs)) (p.1 ∙ ap (λ (vs : List ℕ). p.0 ++ vs) (from_none s k e) ∙ append-nil p.0) m)
+pub ranked_end : (s : Sheet) (u : ℕ) (ranks : List ℕ) (x : ℕ) {ks : List ℕ} → Ranked s u ranks ks x → ks ≡ [] → (v : ℕ) → T (v ∈? imports_of s u) → get_or ranks v 0 ≤ x
+ranked_end s u ranks x h e v m = ⊎_elim (λ b. b) (λ g. absurd (subst (λ (l : List ℕ). T (v ∈? map (a s) l)) e g)) (h v m)
 
 -- Ranks fall along the imports of all units below row n.
 abbrev pub Fallen : Sheet → List ℕ → ℕ → Type 0
@@ -79,11 +66,11 @@ module _ (s : Sheet) (ok : Importing s) (ranks : List ℕ) (h : Falling s ranks)
       off (more {v = v} e c) = omega (arith, at, most v e, chain_falls (ok.closed u v m e) c)
 
 -- A row as the routine tells it: no unit, or a unit.
-pub row_other : (s : Sheet) (u : ℕ) → (kind s u ≡ UNIT → ⊥) → false ≡ (is s UNIT u && circles s u)
-row_other s u f = sym (ap (λ (t : Bool). t && circles s u) (ne_eqb (kind s u) UNIT f))
+pub row_other : (s : Sheet) (u : ℕ) → is s UNIT u ≡ false → false ≡ (is s UNIT u && circles s u)
+row_other s u f = sym (ap (λ (t : Bool). t && circles s u) f)
 
-pub row_circles : (s : Sheet) (u : ℕ) → kind s u ≡ UNIT → {x : Bool} → x ≡ circles s u → x ≡ (is s UNIT u && circles s u)
-row_circles s u e told = told ∙ sym (ap (λ (t : Bool). t && circles s u) (eq-eqb (kind s u) UNIT e))
+pub row_circles : (s : Sheet) (u : ℕ) → is s UNIT u ≡ true → {x : Bool} → x ≡ circles s u → x ≡ (is s UNIT u && circles s u)
+row_circles s u e told = told ∙ sym (ap (λ (t : Bool). t && circles s u) e)
 
 -- The lowest unit on a circle from row u on.
 abbrev pub lowest_from : Sheet → ℕ → ℕ

@@ -12,10 +12,6 @@ unfoldable pub added : List ℕ → List ℕ → List ℕ
 added found [] = found
 added found (v ∷ vs) = added (when v ∈? found then found else found ++ v ∷ []) vs
 
--- the same for row k of a child list: if it is an import, with its unit
-unfoldable pub added_at : Sheet → ℕ → List ℕ → List ℕ
-added_at s k found = when is s IMPORT k then added found (a s k ∷ []) else found
-
 -- n units are found: they have marks, and stand first in the queue
 pub record Holds (m q : List ℕ) (n : ℕ) (found : List ℕ) : Type 0 where
   pub count : n ≡ length found

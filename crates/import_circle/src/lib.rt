@@ -5,35 +5,33 @@
 // nothing is taken on trust: whether they rise is looked at here. With ranks as they should be, the first search comes back.
 #![tactic(auto)]
 
-ghost use Rattle.std.specs.Prelude.{◌≡◌, true, false, ◌&&◌, List, [], ℕ, ◌<◌, ◌≤◌, T, length, get_or};
+ghost use Rattle.std.specs.Prelude.{◌≡◌, true, ◌&&◌, List, [], ◌∷◌, ℕ, ◌<◌, ◌≤◌, T, length, get_or};
 ghost use Rattle.definition.specs.Basics.{first, ◌∈?◌};
-ghost use Rattle.definition.specs.Kind.{UNIT, IMPORT};
-ghost use Rattle.definition.specs.Sheet.{a, rows as rows_of, is};
+ghost use Rattle.definition.specs.Kind.{UNIT};
+ghost use Rattle.definition.specs.Sheet.{rows as rows_of, is};
+ghost use Rattle.sheet.specs.Rest.{or_zero};
 ghost use Rattle.unit_order.specs.Order.{units, imports_of, circles};
 ghost use Rattle.start_units.specs.Starting.{Importing};
-ghost use Rattle.import_circle.specs.Search.{Holds, added, added_at, Falling};
+ghost use Rattle.import_circle.specs.Search.{Holds, added, Falling};
 
-use ast::{column, kind};
+use ast::column;
+use ast::kind::Kind;
 use circle_ranks::rank_circles;
-use words::{entry_at, one_more, put_entry, word};
+use sheet::kids_of;
+use words::{entry_at, is_kind, put_entry, word};
 
-// Adds the unit that row `k` imports to those found, if it is an import and its unit is not among them. `count` units are found; they have marks,
-// and stand first in the queue.
-fn add_import(sheet: &[u32], k: u32, count: u32, marks: &mut [u32], queue: &mut [u32]) -> u32
-    requires { (T (is sheet.now IMPORT k) → a sheet.now k < length marks.old) × (length marks.old ≤ 2048) }
+// Adds unit `v` to those found, if it is not among them. `count` units are found; they have marks, and stand first in the queue.
+fn add(v: u32, count: u32, marks: &mut [u32], queue: &mut [u32]) -> u32
+    requires { (v < length marks.old) × (length marks.old ≤ 2048) }
     ensures { (found : List ℕ) → Holds marks.old queue.old count found
-        → Holds marks.new queue.new result (added_at sheet.now k found) }
+        → Holds marks.new queue.new result (added found (v ∷ [])) }
 {
-    if word(sheet, k, column::KIND) != kind::IMPORT {
-        return count;
-    }
-    let v = word(sheet, k, column::A);
     if entry_at(marks, v) != 0 {
         return count;
     }
     put_entry(marks, v, 1);
     put_entry(queue, count, v);
-    one_more(count)
+    count.saturating_add(1)
 }
 
 // Adds all that unit `u` imports.
@@ -43,10 +41,8 @@ fn add_imports(sheet: &[u32], u: u32, count: u32, marks: &mut [u32], queue: &mut
         → Holds marks.new queue.new result (added found (imports_of sheet.now u)) }
 {
     let mut n = count;
-    let mut k = word(sheet, u, column::CHILD);
-    while k != 0 {
-        n = add_import(sheet, k, n, marks, queue);
-        k = word(sheet, k, column::NEXT);
+    for k in kids_of(sheet, u, Kind::Import) {
+        n = add(word(sheet, k, column::A), n, marks, queue);
     }
     n
 }
@@ -80,27 +76,13 @@ fn is_circling(sheet: &[u32], u: u32) -> bool
     comes_back(sheet, u, &mut marks, &mut queue)
 }
 
-// The higher of a rank and that of the unit which row `k` imports, if it is an import.
-fn higher(sheet: &[u32], k: u32, ranks: &[u32], rank: u32) -> u32
-    ensures { (rank ≤ result) × (T (is sheet.now IMPORT k) → get_or ranks.now (a sheet.now k) 0 ≤ result) }
-{
-    if word(sheet, k, column::KIND) != kind::IMPORT {
-        return rank;
-    }
-    let other = entry_at(ranks, word(sheet, k, column::A));
-    if rank < other { other } else { rank }
-}
-
 // The highest rank of all that unit `u` imports, or 0.
 fn highest_import(sheet: &[u32], u: u32, ranks: &[u32]) -> u32
-    requires { Importing sheet.now × (u < rows_of sheet.now) }
     ensures { (v : ℕ) → T (v ∈? imports_of sheet.now u) → get_or ranks.now v 0 ≤ result }
 {
-    let mut rank: u32 = 0;
-    let mut k = word(sheet, u, column::CHILD);
-    while k != 0 {
-        rank = higher(sheet, k, ranks, rank);
-        k = word(sheet, k, column::NEXT);
+    let mut rank = 0u32;
+    for k in kids_of(sheet, u, Kind::Import) {
+        rank = rank.max(entry_at(ranks, word(sheet, k, column::A)));
     }
     rank
 }
@@ -110,12 +92,10 @@ fn ranks_fall(sheet: &[u32], ranks: &[u32]) -> bool
     requires { Importing sheet.now }
     ensures { result ≡ true → Falling sheet.now ranks.now }
 {
-    let mut u: u32 = 0;
-    while (u as usize) < sheet.len() / 8 {
+    for u in 0..(sheet.len() / 8) as u32 {
         if entry_at(ranks, u) < highest_import(sheet, u, ranks) {
             return false;
         }
-        u += 1;
     }
     true
 }
@@ -125,7 +105,7 @@ fn circles_at(sheet: &[u32], u: u32, fall: bool, ranks: &[u32]) -> bool
     requires { Importing sheet.now × (u < rows_of sheet.now) × (fall ≡ true → Falling sheet.now ranks.now) }
     ensures { result ≡ (is sheet.now UNIT u && circles sheet.now u) }
 {
-    if word(sheet, u, column::KIND) != kind::UNIT {
+    if !is_kind(sheet, u, Kind::Unit) {
         return false;
     }
     if fall {
@@ -136,27 +116,24 @@ fn circles_at(sheet: &[u32], u: u32, fall: bool, ranks: &[u32]) -> bool
     is_circling(sheet, u)
 }
 
-// The lowest unit on a circle, or 0, whatever the ranks are.
-fn lowest_by(sheet: &[u32], ranks: &[u32]) -> u32
+// The lowest unit on a circle, whatever the ranks are.
+fn lowest_by(sheet: &[u32], ranks: &[u32]) -> Option<u32>
     requires { Importing sheet.now }
-    ensures { result ≡ first (circles sheet.now) 0 (units sheet.now) }
+    ensures { or_zero result ≡ first (circles sheet.now) 0 (units sheet.now) }
 {
     let fall = ranks_fall(sheet, ranks);
-    let mut u: u32 = 0;
-    while (u as usize) < sheet.len() / 8 {
+    for u in 0..(sheet.len() / 8) as u32 {
         if circles_at(sheet, u, fall, ranks) {
-            return u;
+            return Some(u);
         }
-        u += 1;
     }
-    0
+    None
 }
 
-// The lowest unit on a circle, or 0. `ranks` tells of each of the `started` units that are on none how many have started with it, and 0 of all
-// others.
-pub fn lowest_circling(sheet: &[u32], started: u32, ranks: &mut [u32]) -> u32
+// The lowest unit on a circle. `ranks` tells of each of the `started` units that are on none how many have started with it, and 0 of all others.
+pub fn lowest_circling(sheet: &[u32], started: u32, ranks: &mut [u32]) -> Option<u32>
     requires { Importing sheet.now }
-    ensures { result ≡ first (circles sheet.now) 0 (units sheet.now) }
+    ensures { or_zero result ≡ first (circles sheet.now) 0 (units sheet.now) }
 {
     rank_circles(sheet, started, ranks);
     lowest_by(sheet, ranks)

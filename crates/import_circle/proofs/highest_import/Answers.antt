@@ -1,22 +1,20 @@
-use mathlib.Core.Logic.{⊎_elim}
+use mathlib.Core.Path.{ap, ◌∙◌}
+use Prim.Native.Nat.{ℕ}
 use native.Mathlib.Omega.{arith}
-use Rattle.start_units.proofs.ReadyLaws.{next_row}
+use lib.ListN.{get_or}
+use Rattle.sheet.specs.Rest.{kind_left}
 use Rattle.import_circle.proofs.RankLaws.{ranked_start, ranked_more, ranked_end}
 use Rattle.import_circle.proofs.highest_import.Goals as goal
 
 pub loop-k-init : goal.loop-k-init
 loop-k-init c =
-    ranked_start c.args.sheet.now c.requires.0 c.args.u c.args.ranks.now c.word-k.result c.requires.1 c.word-k.ensures
-
-pub loop-k-smaller : goal.loop-k-smaller
-loop-k-smaller c =
-    let q = next_row c.args.sheet.now c.requires.0 c.loop-k.k c.loop-k-test.true c.loop-k.invariant.0 in
-    ⊎_elim (λ e. omega (arith, e, c.word-k-in-loop-k.ensures)) (λ e. omega (arith, e, q.0, c.word-k-in-loop-k.ensures, c.requires.0.few)) q.1
+    ranked_start c.args.sheet.now c.args.u c.args.ranks.now (ap kind_left c.into_iter-k-iterator.ensures.into_iter_gives ∙ c.kids_of-k-items.ensures)
 
 pub loop-k-preserved : goal.loop-k-preserved
 loop-k-preserved c =
-    ranked_more c.args.sheet.now c.requires.0 c.args.u c.args.ranks.now c.loop-k.k c.loop-k.rank c.loop-k.invariant c.loop-k-test.true c.word-k-in-loop-k.ensures c.higher-rank.ensures
+    let other = c.entry_at.ensures ∙ ap (λ (i : ℕ). get_or c.args.ranks.now i 0) c.word.ensures in
+    ranked_more c.args.sheet.now c.args.u c.args.ranks.now c.loop-k.rank c.loop-k.invariant c.in-Some.ensures.steps (omega (arith, c.max-rank.ensures)) (omega (arith, other, c.max-rank.ensures))
 
 pub returns : goal.returns
 returns c =
-    ranked_end c.args.sheet.now c.requires.0 c.args.u c.args.ranks.now c.loop-k.k c.loop-k.rank c.loop-k.invariant c.loop-k-test.false
+    ranked_end c.args.sheet.now c.args.u c.args.ranks.now c.loop-k.rank c.loop-k.invariant c.in-None.ensures.steps.0

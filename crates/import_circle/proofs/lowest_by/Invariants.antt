@@ -8,6 +8,3 @@ use Rattle.import_circle.proofs.lowest_by.Given as goal
 
 abbrev pub invariant-loop-u : goal.invariant-loop-u
 invariant-loop-u l = (l.u ≤ rows_of l.sheet) × (lowest_from l.sheet l.u ≡ first (circles l.sheet) 0 (units l.sheet))
-
-abbrev pub decreases-loop-u : goal.decreases-loop-u
-decreases-loop-u l = rows_of l.sheet - l.u

@@ -5,6 +5,3 @@ use Rattle.import_circle.proofs.ranks_fall.Given as goal
 
 abbrev pub invariant-loop-u : goal.invariant-loop-u
 invariant-loop-u l = (l.u ≤ rows_of l.sheet) × Fallen l.sheet l.ranks l.u
-
-abbrev pub decreases-loop-u : goal.decreases-loop-u
-decreases-loop-u l = rows_of l.sheet - l.u
