@@ -5,7 +5,9 @@ use mathlib.Core.Bool.{Bool, true, false, not, ◌&&◌}
 use mathlib.Core.List.{List, [], ◌++◌, map}
 use Prim.Native.Nat.{ℕ, zero, suc, ◌+◌, ◌-◌, ◌<◌, ◌≤◌}
 use native.Mathlib.Omega.{arith}
-use lib.Dec.{T, not_T, eqb, leb, ltb→lt}
+use lib.Dec.{T, not_T, eqb, leb, ltb→lt, T_not}
+use Rattle.std.specs.Prelude.{Option, Some, None, IsSome}
+use Rattle.sheet.specs.Rest.{or_zero}
 use lib.ListN.{length, get_or, drop, replicate, length-replicate, length-map}
 use lib.Seq.{sets, sets-eq, length-sets}
 use borrow.Author.Tests.{eq-eqb, ne_eqb, leb-true, leb-false}
@@ -135,6 +137,13 @@ module _ (s : Sheet) (ok : Fitting s) (m : List ℕ) (h : Marks s m (order s)) (
     pub left_file : file s u < 262144
     left_file = rw at (unit_file s ok (first (circles s) 0 (units s)) (first_lowest (circles s) 0 (units_rising s) (some_circle s ok m h x l e)).listed)
 
+    -- it is one
+    pub left_some : u ≡ 0 → ⊥
+    left_some z =
+        T_not (is s UNIT 0) (importing s ok).header
+        (subst (λ (i : ℕ). T (is s UNIT i)) (sym at ∙ z)
+        (unit_row_lem s (first (circles s) 0 (units s)) (first_lowest (circles s) 0 (units_rising s) (some_circle s ok m h x l e)).listed).1)
+
     asked_at : order_asked lent s ≡ refused_at 29 s u 0
     unfolding asked_by
     asked_at =
@@ -218,17 +227,6 @@ module _ (s : Sheet) (ns : List ℕ) (lent : ℕ) {q : ℕ} (e : q ≡ first_fou
       }
 
 -- Units without a mark, row by row.
-pub left_other : (s m : List ℕ) (u : ℕ) → (kind s u ≡ UNIT → ⊥) → false ≡ (is s UNIT u && not (marked m u))
-left_other s m u f = sym (ap (λ (t : Bool). t && not (marked m u)) (ne_eqb (kind s u) UNIT f))
-
-pub left_unit : (s m : List ℕ) (u : ℕ) → kind s u ≡ UNIT → {x : ℕ} → x ≡ get_or m u 0 → eqb x 0 ≡ (is s UNIT u && not (marked m u))
-left_unit s m u e {x} at =
-    ap (λ (y : ℕ). eqb y 0) at ∙ twice (eqb (get_or m u 0) 0) ∙ sym (ap (λ (t : Bool). t && not (marked m u)) (eq-eqb (kind s u) UNIT e))
-  where
-    twice : (t : Bool) → t ≡ not (not t)
-    twice true = refl
-    twice false = refl
-
 -- all units below row n have marks
 abbrev pub AllMarked : Sheet → List ℕ → ℕ → Type 0
 AllMarked s m n = (u : ℕ) → u < n → T (u ∈? units s) → T (marked m u)
@@ -252,6 +250,11 @@ module _ (s m : List ℕ) (n : ℕ) where
 
   pub left_none : AllMarked s m n → rows s ≤ n → Left s m false
   left_none h l = record { one = λ z. absurd (subst T (sym z) tt); none = λ z u k. h u (omega (arith, (unit_row_lem s u k).0)) k }
+
+-- a row that is found is there
+pub found_some : (o : Option ℕ) → (or_zero o ≡ 0 → ⊥) → IsSome o
+found_some None f = absurd (f refl)
+found_some (Some u) f = refl
 
 -- no unit has started
 pub marks_none : (s : Sheet) (n : ℕ) → rows s ≤ n → Marks s (replicate n 0) []

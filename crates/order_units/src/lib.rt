@@ -10,21 +10,19 @@ ghost use Rattle.order_units.specs.Settled.{Fitting, Left, Listed, Settled};
 
 pub use answer::Answer;
 use answer::{refuse, refuse_at};
-use ast::{column, kind, question};
+use ast::kind::Kind;
+use ast::question::Question;
 use first_four::first_four;
 use import_circle::lowest_circling;
 use lexer::SrcPos;
 use start_units::start_units;
-use words::{clear, entry_at, word};
+use words::{clear, entry_at, is_kind};
 
 // Is row `u` a unit without a mark?
 fn is_left(sheet: &[u32], u: u32, marks: &[u32]) -> bool
     ensures { result ≡ (is sheet.now UNIT u && not (marked marks.now u)) }
 {
-    if word(sheet, u, column::KIND) != kind::UNIT {
-        return false;
-    }
-    entry_at(marks, u) == 0
+    is_kind(sheet, u, Kind::Unit) && entry_at(marks, u) == 0
 }
 
 // Has some unit no mark?
@@ -32,12 +30,10 @@ fn some_left(sheet: &[u32], marks: &[u32]) -> bool
     requires { Fitting sheet.now }
     ensures { Left sheet.now marks.now result }
 {
-    let mut u: u32 = 0;
-    while (u as usize) < sheet.len() / 8 {
+    for u in 0..(sheet.len() / 8) as u32 {
         if is_left(sheet, u, marks) {
             return true;
         }
-        u += 1;
     }
     false
 }
@@ -47,7 +43,7 @@ fn accept_list(n: usize, list: &mut [u32]) -> Answer
     ensures { Listed n list.old result list.new }
 {
     if list.len() < n {
-        return refuse(question::ROOM, list);
+        return refuse(Question::Room.number(), list);
     }
     Answer {
         number: 0,
@@ -66,8 +62,8 @@ fn order_in(sheet: &[u32], marks: &mut [u32], list: &mut [u32]) -> Answer
     clear(list);
     let started = start_units(sheet, marks, list);
     if some_left(sheet, marks) {
-        let u = lowest_circling(sheet, started as u32, marks);
-        return refuse_at(sheet, question::NO_CIRCLE, u, 0, list);
+        let u = lowest_circling(sheet, started as u32, marks).unwrap();
+        return refuse_at(sheet, Question::NoCircle.number(), u, 0, list);
     }
     accept_list(started, list)
 }

@@ -1,11 +1,12 @@
 use mathlib.Core.List.{List}
-use mathlib.Core.Path.{ap, ◌∙◌}
+use mathlib.Core.Path.{sym, ap, ◌∙◌}
+use Rattle.sheet.specs.Rest.{or_zero}
 use Prim.Native.Nat.{ℕ}
 use native.Mathlib.Omega.{arith}
 use lib.Seq.{sets}
 use lib.ListN.{length, replicate}
 use Rattle.unit_order.specs.Order.{order}
-use Rattle.order_units.proofs.AskedLaws.{importing, left_file, settled_circle, settled_list}
+use Rattle.order_units.proofs.AskedLaws.{importing, left_file, left_some, found_some, settled_circle, settled_list}
 use Rattle.order_units.proofs.order_in.Goals as goal
 
 pub start_units-started-requires : goal.start_units-started-requires
@@ -16,20 +17,26 @@ pub overflow_cast-started : goal.overflow_cast-started
 overflow_cast-started c =
     omega (arith, c.start_units-started.ensures.few, c.requires.0.few)
 
-pub lowest_circling-u-requires : goal.lowest_circling-u-requires
-lowest_circling-u-requires c =
-    importing c.args.sheet.now c.requires.0
+pub lowest_circling-requires : goal.lowest_circling-requires
+lowest_circling-requires c = importing c.args.sheet.now c.requires.0
+
+pub unwrap-u-requires : goal.unwrap-u-requires
+unwrap-u-requires c =
+    found_some c.lowest_circling.result
+    (left_some c.args.sheet.now c.requires.0 _ c.start_units-started.ensures.marks c.some_left.result c.some_left.ensures 0 c.if-some_left.true (or_zero c.lowest_circling.result)
+    c.lowest_circling.ensures)
 
 pub refuse_at-requires : goal.refuse_at-requires
 refuse_at-requires c =
-    left_file c.args.sheet.now c.requires.0 _ c.start_units-started.ensures.marks c.some_left.result c.some_left.ensures 0 c.if-some_left.true c.lowest_circling-u.result
-    c.lowest_circling-u.ensures
+    left_file c.args.sheet.now c.requires.0 _ c.start_units-started.ensures.marks c.some_left.result c.some_left.ensures 0 c.if-some_left.true c.unwrap-u.result
+    (sym (ap or_zero c.unwrap-u.ensures) ∙ c.lowest_circling.ensures)
 
 pub returns-then-some_left : goal.returns-then-some_left
 returns-then-some_left c =
     let long = c.start_units-started.auto.list ∙ c.clear.auto.words in
     settled_circle c.args.sheet.now c.requires.0 _ c.start_units-started.ensures.marks c.some_left.result c.some_left.ensures (length c.args.list.now) c.if-some_left.true
-    c.lowest_circling-u.result c.lowest_circling-u.ensures (c.refuse_at.ensures.0, c.refuse_at.ensures.1 ∙ ap (λ (k : ℕ). replicate k 0) long)
+    c.unwrap-u.result (sym (ap or_zero c.unwrap-u.ensures) ∙ c.lowest_circling.ensures)
+    (rw (← c.number.ensures) c.refuse_at.ensures.0, c.refuse_at.ensures.1 ∙ ap (λ (k : ℕ). replicate k 0) long)
 
 pub returns : goal.returns
 returns c =

@@ -5,6 +5,3 @@ use Rattle.order_units.proofs.some_left.Given as goal
 
 abbrev pub invariant-loop-u : goal.invariant-loop-u
 invariant-loop-u l = (l.u ≤ rows_of l.sheet) × AllMarked l.sheet l.marks l.u
-
-abbrev pub decreases-loop-u : goal.decreases-loop-u
-decreases-loop-u l = rows_of l.sheet - l.u

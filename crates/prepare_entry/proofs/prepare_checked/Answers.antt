@@ -26,7 +26,7 @@ overflow_cast-result c =
 pub returns : goal.returns
 returns c =
     let list = list_is c.args.words.now c.args.bytes.now c.requires.0 c.word_at.result c.word_at.ensures in
-    prepared_told c.args.words.now c.args.bytes.now c.args.sheet.now c.args.names.now c.requires.0 (sym c.in-Ok.ensures) refl
+    prepared_told c.args.words.now c.args.bytes.now c.args.sheet.now c.args.names.now c.requires.0 (sym c.in_default.ensures) refl
     (c.number_names-told.ensures (session_in whole c.args.words.now c.args.bytes.now) (list_all c.args.words.now c.args.bytes.now c.requires.0 list)) c.requires.1 refl refl
 
 pub number_names-told-requires : goal.number_names-told-requires
@@ -35,6 +35,6 @@ number_names-told-requires c =
       list_good c.args.words.now c.args.bytes.now c.requires.0 list,
       c.requires.1 ∙ ap starts (sym list),
       c.requires.2 ∙ ap (λ (k : List ℕ). index_of (numbered k)) (sym list),
-      (passed _ c.args.sheet.now c.args.names.now (sym c.in-Ok.ensures)).names_fit_lem,
+      (passed _ c.args.sheet.now c.args.names.now (sym c.in_default.ensures)).names_fit_lem,
       c.requires.3,
     )
