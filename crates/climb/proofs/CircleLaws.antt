@@ -8,9 +8,9 @@ use lib.Dec.{T, eqb, ltb}
 use lib.ListN.{get_or}
 use borrow.Author.Tests.{eqb-true}
 use Rattle.definition.specs.Basics.{◌∈?◌}
-use Rattle.climb.specs.declared.Ending.{Ending}
-use Rattle.climb.specs.declared.Ending.TheVariants.{Top, Circle, NoRecord}
-use Rattle.climb.specs.Process.{lacks_record, climb_from}
+use Rattle.std.specs.Prelude.{Ok, Err}
+use Rattle.climb.specs.declared.ClimbError.TheVariants.{Circle, NoRecord}
+use Rattle.climb.specs.Process.{Ending, lacks_record, climb_from}
 use Rattle.climb.proofs.StepLaws.{chosen}
 
 -- the n-th parent up from class c
@@ -35,7 +35,7 @@ above_more parents lineage c h j d = go (eqb j c) refl
         let x = h j (sym (ap (λ (t : Bool). t || (j ∈? lineage)) e) ∙ d) in
         (suc x.0, sym (ancestor_last parents (suc x.0) j) ∙ ap (λ (i : ℕ). get_or parents i 0) x.1)
 
-back : (parents : List ℕ) (size n : ℕ) (lineage : List ℕ) (b c : ℕ) → Above parents lineage b → climb_from parents size n lineage b ≡ Circle c
+back : (parents : List ℕ) (size n : ℕ) (lineage : List ℕ) (b c : ℕ) → Above parents lineage b → climb_from parents size n lineage b ≡ Err (Circle c)
     → (k : ℕ) × (ancestor parents (suc k) c ≡ c)
 back parents size zero lineage b c h e = let z : ◌≡◌ {A = ℕ} 0 1 = cc in absurd (omega arith)
 back parents size (suc n) lineage b c h e =
@@ -45,8 +45,8 @@ back parents size (suc n) lineage b c h e =
     up : Ending
     up = climb_from parents size n (b ∷ lineage) (get_or parents b 0)
 
-    go : (t u : Bool) → (b ∈? lineage) ≡ u → (v : Bool) → chosen Top (Circle b) (NoRecord b) up t u v ≡ Circle c
-        → (up ≡ Circle c → (k : ℕ) × (ancestor parents (suc k) c ≡ c)) → (k : ℕ) × (ancestor parents (suc k) c ≡ c)
+    go : (t u : Bool) → (b ∈? lineage) ≡ u → (v : Bool) → chosen (Ok tt) (Err (Circle b)) (Err (NoRecord b)) up t u v ≡ Err (Circle c)
+        → (up ≡ Err (Circle c) → (k : ℕ) × (ancestor parents (suc k) c ≡ c)) → (k : ℕ) × (ancestor parents (suc k) c ≡ c)
     go false u d v f later = let z : ◌≡◌ {A = ℕ} 0 1 = cc in absurd (omega arith)
     go true true d v f later =
         let same : b ≡ c = cc in
@@ -55,6 +55,6 @@ back parents size (suc n) lineage b c h e =
     go true false d true f later = let z : ◌≡◌ {A = ℕ} 0 1 = cc in absurd (omega arith)
     go true false d false f later = later f
 
-pub circle_comes_back : (parents : List ℕ) (size n start : ℕ) {c : ℕ} → climb_from parents size n [] start ≡ Circle c
+pub circle_comes_back : (parents : List ℕ) (size n start : ℕ) {c : ℕ} → climb_from parents size n [] start ≡ Err (Circle c)
     → (k : ℕ) × (ancestor parents (suc k) c ≡ c)
 circle_comes_back parents size n start {c} e = back parents size n [] start c (λ j d. absurd (subst T (sym d) tt)) e

@@ -10,9 +10,9 @@ use lib.Seq.{get_or-set_same, get_or-set_other, set_out}
 use borrow.Author.Tests.{eq-eqb, ne_eqb, eqb-true, eqb-false, ltb-true, ltb-false, lt-ltb}
 use Rattle.definition.specs.Basics.{when◌then◌else◌, first, from, ◌∈?◌}
 use Rattle.machine.specs.Machine.{one_more}
-use Rattle.climb.specs.declared.Ending.{Ending}
-use Rattle.climb.specs.declared.Ending.TheVariants.{Top, Circle, NoRecord}
-use Rattle.climb.specs.Process.{NO_RECORD, run_size, Climbed, leaving, is_pending, in_lineage, lacks_record, process, climbed, is_top}
+use Rattle.std.specs.Prelude.{Ok, Err}
+use Rattle.climb.specs.declared.ClimbError.TheVariants.{Circle, NoRecord}
+use Rattle.climb.specs.Process.{Ending, NO_RECORD, run_size, Climbed, leaving, is_pending, in_lineage, lacks_record, process, climbed, is_top}
 use Rattle.climb.specs.Process.{process_all, climbed_all, climb_from, first_ending}
 use Rattle.climb.proofs.CountLaws.{unmarked, unmarked_most, unmarked_less}
 use Rattle.climb.proofs.StepLaws.{chosen, chosen_1, chosen_2, chosen_3, chosen_4, Met, outside, again, earlier, new, meet}
@@ -97,23 +97,23 @@ agree_more k m lineage c l h j = go (eqb j c) refl
         ap (λ (n : ℕ). eqb n k) (get_or-set_other m c j k 0 (eqb-false j c d)) ∙ h j ∙ sym (ap (λ (t : Bool). t || (j ∈? lineage)) d)
 
 module _ (parents : List ℕ) (size : ℕ) (lineage : List ℕ) (c i : ℕ) where
-  from_outside : ltb c size ≡ false → climb_from parents size (suc i) lineage c ≡ Top
-  from_outside p = chosen_1 Top (Circle c) (NoRecord c) _ (ltb c size) (c ∈? lineage) (lacks_record parents c) p
+  from_outside : ltb c size ≡ false → climb_from parents size (suc i) lineage c ≡ (Ok tt)
+  from_outside p = chosen_1 (Ok tt) (Err (Circle c)) (Err (NoRecord c)) _ (ltb c size) (c ∈? lineage) (lacks_record parents c) p
 
-  from_again : c < size → (c ∈? lineage) ≡ true → climb_from parents size (suc i) lineage c ≡ Circle c
-  from_again p q = chosen_2 Top (Circle c) (NoRecord c) _ (ltb c size) (c ∈? lineage) (lacks_record parents c) (lt-ltb c size p) q
+  from_again : c < size → (c ∈? lineage) ≡ true → climb_from parents size (suc i) lineage c ≡ Err (Circle c)
+  from_again p q = chosen_2 (Ok tt) (Err (Circle c)) (Err (NoRecord c)) _ (ltb c size) (c ∈? lineage) (lacks_record parents c) (lt-ltb c size p) q
 
-  from_lacking : c < size → (c ∈? lineage) ≡ false → lacks_record parents c ≡ true → climb_from parents size (suc i) lineage c ≡ NoRecord c
-  from_lacking p q r = chosen_3 Top (Circle c) (NoRecord c) _ (ltb c size) (c ∈? lineage) (lacks_record parents c) (lt-ltb c size p) q r
+  from_lacking : c < size → (c ∈? lineage) ≡ false → lacks_record parents c ≡ true → climb_from parents size (suc i) lineage c ≡ Err (NoRecord c)
+  from_lacking p q r = chosen_3 (Ok tt) (Err (Circle c)) (Err (NoRecord c)) _ (ltb c size) (c ∈? lineage) (lacks_record parents c) (lt-ltb c size p) q r
 
   from_up : c < size → (c ∈? lineage) ≡ false → lacks_record parents c ≡ false
       → climb_from parents size (suc i) lineage c ≡ climb_from parents size i (c ∷ lineage) (get_or parents c 0)
-  from_up p q r = chosen_4 Top (Circle c) (NoRecord c) _ (ltb c size) (c ∈? lineage) (lacks_record parents c) (lt-ltb c size p) q r
+  from_up p q r = chosen_4 (Ok tt) (Err (Circle c)) (Err (NoRecord c)) _ (ltb c size) (c ∈? lineage) (lacks_record parents c) (lt-ltb c size p) q r
 
 module _ (parents : List ℕ) (size : ℕ) where
   -- a climb that comes to a line that ends ends at the top, if the lines of the classes met are longer
   line_top : (n i : ℕ) (lineage : List ℕ) (c : ℕ) → Ends parents size n c
-      → ((j : ℕ) → (j ∈? lineage) ≡ true → (k : ℕ) × (n < k) × Ends parents size k j) → climb_from parents size i lineage c ≡ Top
+      → ((j : ℕ) → (j ∈? lineage) ≡ true → (k : ℕ) × (n < k) × Ends parents size k j) → climb_from parents size i lineage c ≡ (Ok tt)
   unfolding Ends
   line_top n zero lineage c e h = refl
   line_top zero (suc i) lineage c e h = from_outside parents size lineage c i e
@@ -135,7 +135,7 @@ module _ (parents : List ℕ) (size : ℕ) where
 
   -- A climb with marks answers as that without. If it ends at the top, the lines of all classes that then have a mark end.
   abbrev Answers : Climbed → Ending → Type 0
-  Answers x y = (x.ending ≡ y) × (x.ending ≡ Top → Ended parents size x.marks)
+  Answers x y = (x.ending ≡ y) × (x.ending ≡ (Ok tt) → Ended parents size x.marks)
 
   module _ (k : ℕ) where
     -- what marking a class keeps `process` keeps
@@ -147,18 +147,18 @@ module _ (parents : List ℕ) (size : ℕ) where
         (process_keeps P s n (set m c k) (get_or parents c 0) (s m c h))
       where
         go : (t u v : Bool) → P (process parents size k n (set m c k) (get_or parents c 0)).marks
-            → P (chosen (leaving Top m) (leaving (Circle c) m) (leaving (NoRecord c) m) (process parents size k n (set m c k) (get_or parents c 0)) t u v).marks
+            → P (chosen (leaving (Ok tt) m) (leaving (Err (Circle c)) m) (leaving (Err (NoRecord c)) m) (process parents size k n (set m c k) (get_or parents c 0)) t u v).marks
         go false u v g = h
         go true true v g = h
         go true false true g = h
         go true false false g = g
 
     module _ (m lineage : List ℕ) (c : ℕ) (l : size ≤ length m) (a : Agree k m lineage) (h : Climbing parents size k m c) where
-      at_top : {x : Climbed} {y : Ending} → x ≡ leaving Top m → y ≡ Top → (n : ℕ) → Ends parents size n c → Answers x y
+      at_top : {x : Climbed} {y : Ending} → x ≡ leaving (Ok tt) m → y ≡ (Ok tt) → (n : ℕ) → Ends parents size n c → Answers x y
       at_top {x} d e n g =
           (ap (λ (z : Climbed). z.ending) d ∙ sym e, λ q. subst (λ (z : Climbed). Ended parents size z.marks) (sym d) (climbing_end parents size k m c h n g))
 
-      refused : {x : Climbed} {y z : Ending} → x ≡ leaving z m → y ≡ z → (z ≡ Top → ⊥) → Answers x y
+      refused : {x : Climbed} {y z : Ending} → x ≡ leaving z m → y ≡ z → (z ≡ (Ok tt) → ⊥) → Answers x y
       refused {x} d e f = (ap (λ (u : Climbed). u.ending) d ∙ sym e, λ q. absurd (f (sym (ap (λ (u : Climbed). u.ending) d) ∙ q)))
 
       one_answer : (n i : ℕ)
@@ -244,10 +244,9 @@ module _ (parents m : List ℕ) (h : (j : ℕ) → get_or m j 0 ≡ 0) where
       below zero z j = absurd (z refl)
       below (suc k) z j = omega (arith, h j)
 
-top_of : (x : Ending) → is_top x ≡ true → x ≡ Top
-top_of Top e = refl
-top_of (Circle c) e = absurd (subst T (sym e) tt)
-top_of (NoRecord c) e = absurd (subst T (sym e) tt)
+top_of : (x : Ending) → is_top x ≡ true → x ≡ (Ok tt)
+top_of (Ok x) e = refl
+top_of (Err x) e = absurd (subst T (sym e) tt)
 
 -- the climb from class c, where the marks are those of climbs from classes below it
 module _ (parents : List ℕ) (size c : ℕ) (m : List ℕ) (e : size ≡ run_size parents m) (l : c < size) (g : (j : ℕ) → get_or m j 0 ≤ c) where
@@ -269,7 +268,7 @@ module _ (parents : List ℕ) (size c : ℕ) (m : List ℕ) (e : size ≡ run_si
 
 -- the climbs from class c on
 later_answers : (parents : List ℕ) (size n c : ℕ) (m : List ℕ) → size ≡ run_size parents m → c + n ≡ size → ((j : ℕ) → get_or m j 0 ≤ c) → Ended parents size m
-    → (process_all parents n m c).ending ≡ first (λ x. not (is_top x)) Top (map (climb_from parents size (suc size) []) (from c n))
+    → (process_all parents n m c).ending ≡ first (λ x. not (is_top x)) (Ok tt) (map (climb_from parents size (suc size) []) (from c n))
 later_answers parents size zero c m e s g h = refl
 later_answers parents size (suc n) c m e s g h =
     go (is_top (climbed parents m c).ending) refl
@@ -283,7 +282,7 @@ later_answers parents size (suc n) c m e s g h =
     found = next_answers parents size c m e (omega arith) g h
 
     rest : Ending
-    rest = first (λ x. not (is_top x)) Top (map (climb_from parents size (suc size) []) (from (suc c) n))
+    rest = first (λ x. not (is_top x)) (Ok tt) (map (climb_from parents size (suc size) []) (from (suc c) n))
 
     plain : Ending
     plain = climb_from parents size (suc size) [] c

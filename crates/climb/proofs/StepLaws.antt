@@ -9,11 +9,11 @@ use lib.ListN.{length, get_or, set, length-set}
 use borrow.Author.Tests.{eq-eqb, ne_eqb, eqb-true, eqb-false, ltb-true, ltb-false, lt-ltb, le-ltb}
 use Rattle.definition.specs.Basics.{when◌then◌else◌}
 use Rattle.machine.specs.Machine.{one_more}
-use Rattle.climb.specs.declared.Ending.{Ending}
-use Rattle.climb.specs.declared.Ending.TheVariants.{Top, Circle, NoRecord}
-use Rattle.climb.specs.declared.Step.{Step}
-use Rattle.climb.specs.declared.Step.TheVariants.{Up, Over}
-use Rattle.climb.specs.Process.{NO_RECORD, run_size, Climbed, leaving, is_pending, in_lineage, lacks_record, process, climbed, step_at, marks_after}
+use Rattle.std.specs.Prelude.{Result, Ok, Err, Some, None}
+use Rattle.std.specs.Result.{IsErrAnd}
+use Rattle.climb.specs.declared.ClimbError.TheVariants.{Circle, NoRecord}
+use Rattle.climb.specs.declared.ClimbError.{ClimbError}
+use Rattle.climb.specs.Process.{Ending, Step, NO_RECORD, run_size, Climbed, leaving, is_pending, in_lineage, lacks_record, process, climbed, step_at, marks_after}
 use Rattle.climb.specs.Process.{is_top, process_all, climbed_all}
 use Rattle.climb.proofs.CountLaws.{unmarked, unmarked_most, unmarked_less}
 
@@ -53,23 +53,24 @@ module _ (size mark : ℕ) (marks : List ℕ) (c : ℕ) where
 
 -- A step by the three tests of `climb_step`: t is it pending, u is it in the lineage, k its parent number.
 module _ (parents : List ℕ) (size mark : ℕ) (m : List ℕ) (c : ℕ) {t : Bool} (e : t ≡ is_pending size mark m c) where
-  pub step_top : t ≡ false → Over Top ≡ step_at parents size mark m c
+  pub step_top : t ≡ false → Ok None ≡ step_at parents size mark m c
   step_top p = sym (chosen_1 _ _ _ _ (is_pending size mark m c) (in_lineage mark m c) (lacks_record parents c) (sym e ∙ p))
 
   module _ (p : t ≡ true) {u : Bool} (f : u ≡ in_lineage mark m c) where
-    pub step_circle : u ≡ true → Over (Circle c) ≡ step_at parents size mark m c
+    pub step_circle : u ≡ true → Err (Circle c) ≡ step_at parents size mark m c
     step_circle q =
         sym (chosen_2 _ _ _ _ (is_pending size mark m c) (in_lineage mark m c) (lacks_record parents c) (sym e ∙ p) (sym f ∙ q))
 
     module _ (q : u ≡ false) {k : ℕ} (g : k ≡ get_or parents c 0) where
-      pub step_lacking : k ≡ NO_RECORD → Over (NoRecord c) ≡ step_at parents size mark m c
+      pub step_lacking : k ≡ NO_RECORD → Err (NoRecord c) ≡ step_at parents size mark m c
       step_lacking r =
           sym (chosen_3 _ _ _ _ (is_pending size mark m c) (in_lineage mark m c) (lacks_record parents c) (sym e ∙ p) (sym f ∙ q)
           (eq-eqb (get_or parents c 0) NO_RECORD (sym g ∙ r)))
 
-      pub step_parent : (k ≡ NO_RECORD → ⊥) → Up k ≡ step_at parents size mark m c
+      pub step_parent : (k ≡ NO_RECORD → ⊥) → Ok (Some k) ≡ step_at parents size mark m c
       step_parent r =
-          ap Up g
+          let up : ℕ → Step = λ i. Ok (Some i) in
+          ap up g
           ∙ sym (chosen_4 _ _ _ _ (is_pending size mark m c) (in_lineage mark m c) (lacks_record parents c) (sym e ∙ p) (sym f ∙ q)
           (ne_eqb (get_or parents c 0) NO_RECORD (λ z. r (g ∙ z))))
 
@@ -91,13 +92,13 @@ meet size mark m c = go (ltb c size) refl (eqb (get_or m c 0) mark) refl (eqb (g
 
 module _ (parents : List ℕ) (size mark : ℕ) (m : List ℕ) (c : ℕ) where
   -- `process` by what the class is
-  pub process_outside : ltb c size ≡ false → (n : ℕ) → process parents size mark n m c ≡ leaving Top m
+  pub process_outside : ltb c size ≡ false → (n : ℕ) → process parents size mark n m c ≡ leaving (Ok tt) m
   process_outside p zero = refl
   process_outside p (suc n) =
       chosen_1 _ _ _ _ (is_pending size mark m c) (in_lineage mark m c) (lacks_record parents c)
       (ap (λ (t : Bool). t && (eqb (get_or m c 0) 0 || eqb (get_or m c 0) mark)) p)
 
-  pub process_again : c < size → get_or m c 0 ≡ mark → (n : ℕ) → process parents size mark (suc n) m c ≡ leaving (Circle c) m
+  pub process_again : c < size → get_or m c 0 ≡ mark → (n : ℕ) → process parents size mark (suc n) m c ≡ leaving (Err (Circle c)) m
   process_again l e n =
       chosen_2 _ _ _ _ (is_pending size mark m c) (in_lineage mark m c) (lacks_record parents c) (pending (eqb (get_or m c 0) 0) refl)
       (eq-eqb (get_or m c 0) mark e)
@@ -106,14 +107,14 @@ module _ (parents : List ℕ) (size mark : ℕ) (m : List ℕ) (c : ℕ) where
       pending true d = sym (pending_free size mark m c l refl (eqb-true (get_or m c 0) 0 d))
       pending false d = sym (pending_marked size mark m c l refl (eqb-false (get_or m c 0) 0 d)) ∙ eq-eqb (get_or m c 0) mark e
 
-  pub process_earlier : c < size → (get_or m c 0 ≡ 0 → ⊥) → (get_or m c 0 ≡ mark → ⊥) → (n : ℕ) → process parents size mark n m c ≡ leaving Top m
+  pub process_earlier : c < size → (get_or m c 0 ≡ 0 → ⊥) → (get_or m c 0 ≡ mark → ⊥) → (n : ℕ) → process parents size mark n m c ≡ leaving (Ok tt) m
   process_earlier l f d zero = refl
   process_earlier l f d (suc n) =
       chosen_1 _ _ _ _ (is_pending size mark m c) (in_lineage mark m c) (lacks_record parents c)
       (sym (pending_marked size mark m c l refl f) ∙ ne_eqb (get_or m c 0) mark d)
 
   module _ (l : c < size) (z : get_or m c 0 ≡ 0) (d : get_or m c 0 ≡ mark → ⊥) where
-    pub process_lacking : lacks_record parents c ≡ true → (n : ℕ) → process parents size mark (suc n) m c ≡ leaving (NoRecord c) m
+    pub process_lacking : lacks_record parents c ≡ true → (n : ℕ) → process parents size mark (suc n) m c ≡ leaving (Err (NoRecord c)) m
     process_lacking r n =
         chosen_3 _ _ _ _ (is_pending size mark m c) (in_lineage mark m c) (lacks_record parents c) (sym (pending_free size mark m c l refl z))
         (ne_eqb (get_or m c 0) mark d) r
@@ -126,14 +127,20 @@ module _ (parents : List ℕ) (size mark : ℕ) (m : List ℕ) (c : ℕ) where
 
 -- the climb after a step
 abbrev go_on : List ℕ → ℕ → ℕ → ℕ → List ℕ → Step → Climbed
-go_on parents size mark n m (Up p) = process parents size mark n m p
-go_on parents size mark n m (Over x) = leaving x m
+go_on parents size mark n m (Ok (Some p)) = process parents size mark n m p
+go_on parents size mark n m (Ok None) = leaving (Ok tt) m
+go_on parents size mark n m (Err e) = leaving (Err e) m
 
 -- a step up is chosen by the last of three tests
-last_chosen : (w x y : Ending) (q p : ℕ) (t u v : Bool) → chosen (Over w) (Over x) (Over y) (Up q) t u v ≡ Up p → (t ≡ true) × (u ≡ false)
-last_chosen w x y q p false u v e = let z : ◌≡◌ {A = ℕ} 0 1 = cc in absurd (omega arith)
-last_chosen w x y q p true true v e = let z : ◌≡◌ {A = ℕ} 0 1 = cc in absurd (omega arith)
-last_chosen w x y q p true false v e = (refl, refl)
+last_chosen : (x y : ClimbError) (q p : ℕ) (t u v : Bool) → chosen {A = Step} (Ok None) (Err x) (Err y) (Ok (Some q)) t u v ≡ Ok (Some p) → (t ≡ true) × (u ≡ false)
+last_chosen x y q p false u v e = let z : ◌≡◌ {A = ℕ} 0 1 = cc in absurd (omega arith)
+last_chosen x y q p true true v e = let z : ◌≡◌ {A = ℕ} 0 1 = cc in absurd (omega arith)
+last_chosen x y q p true false v e = (refl, refl)
+
+-- how a refusal is handed on
+pub handed : (r : Ending) (e : ClimbError) → IsErrAnd r (λ x. x ≡ e) → r ≡ Err e
+handed (Ok x) e h = absurd h
+handed (Err x) e h = ap Err h
 
 module _ (parents : List ℕ) (size mark : ℕ) (m : List ℕ) (c : ℕ) {x : Step} (e : x ≡ step_at parents size mark m c) where
   by_step : (n : ℕ) → process parents size mark (suc n) m c ≡ go_on parents size mark n (marks_after mark m c x) x
@@ -142,22 +149,27 @@ module _ (parents : List ℕ) (size mark : ℕ) (m : List ℕ) (c : ℕ) {x : St
       ∙ ap (λ (s : Step). go_on parents size mark n (marks_after mark m c s) s) (sym e)
     where
       go : (t u v : Bool)
-          → chosen (leaving Top m) (leaving (Circle c) m) (leaving (NoRecord c) m) (process parents size mark n (set m c mark) (get_or parents c 0)) t u v
+          → chosen (leaving (Ok tt) m) (leaving (Err (Circle c)) m) (leaving (Err (NoRecord c)) m) (process parents size mark n (set m c mark) (get_or parents c 0)) t u v
           ≡ go_on parents size mark n
-          (marks_after mark m c (chosen (Over Top) (Over (Circle c)) (Over (NoRecord c)) (Up (get_or parents c 0)) t u v))
-          (chosen (Over Top) (Over (Circle c)) (Over (NoRecord c)) (Up (get_or parents c 0)) t u v)
+          (marks_after mark m c (chosen (Ok None) (Err (Circle c)) (Err (NoRecord c)) (Ok (Some (get_or parents c 0))) t u v))
+          (chosen (Ok None) (Err (Circle c)) (Err (NoRecord c)) (Ok (Some (get_or parents c 0))) t u v)
       go false u v = refl
       go true true v = refl
       go true false true = refl
       go true false false = refl
 
   module _ {m₂ : List ℕ} (h : m₂ ≡ marks_after mark m c x) where
-    pub step_over : {y : Ending} → x ≡ Over y → (n : ℕ) → leaving y m₂ ≡ process parents size mark (suc n) m c
-    step_over {y} f n =
-        ap (leaving y) (h ∙ ap (marks_after mark m c) f)
+    pub step_over : x ≡ Ok None → (n : ℕ) → leaving (Ok tt) m₂ ≡ process parents size mark (suc n) m c
+    step_over f n =
+        ap (leaving (Ok tt)) (h ∙ ap (marks_after mark m c) f)
         ∙ sym (by_step n ∙ ap (λ (s : Step). go_on parents size mark n (marks_after mark m c s) s) f)
 
-    module _ {p : ℕ} (f : x ≡ Up p) where
+    pub step_refused : {e : ClimbError} → x ≡ Err e → (n : ℕ) → leaving (Err e) m₂ ≡ process parents size mark (suc n) m c
+    step_refused {e} f n =
+        ap (leaving (Err e)) (h ∙ ap (marks_after mark m c) f)
+        ∙ sym (by_step n ∙ ap (λ (s : Step). go_on parents size mark n (marks_after mark m c s) s) f)
+
+    module _ {p : ℕ} (f : x ≡ Ok (Some p)) where
       marked : m₂ ≡ set m c mark
       marked = h ∙ ap (marks_after mark m c) f
 
@@ -174,7 +186,7 @@ module _ (parents : List ℕ) (size mark : ℕ) (m : List ℕ) (c : ℕ) {x : St
       step_less z l =
           ap (λ (k : List ℕ). suc (unmarked k size)) marked
           ∙ go (meet size mark m c)
-          (last_chosen Top (Circle c) (NoRecord c) (get_or parents c 0) p (is_pending size mark m c) (in_lineage mark m c) (lacks_record parents c) (sym e ∙ f))
+          (last_chosen (Circle c) (NoRecord c) (get_or parents c 0) p (is_pending size mark m c) (in_lineage mark m c) (lacks_record parents c) (sym e ∙ f))
         where
           go : Met size mark m c → (is_pending size mark m c ≡ true) × (in_lineage mark m c ≡ false) → suc (unmarked (set m c mark) size) ≡ unmarked m size
           go (outside q) g = absurd (subst T (sym g.0 ∙ ap (λ (t : Bool). t && (eqb (get_or m c 0) 0 || eqb (get_or m c 0) mark)) q) tt)
@@ -193,8 +205,9 @@ process_more parents size mark z (suc n) (suc i) m c l a b = go (step_at parents
         → ((p : ℕ) → size ≤ length (set m c mark) → unmarked (set m c mark) size < n → unmarked (set m c mark) size < i
         → process parents size mark n (set m c mark) p ≡ process parents size mark i (set m c mark) p)
         → process parents size mark (suc n) m c ≡ process parents size mark (suc i) m c
-    go (Over y) e h = sym (step_over parents size mark m c e refl refl n) ∙ step_over parents size mark m c e refl refl i
-    go (Up p) e h =
+    go (Ok None) e h = sym (step_over parents size mark m c e refl refl n) ∙ step_over parents size mark m c e refl refl i
+    go (Err y) e h = sym (step_refused parents size mark m c e refl refl n) ∙ step_refused parents size mark m c e refl refl i
+    go (Ok (Some p)) e h =
         let g : suc (unmarked (set m c mark) size) ≡ unmarked m size = step_less parents size mark m c e refl refl z l in
         sym (step_up parents size mark m c e refl refl n)
         ∙ h p (omega (arith, length-set m c mark)) (omega arith) (omega arith)
@@ -225,7 +238,7 @@ bound_enough parents m c n l =
     ∙ climb_start parents m c refl refl
 
 pub climb_up : (parents : List ℕ) (size mark : ℕ) (m : List ℕ) (c : ℕ) → (mark ≡ 0 → ⊥) → size ≤ length m
-    → {x : Step} {m₂ : List ℕ} {p : ℕ} → x ≡ step_at parents size mark m c → m₂ ≡ marks_after mark m c x → x ≡ Up p
+    → {x : Step} {m₂ : List ℕ} {p : ℕ} → x ≡ step_at parents size mark m c → m₂ ≡ marks_after mark m c x → x ≡ Ok (Some p)
     → process parents size mark (suc size) m₂ p ≡ process parents size mark (suc size) m c
 climb_up parents size mark m c z l {x} {m₂} {p} e h f =
     let g : suc (unmarked m₂ size) ≡ unmarked m size = step_less parents size mark m c e h f z l in
@@ -248,7 +261,7 @@ module _ (parents m : List ℕ) (k n c d : ℕ) (s : k ≡ suc n) (t : d ≡ suc
   pub all_next : is_top x ≡ true → process_all parents n m₂ d ≡ process_all parents k m c
   all_next h = sym (first_of_all ∙ ap (λ (b : Bool). when b then process_all parents n m₂ d else leaving x m₂) h)
 
-pub all_end : (parents m : List ℕ) (n c : ℕ) → n ≡ 0 → leaving Top m ≡ process_all parents n m c
+pub all_end : (parents m : List ℕ) (n c : ℕ) → n ≡ 0 → leaving (Ok tt) m ≡ process_all parents n m c
 all_end parents m n c e = sym (ap (λ (i : ℕ). process_all parents i m c) e)
 
 pub all_start : (parents m : List ℕ) (size n : ℕ) → size ≡ run_size parents m → n ≡ size → process_all parents n m 0 ≡ climbed_all parents m

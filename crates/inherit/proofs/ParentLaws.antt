@@ -19,9 +19,9 @@ use Rattle.definition.proofs.Format.Tables.{map_below}
 use Rattle.symbols.proofs.DeclLaws.{kind_inside}
 use Rattle.sheet.proofs.FindLaws.{row_number}
 use Rattle.after.specs.Inherited.{parent_in, climb_in, classes_refusal}
-use Rattle.climb.specs.declared.Ending.{Ending}
-use Rattle.climb.specs.declared.Ending.TheVariants.{Top, Circle, NoRecord}
-use Rattle.climb.specs.Process.{NO_RECORD, ENDS, run_size, Climbed, leaving, is_top, climbed_all, climb_from, first_ending}
+use Rattle.std.specs.Prelude.{Ok, Err}
+use Rattle.climb.specs.declared.ClimbError.TheVariants.{Circle, NoRecord}
+use Rattle.climb.specs.Process.{Ending, NO_RECORD, ENDS, run_size, Climbed, leaving, is_top, climbed_all, climb_from, first_ending}
 use Rattle.climb.proofs.StepLaws.{chosen, chosen_1, chosen_4}
 use Rattle.climb.proofs.LineLaws.{climb_all_plain}
 use Rattle.inherit.specs.Answered.{lacks_record, Marked, refusal_at, parent_number, parent_numbers}
@@ -111,25 +111,25 @@ numbers_more c r e lineage met h j = ap (λ (t : Bool). t || (j ∈? lineage)) (
     go false d = d ∙ sym (ne_eqb (256 + j) c (λ z. eqb-false j r d (omega arith)))
 
 -- a climb over a run of parents that comes to a number past the run is over
-climb_past : (parents : List ℕ) (size n : ℕ) (lineage : List ℕ) (c : ℕ) → size ≤ c → climb_from parents size n lineage c ≡ Top
+climb_past : (parents : List ℕ) (size n : ℕ) (lineage : List ℕ) (c : ℕ) → size ≤ c → climb_from parents size n lineage c ≡ (Ok tt)
 climb_past parents size zero lineage c l = refl
 climb_past parents size (suc n) lineage c l =
-    chosen_1 Top (Circle c) (NoRecord c) _ (ltb c size) (c ∈? lineage) (eqb (get_or parents c 0) NO_RECORD) (le-ltb c size l)
+    chosen_1 (Ok tt) (Err (Circle c)) (Err (NoRecord c)) _ (ltb c size) (c ∈? lineage) (eqb (get_or parents c 0) NO_RECORD) (le-ltb c size l)
 
 module _ (O : Outside) (s : Sheet) (o : Store) (w : 8 * rows s ≡ length s) (f : rows s ≤ 2048) where
   -- one class of the climb, by the tests of the run and of the definition
   module _ (r : ℕ) (z : Ending) (y : Refusal) where
     alike : (t u v t₂ u₂ v₂ : Bool) → t ≡ t₂ → u ≡ u₂ → v ≡ v₂ → (v₂ ≡ false → refusal_at s z ≡ y)
-        → refusal_at s (chosen Top (Circle r) (NoRecord r) z t u v)
+        → refusal_at s (chosen (Ok tt) (Err (Circle r)) (Err (NoRecord r)) z t u v)
         ≡ chosen none (ask 18 r (a s r) false) (ask 19 r (a s r) false) y t₂ u₂ v₂
     alike t u v t₂ u₂ v₂ d e g h =
-        ap (λ (b : Bool). refusal_at s (chosen Top (Circle r) (NoRecord r) z b u v)) d
-        ∙ ap (λ (b : Bool). refusal_at s (chosen Top (Circle r) (NoRecord r) z t₂ b v)) e
-        ∙ ap (λ (b : Bool). refusal_at s (chosen Top (Circle r) (NoRecord r) z t₂ u₂ b)) g
+        ap (λ (b : Bool). refusal_at s (chosen (Ok tt) (Err (Circle r)) (Err (NoRecord r)) z b u v)) d
+        ∙ ap (λ (b : Bool). refusal_at s (chosen (Ok tt) (Err (Circle r)) (Err (NoRecord r)) z t₂ b v)) e
+        ∙ ap (λ (b : Bool). refusal_at s (chosen (Ok tt) (Err (Circle r)) (Err (NoRecord r)) z t₂ u₂ b)) g
         ∙ go t₂ u₂ v₂ h
       where
         go : (b c d : Bool) → (d ≡ false → refusal_at s z ≡ y)
-            → refusal_at s (chosen Top (Circle r) (NoRecord r) z b c d) ≡ chosen none (ask 18 r (a s r) false) (ask 19 r (a s r) false) y b c d
+            → refusal_at s (chosen (Ok tt) (Err (Circle r)) (Err (NoRecord r)) z b c d) ≡ chosen none (ask 18 r (a s r) false) (ask 19 r (a s r) false) y b c d
         go false c d k = refl
         go true true d k = refl
         go true false true k = refl
@@ -179,9 +179,9 @@ module _ (O : Outside) (s : Sheet) (o : Store) (w : 8 * rows s ≡ length s) (f 
       here : r ≡ 256 + r - 256
       here = omega arith
 
-  other_answer : (r : ℕ) → r < rows s → is s 4 r ≡ false → from_row r ≡ Top
+  other_answer : (r : ℕ) → r < rows s → is s 4 r ≡ false → from_row r ≡ (Ok tt)
   other_answer r l h =
-      chosen_4 Top (Circle r) (NoRecord r) _ (ltb r (rows s)) false (eqb (get_or (parent_numbers O s o) r 0) NO_RECORD)
+      chosen_4 (Ok tt) (Err (Circle r)) (Err (NoRecord r)) _ (ltb r (rows s)) false (eqb (get_or (parent_numbers O s o) r 0) NO_RECORD)
       (lt-ltb r (rows s) l) refl (ap (λ (i : ℕ). eqb i NO_RECORD) ends)
       ∙ climb_past (parent_numbers O s o) (rows s) (rows s) (r ∷ []) (get_or (parent_numbers O s o) r 0) (omega (arith, ends))
     where
@@ -191,12 +191,12 @@ module _ (O : Outside) (s : Sheet) (o : Store) (w : 8 * rows s ≡ length s) (f 
   -- the first climb that does not end at the top, as the first no
   first_answer : (x y : Ending)
       → refusal_at s (when not (is_top x) then x else y) ≡ (when not (eqb (refusal_at s x).number 0) then refusal_at s x else refusal_at s y)
-  first_answer Top y = refl
-  first_answer (Circle c) y = refl
-  first_answer (NoRecord c) y = refl
+  first_answer (Ok x) y = refl
+  first_answer (Err (Circle c)) y = refl
+  first_answer (Err (NoRecord c)) y = refl
 
   rows_answer : (n r : ℕ) → r + n ≡ rows s
-      → refusal_at s (first (λ x. not (is_top x)) Top (map from_row (from r n)))
+      → refusal_at s (first (λ x. not (is_top x)) (Ok tt) (map from_row (from r n)))
       ≡ first_no (map (λ i. climb_in O s o (suc (rows s)) [] (256 + i)) (filter (is s 4) (from r n)))
   rows_answer zero r e = refl
   rows_answer (suc n) r e = go (is s 4 r) refl (rows_answer n (suc r) (omega arith))
@@ -205,7 +205,7 @@ module _ (O : Outside) (s : Sheet) (o : Store) (w : 8 * rows s ≡ length s) (f 
       answer i = climb_in O s o (suc (rows s)) [] (256 + i)
 
       rest : Ending
-      rest = first (λ x. not (is_top x)) Top (map from_row (from (suc r) n))
+      rest = first (λ x. not (is_top x)) (Ok tt) (map from_row (from (suc r) n))
 
       later : List ℕ
       later = filter (is s 4) (from (suc r) n)

@@ -8,9 +8,9 @@ pub use Rattle.definition.specs.Classes.{lacks_record}
 use Rattle.definition.specs.Question.{Refusal as No, none, ask}
 use Rattle.machine.specs.Machine.{Store}
 use Rattle.after.specs.Inherited.{parent_in}
-use Rattle.climb.specs.declared.Ending.{Ending}
-use Rattle.climb.specs.declared.Ending.TheVariants.{Top, Circle, NoRecord}
-use Rattle.climb.specs.Process.{NO_RECORD, ENDS}
+use Rattle.std.specs.Prelude.{Ok, Err}
+use Rattle.climb.specs.declared.ClimbError.TheVariants.{Circle, NoRecord}
+use Rattle.climb.specs.Process.{Ending, NO_RECORD, ENDS}
 use Rattle.inherit.specs.declared.Refusal.{Refusal}
 
 -- a refusal's three values
@@ -23,9 +23,9 @@ pub record Marked (k : ℕ) (m : List ℕ) : Type 0 where
 
 -- what is refused where the climb over the run of parents ended so
 abbrev pub refusal_at : Sheet → Ending → No
-refusal_at s Top = none
-refusal_at s (Circle r) = ask 18 r (a s r) false
-refusal_at s (NoRecord r) = ask 19 r (a s r) false
+refusal_at s (Ok x) = none
+refusal_at s (Err (Circle r)) = ask 18 r (a s r) false
+refusal_at s (Err (NoRecord r)) = ask 19 r (a s r) false
 
 -- how a run of parents tells parent c: by its row, or as one without a record, or as one that ends the climb
 abbrev pub parent_number : Outside → Sheet → ℕ → ℕ

@@ -11,7 +11,7 @@ ghost use Rattle.after.specs.Inherited.{parent_in, classes_refusal, methods_in, 
 ghost use Rattle.inherit.specs.Answered.{refusal_of, lacks_record, Marked, refusal_at, parent_number, parent_numbers};
 
 use ast::{ClassId, FIRST_CLASS, column, name, question};
-use climb::{ENDS, Ending, NO_RECORD, climb_all};
+use climb::{ClimbError, ENDS, NO_RECORD, climb_all};
 use outside::records::{Method, NO_METHOD, class_name, has_record, own_method};
 use sheet::{arguments, is_class_row};
 use store::nodes::{Store, node_before, node_word};
@@ -64,13 +64,13 @@ fn refuse_class(sheet: &[u32], number: u32, row: u32) -> Refusal
 }
 
 // How the climb over the run of parents ended, as a no of question 18 or 19 or as none.
-fn refuse_ending(sheet: &[u32], ending: Ending) -> Refusal
+fn refuse_ending(sheet: &[u32], ending: Result<(), ClimbError>) -> Refusal
     ensures { refusal_of result ≡ refusal_at sheet.now ending }
 {
     match ending {
-        Ending::Top => NO_REFUSAL,
-        Ending::Circle(row) => refuse_class(sheet, question::NO_CYCLE, row),
-        Ending::NoRecord(row) => refuse_class(sheet, question::PARENT_RECORD, row),
+        Ok(()) => NO_REFUSAL,
+        Err(ClimbError::Circle(row)) => refuse_class(sheet, question::NO_CYCLE, row),
+        Err(ClimbError::NoRecord(row)) => refuse_class(sheet, question::PARENT_RECORD, row),
     }
 }
 

@@ -6,7 +6,4 @@ use Rattle.climb.proofs.climb_all.Given as goal
 
 abbrev pub invariant-loop-c : goal.invariant-loop-c
 invariant-loop-c l =
-    (process_all l.parents (l.size - l.c) l.marks l.c ≡ climbed_all l.parents l.initial.marks) × (length l.marks ≡ length l.initial.marks) × (l.c ≤ l.size)
-
-abbrev pub decreases-loop-c : goal.decreases-loop-c
-decreases-loop-c l = l.size - l.c
+    (process_all l.parents (l.c-end - l.c) l.marks l.c ≡ climbed_all l.parents l.initial.marks) × (length l.marks ≡ length l.initial.marks) × (l.c ≤ l.c-end)
