@@ -9,6 +9,7 @@ ghost use Rattle.machine.specs.Machine.{step_state};
 ghost use Rattle.classes.specs.Table.{ClassTable};
 ghost use Rattle.walk.specs.WalkState.{state_of};
 
+use ast::kind::Kind;
 use ast::{column, kind, question};
 use sheet::has_named;
 use store::nodes::reg_field;
@@ -57,7 +58,7 @@ fn assign_member(
     }
     let target = word(sheet, row, column::CHILD);
     let m = word(sheet, target, column::A);
-    if has_named(sheet, class, kind::FIELD, m) {
+    if has_named(sheet, class, Kind::Field, m) {
         return walk;
     }
     let store = reg_field(walk.store, results, nodes, class, m);

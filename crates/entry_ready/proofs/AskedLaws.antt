@@ -3,31 +3,17 @@ use mathlib.Core.Path.{◌≡◌, refl, sym, ◌∙◌}
 use mathlib.Core.Bool.{Bool, true, false, not}
 use mathlib.Core.List.{List}
 use Prim.Native.Nat.{ℕ}
-use lib.Dec.{eqb, leb}
-use lib.ListN.{length}
+use lib.Dec.{eqb}
 use borrow.Author.Tests.{eq-eqb, ne_eqb}
 use Rattle.definition.specs.Basics.{when◌then◌else◌}
-use Rattle.definition.specs.Kind.{IMPORT}
 use Rattle.definition.specs.Names.{names_fit, name_count}
-use Rattle.definition.specs.Sheet.{Sheet, child, a, kids, kids_of}
+use Rattle.definition.specs.Sheet.{Sheet}
 use Rattle.definition.specs.Format.{sheet_fits, depths_fit}
 use Rattle.definition.specs.Outcome.{Outcome, refused, rows_fit}
 use Rattle.first_four.specs.Questions.{first_four}
 use Rattle.session.specs.Session.{Session}
 use Rattle.session.specs.Enter.{entry_fits, asked_in, entered}
 use Rattle.entry_ready.specs.Asked.{fits_over, entry_no}
-
--- the three tests of question 23 of an entry, as they are asked
-module _ (g : ℕ) (s : Sheet) {k : ℕ} (ek : k ≡ length (kids s 0)) where
-  pub fits_one : (k ≡ 1 → ⊥) → false ≡ fits_over g s
-  fits_one f = rw (ne_eqb (length (kids s 0)) 1 (λ e. f (ek ∙ e)))
-
-  pub fits_two : {i : ℕ} → k ≡ 1 → i ≡ length (kids_of s IMPORT (child s 0)) → (i ≡ 0 → ⊥) → false ≡ fits_over g s
-  fits_two {i} e ei f = rw (eq-eqb (length (kids s 0)) 1 (sym ek ∙ e), ne_eqb (length (kids_of s IMPORT (child s 0))) 0 (λ z. f (ei ∙ z)))
-
-  pub fits_three : {i : ℕ} → k ≡ 1 → i ≡ length (kids_of s IMPORT (child s 0)) → i ≡ 0 → {x y : ℕ} → x ≡ g → y ≡ a s 0 → leb x y ≡ fits_over g s
-  fits_three {i} e ei z {x} {y} ex ey =
-      rw (ex, ey, eq-eqb (length (kids s 0)) 1 (sym ek ∙ e), eq-eqb (length (kids_of s IMPORT (child s 0))) 0 (sym ei ∙ z))
 
 -- the first no, as it is asked
 module _ (g : ℕ) (s : Sheet) (ns : List ℕ) {n : ℕ} (e : n ≡ first_four s ns) where

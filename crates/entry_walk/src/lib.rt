@@ -13,7 +13,8 @@ ghost use Rattle.walk.specs.WalkState.{state_of};
 ghost use Rattle.row_events.specs.Prepared.{Ready};
 ghost use Rattle.entry_walk.specs.Laid.{OneUnit, BodyWalked};
 
-use ast::{column, kind};
+use ast::column;
+use ast::kind::Kind;
 use classes::class_table;
 use outermost::open_names;
 use resolve_syms::cycle::resolve_parts;
@@ -35,7 +36,7 @@ fn unit_rows(sheet: &[u32]) -> Rows
     ensures { (result.unit ≡ child sheet.now 0) × (result.fun ≡ head (kids_of sheet.now 6 result.unit)) × (result.body ≡ child sheet.now result.fun) }
 {
     let unit = word(sheet, 0, column::CHILD);
-    let fun = first_of(sheet, unit, kind::FUNCTION);
+    let fun = first_of(sheet, unit, Kind::Function).unwrap_or(0);
     Rows {
         unit: unit,
         fun: fun,

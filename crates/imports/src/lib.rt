@@ -134,7 +134,7 @@ fn bring_listed(sheet: &[u32], u: u32, i: u32, k: u32, walk: Walk, entries: &mut
         (state_of walk entries.old results nodes) }
 {
     let m = word(sheet, k, column::A);
-    let x = find_export(sheet, u, i, m);
+    let x = find_export(sheet, u, i, m).unwrap_or(0);
     bring(sheet, i, m, x, walk, entries)
 }
 

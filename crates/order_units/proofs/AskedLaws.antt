@@ -7,7 +7,7 @@ use Prim.Native.Nat.{ℕ, zero, suc, ◌+◌, ◌-◌, ◌<◌, ◌≤◌}
 use native.Mathlib.Omega.{arith}
 use lib.Dec.{T, not_T, eqb, leb, ltb→lt, T_not}
 use Rattle.std.specs.Prelude.{Option, Some, None, IsSome}
-use Rattle.sheet.specs.Rest.{or_zero}
+use Rattle.std.specs.Option.{unwrap_or}
 use lib.ListN.{length, get_or, drop, replicate, length-replicate, length-map}
 use lib.Seq.{sets, sets-eq, length-sets}
 use borrow.Author.Tests.{eq-eqb, ne_eqb, leb-true, leb-false}
@@ -252,7 +252,7 @@ module _ (s m : List ℕ) (n : ℕ) where
   left_none h l = record { one = λ z. absurd (subst T (sym z) tt); none = λ z u k. h u (omega (arith, (unit_row_lem s u k).0)) k }
 
 -- a row that is found is there
-pub found_some : (o : Option ℕ) → (or_zero o ≡ 0 → ⊥) → IsSome o
+pub found_some : (o : Option ℕ) → (unwrap_or o 0 ≡ 0 → ⊥) → IsSome o
 found_some None f = absurd (f refl)
 found_some (Some u) f = refl
 

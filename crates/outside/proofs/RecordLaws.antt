@@ -22,7 +22,7 @@ use Rattle.outside.specs.Found.{row_record, named_in, fields_in, methods_in, Rec
 use Rattle.outside.specs.declared.records.Recorded.{Recorded}
 use Rattle.outside.specs.declared.records.Method.{Method}
 use Rattle.std.specs.Option.{MatchOption}
-use Rattle.sheet.specs.Rest.{or_zero}
+use Rattle.std.specs.Option.{unwrap_or}
 use Rattle.sheet.proofs.FindLaws.{row_number, method_function, method_params, found_in, found_row, found_none_row}
 
 -- What is told of a record: whether there is one, its name, fields and methods.
@@ -139,14 +139,14 @@ module _ (s : Sheet) (w : List ℕ) (c : ℕ) {x : Bool} (e : x ≡ of_sheet s c
   pub own_number : x ≡ true → 256 ≤ c
   own_number h = row_number s c (sym e ∙ h)
 
-  pub own_listed : x ≡ true → {n : ℕ} (f : Option ℕ) {m : Method} → f ≡ found_in s 6 n (c - 256) → m.fun.0 ≡ or_zero f
+  pub own_listed : x ≡ true → {n : ℕ} (f : Option ℕ) {m : Method} → f ≡ found_in s 6 n (c - 256) → m.fun.0 ≡ unwrap_or f 0
       → MatchOption f (m.params ≡ 0) (λ row. m.params ≡ arity s row) → Tells n (own_methods (over w) s c) m
   own_listed h {n} f {m} i j k =
       let z = listed_tells f i j k in
       tells_as n {ms = map (method_at s) (kids_of s 6 (c - 256))} z
       (sym (ap (λ (t : Bool). method_of n (when t then map (method_at s) (kids_of s 6 (c - 256)) else (record_of (over w) c).methods)) (sym e ∙ h)))
     where
-      listed_tells : (f : Option ℕ) → f ≡ found_in s 6 n (c - 256) → m.fun.0 ≡ or_zero f → MatchOption f (m.params ≡ 0) (λ row. m.params ≡ arity s row)
+      listed_tells : (f : Option ℕ) → f ≡ found_in s 6 n (c - 256) → m.fun.0 ≡ unwrap_or f 0 → MatchOption f (m.params ≡ 0) (λ row. m.params ≡ arity s row)
           → Tells n (map (method_at s) (kids_of s 6 (c - 256))) m
       listed_tells (Some row) i j k =
           let q = found_row s 6 n (c - 256) row i in

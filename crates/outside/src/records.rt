@@ -5,7 +5,7 @@ ghost use Rattle.definition.specs.Classes.{has_record, class_name, own_methods, 
 ghost use Rattle.outside.specs.Words.{methods_at, over};
 ghost use Rattle.outside.specs.Found.{row_record, Records, Tells, recorded_names};
 ghost use Rattle.outside.specs.Left.{names_left};
-ghost use Rattle.sheet.specs.Rest.{or_zero};
+ghost use Rattle.std.specs.Option.{unwrap_or};
 ghost use Rattle.ast.specs.Kind.{kind_number};
 
 use crate::layout;
@@ -101,7 +101,7 @@ fn recorded_method(outside: &[u32], at: u32, count: u32, n: u32) -> Method
 
 // The method of the sheet that is a function.
 fn listed_method(sheet: &[u32], f: Option<u32>) -> Method
-    ensures { (result.fun.0 ≡ or_zero f) × MatchOption f (result.params ≡ 0) (λ row. result.params ≡ arity_of sheet.now row) }
+    ensures { (result.fun.0 ≡ unwrap_or f 0) × MatchOption f (result.params ≡ 0) (λ row. result.params ≡ arity_of sheet.now row) }
 {
     match f {
         Some(row) => Method {

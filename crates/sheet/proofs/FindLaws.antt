@@ -17,7 +17,7 @@ use Rattle.definition.proofs.Lists.Tests.{and_left, T_true, true_of}
 use Rattle.std.specs.List.{find}
 use Rattle.std.specs.Option.{MatchOption}
 use Rattle.sheet.specs.Exports.{export_of}
-use Rattle.sheet.specs.Rest.{or_zero}
+use Rattle.std.specs.Option.{unwrap_or}
 use Rattle.sheet.proofs.ListLaws.{chain_of, first_named}
 
 -- g of the first row of a list, or d
@@ -237,18 +237,18 @@ module _ (s : Sheet) (m w : ℕ) where
 
   -- the export of the three kinds that is found first
   pub export_found : (o p q : Option ℕ) → o ≡ found_in s 7 m w → MatchOption o (p ≡ found_in s 4 m w) (λ x. p ≡ Some x) → MatchOption p (q ≡ found_in s 8 m w) (λ x. q ≡ Some x)
-      → export_of s (or_zero q) ≡ sought m (exports s w)
+      → export_of s (unwrap_or q 0) ≡ sought m (exports s w)
   export_found (Some x) p q e h g =
       let f = found_row s 7 m w x e in
       let i : q ≡ Some x = subst (λ o. MatchOption o (q ≡ found_in s 8 m w) (λ y. q ≡ Some y)) h g in
-      ap (λ o. export_of s (or_zero o)) i ∙ export_function x f.0 f.1
+      ap (λ o. export_of s (unwrap_or o 0)) i ∙ export_function x f.0 f.1
   export_found None (Some y) q e h g =
       let f = found_row s 4 m w y h in
-      ap (λ o. export_of s (or_zero o)) g ∙ export_class 0 (found_none_row s 7 m w e) refl y f.0 f.1
+      ap (λ o. export_of s (unwrap_or o 0)) g ∙ export_class 0 (found_none_row s 7 m w e) refl y f.0 f.1
   export_found None None q e h g =
-      ap (λ o. export_of s (or_zero o)) g
-      ∙ export_constant 0 (found_none_row s 7 m w e) refl 0 (found_none_row s 4 m w h) refl (or_zero (found_in s 8 m w)) (go (found_in s 8 m w) refl)
+      ap (λ o. export_of s (unwrap_or o 0)) g
+      ∙ export_constant 0 (found_none_row s 7 m w e) refl 0 (found_none_row s 4 m w h) refl (unwrap_or (found_in s 8 m w) 0) (go (found_in s 8 m w) refl)
     where
-      go : (o : Option ℕ) → o ≡ found_in s 8 m w → or_zero o ≡ first_named s m (kids_of s 8 w)
+      go : (o : Option ℕ) → o ≡ found_in s 8 m w → unwrap_or o 0 ≡ first_named s m (kids_of s 8 w)
       go None i = found_none_row s 8 m w i
       go (Some k) i = (found_row s 8 m w k i).0

@@ -1,5 +1,5 @@
 -- What an iterator over a child list has left to give.
-use Rattle.std.specs.Prelude.{List, ℕ, Option, None, Some}
+use Rattle.std.specs.Prelude.{List, ℕ}
 use Rattle.ast.specs.Kind.{kind_number}
 use Rattle.definition.specs.Basics.{filter}
 use Rattle.definition.specs.Sheet.{chain, is}
@@ -13,8 +13,3 @@ rows_left c = chain c.left c.sheet.now c.next
 -- those of them that are of the kind
 abbrev pub kind_left : KindRows → List ℕ
 kind_left c = filter (is c.sheet.now (kind_number c.kind)) (rows_left c.rows)
-
--- a row that may be missing, as a number: 0 is no child
-abbrev pub or_zero : Option ℕ → ℕ
-or_zero None = 0
-or_zero (Some k) = k

@@ -11,7 +11,7 @@ ghost use Rattle.definition.specs.Classes.{of_sheet, arity as arity_of};
 ghost use Rattle.definition.specs.Question.{arguments as arguments_of};
 ghost use Rattle.definition.specs.Walk.{seen};
 ghost use Rattle.sheet.specs.Exports.{export_of};
-ghost use Rattle.sheet.specs.Rest.{or_zero};
+ghost use Rattle.std.specs.Option.{unwrap_or};
 
 pub mod child_rows;
 
@@ -29,7 +29,7 @@ pub fn first_named(sheet: &[u32], row: u32, kind: Kind, n: u32) -> Option<u32>
 
 // The first child of `row` that is of a kind.
 pub fn first_of(sheet: &[u32], row: u32, kind: Kind) -> Option<u32>
-    ensures { or_zero result ≡ head (kids_of_in sheet.now (kind_number kind) row) }
+    ensures { unwrap_or result 0 ≡ head (kids_of_in sheet.now (kind_number kind) row) }
 {
     kids_of(sheet, row, kind).next()
 }
@@ -74,7 +74,7 @@ pub fn has_named(sheet: &[u32], row: u32, kind: Kind, n: u32) -> bool
 
 // The export row that import `i` of unit `u` finds for name `n`: a function, a class, a constant. A unit sees nothing of itself.
 pub fn find_export(sheet: &[u32], u: u32, i: u32, n: u32) -> Option<u32>
-    ensures { export_of sheet.now (or_zero result) ≡ (first (λ y. eqb y.name n) (named 0 nothing) (seen sheet.now u i)).means }
+    ensures { export_of sheet.now (unwrap_or result 0) ≡ (first (λ y. eqb y.name n) (named 0 nothing) (seen sheet.now u i)).means }
 {
     let unit = word(sheet, i, column::A);
     if unit == u {

@@ -1,6 +1,7 @@
 use mathlib.Core.List.{List}
 use mathlib.Core.Path.{sym, ap, ◌∙◌}
-use Rattle.sheet.specs.Rest.{or_zero}
+use Rattle.std.specs.Prelude.{Option}
+use Rattle.std.specs.Option.{unwrap_or}
 use Prim.Native.Nat.{ℕ}
 use native.Mathlib.Omega.{arith}
 use lib.Seq.{sets}
@@ -23,19 +24,19 @@ lowest_circling-requires c = importing c.args.sheet.now c.requires.0
 pub unwrap-u-requires : goal.unwrap-u-requires
 unwrap-u-requires c =
     found_some c.lowest_circling.result
-    (left_some c.args.sheet.now c.requires.0 _ c.start_units-started.ensures.marks c.some_left.result c.some_left.ensures 0 c.if-some_left.true (or_zero c.lowest_circling.result)
+    (left_some c.args.sheet.now c.requires.0 _ c.start_units-started.ensures.marks c.some_left.result c.some_left.ensures 0 c.if-some_left.true (unwrap_or c.lowest_circling.result 0)
     c.lowest_circling.ensures)
 
 pub refuse_at-requires : goal.refuse_at-requires
 refuse_at-requires c =
     left_file c.args.sheet.now c.requires.0 _ c.start_units-started.ensures.marks c.some_left.result c.some_left.ensures 0 c.if-some_left.true c.unwrap-u.result
-    (sym (ap or_zero c.unwrap-u.ensures) ∙ c.lowest_circling.ensures)
+    (sym (ap (λ (o : Option ℕ). unwrap_or o 0) c.unwrap-u.ensures) ∙ c.lowest_circling.ensures)
 
 pub returns-then-some_left : goal.returns-then-some_left
 returns-then-some_left c =
     let long = c.start_units-started.auto.list ∙ c.clear.auto.words in
     settled_circle c.args.sheet.now c.requires.0 _ c.start_units-started.ensures.marks c.some_left.result c.some_left.ensures (length c.args.list.now) c.if-some_left.true
-    c.unwrap-u.result (sym (ap or_zero c.unwrap-u.ensures) ∙ c.lowest_circling.ensures)
+    c.unwrap-u.result (sym (ap (λ (o : Option ℕ). unwrap_or o 0) c.unwrap-u.ensures) ∙ c.lowest_circling.ensures)
     (rw (← c.number.ensures) c.refuse_at.ensures.0, c.refuse_at.ensures.1 ∙ ap (λ (k : ℕ). replicate k 0) long)
 
 pub returns : goal.returns
