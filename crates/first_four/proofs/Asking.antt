@@ -14,10 +14,9 @@ use Rattle.definition.specs.Outcome.{refused, rows_fit, asked, outcome}
 use Rattle.definition.proofs.Lists.Tests.{T_true, T_and}
 use Rattle.definition.specs.Outside.{core}
 use Rattle.row_fits.specs.Pass.{rows_noted, depth_ok}
-use Rattle.links.specs.Rising.{Rising}
 use Rattle.first_four.specs.Questions.{format_question, first_four}
 use Rattle.first_four.specs.Whole.{links_ok, rows_all}
-use Rattle.first_four.proofs.Question3.{question_3, question_4, links_right}
+use Rattle.first_four.proofs.Question3.{question_3, question_4}
 
 zero_at : (n i : ℕ) → get_or {A = ℕ} (replicate n 0) i 0 ≡ 0
 zero_at zero i = refl
@@ -58,12 +57,6 @@ module _ (last : ℕ) (s : Sheet) (t m : List ℕ) (some : 0 < rows s) (few : ro
       question_4 last s t m some few (omega (arith, zeros_long 16384 t table)) (λ k c. zeros_at 16384 t table (8 * k + c)) (λ i. omega (arith, zeros_at 1049 m marks i))
       (omega (arith, zeros_long 1049 m marks)) y in
       ap (number true) (d ∙ ap (λ (q : List ℕ). all (depth_ok q) (from 0 (rows s))) v ∙ z) ∙ ap (λ (q : Bool). number q (depths_fit s)) (sym y)
-
-  pub rising : links_ok s ≡ true → Rising s
-  rising e =
-      let q = links_right last s t m some few (omega (arith, zeros_long 16384 t table)) (λ k c. zeros_at 16384 t table (8 * k + c)) (λ i. omega (arith, zeros_at 1049 m marks i))
-      (omega (arith, zeros_long 1049 m marks)) (T_true (links_ok s) e) in
-      record { nexts = q.nexts; children = q.children }
 
 -- question 1
 pub sized : (s : Sheet) → rows_fit s ≡ true → (length s ≡ 8 * rows s) × (0 < rows s) × (rows s ≤ 2048)

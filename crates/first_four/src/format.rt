@@ -4,7 +4,6 @@ ghost use Rattle.ast.specs.Question.{no_of};
 ghost use Rattle.definition.specs.Sheet.{rows};
 ghost use Rattle.definition.specs.Format.{header_first, main_marked};
 ghost use Rattle.row_fits.specs.Pass.{rows_noted};
-ghost use Rattle.links.specs.Rising.{Rising};
 ghost use Rattle.first_four.specs.Questions.{format_question};
 ghost use Rattle.first_four.specs.Whole.{links_ok, rows_all};
 
@@ -40,10 +39,10 @@ fn links_fit(sheet: &[u32], seen: &mut [u32]) -> bool
     header_first(sheet) && main_marked(sheet) && links_rise(sheet) && linked_once(sheet, seen)
 }
 
-// The passes over the rows of a sheet whose links rise, with a table and marks of zeros. The table is filled.
+// The passes over the rows of a sheet, with a table and marks of zeros. The table is filled.
 #[tactic(auto, unfolding(crate::specs::Whole::rows_all))]
 fn rows_fit(sheet: &[u32], last: u32, table: &mut [u32], marks: &mut [u32]) -> bool
-    requires { Rising sheet.now × (rows sheet.now ≤ 2048) }
+    requires { rows sheet.now ≤ 2048 }
     ensures value { result ≡ rows_all sheet.now last table.old marks.old }
     ensures table_after { result ≡ true → table.new ≡ rows_noted sheet.now (rows sheet.now) 0 table.old }
 {

@@ -3,13 +3,13 @@ use mathlib.Core.Path.{◌≡◌, refl, sym, ap, ◌∙◌, subst}
 use mathlib.Core.Bool.{Bool, true, false, ◌&&◌, ◌||◌}
 use Prim.Native.Nat.{ℕ, zero, suc, ◌+◌, ◌*◌, ◌<◌, ◌≤◌}
 use native.Mathlib.Omega.{arith}
-use lib.Dec.{eqb, ltb, T}
+use lib.Dec.{eqb}
 use lib.ListN.{length, get_or, set, length-set}
 use Rattle.definition.specs.Basics.{all, from, when◌then◌else◌, bit, count, concat_map}
 use Rattle.definition.specs.Sheet.{Sheet, next, child, rows}
 use Rattle.definition.specs.Format.{links_rise, link_rises, linked_once, links}
-use Rattle.definition.proofs.Lists.Tests.{T_true, true_of, T_and, ℕ-trichotomy}
-use Rattle.definition.proofs.Format.Passes.{all_fails, all_of, linked_to, linked_suc}
+use Rattle.definition.proofs.Lists.Tests.{T_true, T_and, ℕ-trichotomy}
+use Rattle.definition.proofs.Format.Passes.{linked_to, linked_suc}
 use mathlib.Core.Logic.{◌⊎◌, inl, inr}
 use mathlib.Core.List.{List, [], ◌∷◌}
 use native.Mathlib.Numerals.{add-one}
@@ -18,7 +18,7 @@ use borrow.Author.Tests.{eq-eqb, ne_eqb}
 use Rattle.definition.proofs.Lists.Counts.{all_below, pairs_length}
 use Rattle.definition.proofs.Format.Links.{Rises}
 use Rattle.definition.proofs.Format.Facts.{link_rises_lem}
-use Rattle.links.specs.Rising.{Counts}
+use Rattle.links.specs.Counting.{Counts}
 
 -- `seen` counts the links from the rows below r
 pub record Counted (s : Sheet) (n r : ℕ) (seen : List ℕ) : Type 0 where

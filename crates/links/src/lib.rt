@@ -5,7 +5,7 @@ ghost use Rattle.std.specs.Prelude.{◌≡◌, true, ◌||◌, ℕ, ◌<◌, ◌
 ghost use Rattle.definition.specs.Basics.{all, from};
 ghost use Rattle.definition.specs.Sheet.{rows};
 ghost use Rattle.definition.specs.Format.{link_rises, links_rise, linked_once, links};
-ghost use Rattle.links.specs.Rising.{Counts};
+ghost use Rattle.links.specs.Counting.{Counts};
 
 use ast::column;
 use words::word;

@@ -1,4 +1,4 @@
-use Rattle.std.proofs.Common.{sym, ap, ◌∙◌, List, ℕ}
+use Rattle.std.proofs.Common.{sym, ap, ◌∙◌}
 use Rattle.ast.specs.Kind.{kind_number}
 use Rattle.distinct.specs.Apart.{unmarked, marked}
 use Rattle.sheet.specs.Rest.{rows_left}

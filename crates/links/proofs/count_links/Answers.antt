@@ -1,6 +1,6 @@
-use Rattle.std.proofs.Common.{◌≡◌, ◌<◌, ◌+◌, ap, sym, ◌∙◌, subst, length, get_or, length-set, arith, List, ℕ}
-use Rattle.definition.specs.Sheet.{next, child, rows}
-use Rattle.links.proofs.LinkLaws.{Counted, more, counted_next, more_le, link_below, linked_le}
+use Rattle.std.proofs.Common.{length-set, arith}
+use Rattle.definition.specs.Sheet.{next, child}
+use Rattle.links.proofs.LinkLaws.{counted_next, more_le, link_below, linked_le}
 use Rattle.links.proofs.count_links.Goals as goal
 
 pub bounds-seen-next : goal.bounds-seen-next

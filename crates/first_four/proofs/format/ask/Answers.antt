@@ -1,4 +1,4 @@
-use Rattle.first_four.proofs.Asking.{links_no, rows_no, depths_are, rising}
+use Rattle.first_four.proofs.Asking.{links_no, rows_no, depths_are}
 use mathlib.Core.Bool.{true, false}
 use mathlib.Core.Path.{sym, ◌∙◌}
 use Rattle.first_four.proofs.format.ask.Goals as goal
@@ -7,13 +7,6 @@ pub returns-then-not-links_fit : goal.returns-then-not-links_fit
 returns-then-not-links_fit c =
     links_no _ _ _ _ c.requires.sheet_len.1 c.requires.sheet_len.2 c.requires.sheet_len.3 c.requires.seen_value.1 c.requires.seen_value.2
     (sym c.links_fit.ensures ∙ c.if-not-links_fit.true)
-
-pub rows_fit-requires : goal.rows_fit-requires
-rows_fit-requires c = (
-  rising _ _ _ _ c.requires.sheet_len.1 c.requires.sheet_len.2 c.requires.sheet_len.3 c.requires.seen_value.1 c.requires.seen_value.2
-      (sym c.links_fit.ensures ∙ c.if-not-links_fit.false),
-  c.requires.sheet_len.2,
-)
 
 pub returns-then-not-rows_fit : goal.returns-then-not-rows_fit
 returns-then-not-rows_fit c =

@@ -11,7 +11,7 @@ linked_once-requires c =
     let s = c.args.sheet.now in
     let rise : all (links_rise s) (from 0 (rows s)) ≡ true =
     elim c.if-main_marked.branch [
-      then-main_marked w ↦ sym w.links_rise.ensures ∙ sym w.value-is ∙ c.if-links_rise.true
-    | else-main_marked w ↦ cc (w.value-is, c.if-links_rise.true)
+      | then-main_marked w ↦ sym w.links_rise.ensures ∙ sym w.value-is ∙ c.if-links_rise.true
+      | else-main_marked w ↦ cc (w.value-is, c.if-links_rise.true)
     ] in
     (c.requires.0, omega (arith, zeros_long 2048 _ c.requires.1), rise, λ k l. zeros_at 2048 _ c.requires.1 k)
