@@ -7,12 +7,10 @@ use Prim.Native.Nat.{ℕ, ◌<◌}
 use native.Mathlib.Omega.{arith}
 use lib.ListN.{length, get_or, set, length-set}
 use lib.Seq.{get_or-set_same, get_or-set_other}
-use lib.Dec.{eqb}
 use borrow.Author.Tests.{eq-eqb, ne_eqb}
 use Rattle.definition.specs.Basics.{when◌then◌else◌}
-use Rattle.definition.specs.Sheet.{Sheet, kind, next, child, a}
 use Rattle.definition.proofs.Lists.Tests.{ℕ-trichotomy}
-use Rattle.classes.specs.Table.{kids_class, linked, row_done}
+use Rattle.classes.specs.Table.{linked}
 
 -- A link of 0 writes nothing.
 pub linked_none : (i x : ℕ) (t : List ℕ) → i ≡ 0 → linked i x t ≡ t

@@ -9,7 +9,7 @@ use lib.ListN.{length, get_or, set, length-set}
 use borrow.Author.Tests.{eq-eqb, ne_eqb, eqb-true, eqb-false, ltb-true, ltb-false, lt-ltb, le-ltb}
 use Rattle.definition.specs.Basics.{when◌then◌else◌}
 use Rattle.machine.specs.Machine.{one_more}
-use Rattle.std.specs.Prelude.{Result, Ok, Err, Some, None}
+use Rattle.std.specs.Prelude.{Ok, Err, Some, None}
 use Rattle.std.specs.Result.{IsErrAnd}
 use Rattle.climb.specs.declared.ClimbError.TheVariants.{Circle, NoRecord}
 use Rattle.climb.specs.declared.ClimbError.{ClimbError}

@@ -1,8 +1,7 @@
 -- The program's own: the units that a search has found, and what ranks must be to spare one.
 use Rattle.std.specs.Prelude.{◌≡◌, List, [], ◌∷◌, ◌++◌, ℕ, ◌<◌, ◌≤◌, T, length, get_or}
 use Rattle.definition.specs.Basics.{when◌then◌else◌, ◌∈?◌}
-use Rattle.definition.specs.Kind.{IMPORT}
-use Rattle.definition.specs.Sheet.{Sheet, a, is}
+use Rattle.definition.specs.Sheet.{Sheet}
 use Rattle.definition.proofs.Lists.Members.{Nodup}
 use Rattle.unit_order.specs.Order.{units, imports_of}
 use Rattle.start_units.specs.Starting.{marked}

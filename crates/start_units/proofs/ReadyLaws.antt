@@ -11,7 +11,7 @@ use lib.Seq.{get_or-set_same, get_or-set_other}
 use borrow.Author.Tests.{eq-eqb, ne_eqb, eqb-true, eqb-false}
 use Rattle.definition.specs.Basics.{when◌then◌else◌, filter, all, ◌∈?◌}
 use Rattle.definition.specs.Kind.{UNIT, IMPORT}
-use Rattle.definition.specs.Sheet.{Sheet, kind, next, child, a, rows, chain, is}
+use Rattle.definition.specs.Sheet.{Sheet, next, child, a, rows, chain, is}
 use Rattle.definition.proofs.Format.Passes.{chain_on}
 use Rattle.definition.proofs.Lists.Tests.{T_and, and_both, T_true, true_of}
 use Rattle.unit_order.specs.Order.{units, imports_of}

@@ -9,10 +9,10 @@ use native.Mathlib.Numerals.{add-one}
 use lib.Dec.{T, T_not, not_T, eqb, ltb}
 use lib.ListN.{length, get_or, set, take, replicate, length-set, length-append, length-replicate}
 use lib.Seq.{sets, get_or-set_same, get_or-set_other}
-use borrow.Author.Tests.{eq-eqb, ne_eqb, eqb-true, eqb-false, lt-ltb, le-ltb, ltb-true, ltb-false}
+use borrow.Author.Tests.{ne_eqb, eqb-true, eqb-false, lt-ltb, ltb-true, ltb-false}
 use Rattle.definition.specs.Basics.{when◌then◌else◌, filter, all, ◌∈?◌}
 use Rattle.definition.specs.Kind.{UNIT}
-use Rattle.definition.specs.Sheet.{Sheet, kind, next, rows, is}
+use Rattle.definition.specs.Sheet.{Sheet, next, rows, is}
 use Rattle.definition.proofs.Lists.Tests.{T_and, and_both, true_of, T_true, decide}
 use Rattle.machine.proofs.Words.{sets_more}
 use Rattle.unit_order.specs.Imports.{ready, started_after}

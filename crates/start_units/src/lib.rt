@@ -82,12 +82,7 @@ fn following(sheet: &[u32], u: u32) -> Option<u32>
 }
 
 // The lowest unit from row `start` on that is ready.
-fn lowest_ready(
-    sheet: &[u32],
-    start: Option<u32>,
-    marks: &[u32],
-    waits: &mut [u32],
-) -> Option<u32>
+fn lowest_ready(sheet: &[u32], start: Option<u32>, marks: &[u32], waits: &mut [u32]) -> Option<u32>
     requires { Importing sheet.now × Waits sheet.now marks.now waits.old }
     ensures { LowestFound sheet.now marks.now (or_past start) result × Waits sheet.now marks.now waits.new }
 {

@@ -1,10 +1,10 @@
 -- The nodes of rows one after another.
-use mathlib.Core.Path.{◌≡◌, sym, ap, ◌∙◌}
+use mathlib.Core.Path.{◌≡◌, ap, ◌∙◌}
 use mathlib.Core.List.{[], ◌∷◌}
 use Prim.Native.Nat.{ℕ, suc, ◌+◌}
 use native.Mathlib.Omega.{arith}
 use Rattle.definition.specs.Basics.{total, from}
-use Rattle.definition.specs.Sheet.{Sheet, kind, rows}
+use Rattle.definition.specs.Sheet.{Sheet, rows}
 use Rattle.definition.proofs.Lists.Members.{total_append}
 use Rattle.definition.proofs.Format.Passes.{from_suc}
 use Rattle.machine.specs.Space.{nodes_of, nodes_for}

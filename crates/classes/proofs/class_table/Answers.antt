@@ -1,6 +1,5 @@
 -- `classes::class_table` meets its contract. Invariant: the entries that rows below `r` determine are final. Assumes nothing.
 use Rattle.classes.proofs.Filling.{filled_none, next_turn, filled_all}
-use Rattle.machine.proofs.Theorems.{rows_few}
 use native.Mathlib.Omega.{arith}
 use mathlib.Core.Path.{refl}
 use Rattle.classes.proofs.class_table.Goals as goal

@@ -2,7 +2,7 @@
 use Rattle.classes.proofs.Filling.{Filled}
 use Rattle.definition.specs.Sheet.{rows}
 use lib.ListN.{length}
-use Prim.Native.Nat.{◌-◌, ◌≤◌}
+use Prim.Native.Nat.{◌≤◌}
 use mathlib.Core.Path.{◌≡◌}
 use Rattle.classes.proofs.class_table.Given as goal
 

@@ -1,7 +1,6 @@
-use mathlib.Core.Path.{◌≡◌, refl, sym, ap, ◌∙◌}
+use mathlib.Core.Path.{refl, ap, ◌∙◌}
 use Prim.Native.Nat.{◌+◌, ◌-◌}
 use native.Mathlib.Omega.{arith}
-use Rattle.std.specs.Prelude.{Ok}
 use Rattle.climb.specs.Process.{is_top}
 use Rattle.climb.proofs.StepLaws.{handed, all_start, all_over, all_next, all_end}
 use Rattle.climb.proofs.climb_all.Goals as goal

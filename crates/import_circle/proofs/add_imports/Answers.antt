@@ -1,9 +1,6 @@
-use mathlib.Core.List.{List, [], ◌∷◌}
-use mathlib.Core.Path.{refl, ap, subst, ◌∙◌}
-use Prim.Native.Nat.{ℕ}
+use mathlib.Core.Path.{refl, ap, ◌∙◌}
 use native.Mathlib.Omega.{arith}
 use Rattle.sheet.specs.Rest.{kind_left}
-use Rattle.import_circle.specs.Search.{added, Holds}
 use Rattle.import_circle.proofs.FoundLaws.{adding_start, adding_wide, adding_more, adding_end}
 use Rattle.import_circle.proofs.add_imports.Goals as goal
 

@@ -1,5 +1,5 @@
 use mathlib.Core.Path.{◌≡◌}
-use Prim.Native.Nat.{◌-◌, ◌≤◌}
+use Prim.Native.Nat.{◌≤◌}
 use Rattle.unit_order.specs.Order.{units, circles}
 use Rattle.definition.specs.Sheet.{rows as rows_of}
 use Rattle.definition.specs.Basics.{first}

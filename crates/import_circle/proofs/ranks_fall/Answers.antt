@@ -1,7 +1,5 @@
-use mathlib.Core.Path.{sym, subst}
 use Prim.Native.Nat.{◌≤◌}
 use native.Mathlib.Omega.{arith}
-use lib.Dec.{T}
 use Rattle.definition.specs.Sheet.{rows as rows_of}
 use Rattle.import_circle.proofs.RankLaws.{fallen_more, fallen_all}
 use Rattle.import_circle.proofs.ranks_fall.Goals as goal

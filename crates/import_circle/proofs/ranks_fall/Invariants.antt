@@ -1,4 +1,4 @@
-use Prim.Native.Nat.{◌-◌, ◌≤◌}
+use Prim.Native.Nat.{◌≤◌}
 use Rattle.definition.specs.Sheet.{rows as rows_of}
 use Rattle.import_circle.proofs.RankLaws.{Fallen}
 use Rattle.import_circle.proofs.ranks_fall.Given as goal

@@ -7,7 +7,7 @@ use Rattle.definition.specs.Kind.{UNIT}
 use Rattle.std.proofs.Common.{rules, ◌≡◌}
 use Rattle.std.specs.Option.{unwrap_or, is_none}
 use Rattle.start_units.proofs.ReadyLaws.{waiting_row, ready_by, waits_kept, not_unit, not_free, found_at}
-use Rattle.start_units.specs.Starting.{WaitsAt, WaitsFound, Waits}
+use Rattle.start_units.specs.Starting.{WaitsAt}
 use Rattle.start_units.proofs.is_ready.Goals as goal
 
 pub returns-then-not-is_kind : goal.returns-then-not-is_kind

@@ -1,5 +1,5 @@
 use mathlib.Core.Path.{◌≡◌}
-use Prim.Native.Nat.{◌-◌, ◌≤◌}
+use Prim.Native.Nat.{◌≤◌}
 use lib.ListN.{length}
 use Rattle.definition.specs.Sheet.{rows as rows_of}
 use Rattle.start_units.proofs.NoteLaws.{Noting}

@@ -3,7 +3,7 @@ use mathlib.Core.List.{map}
 use lib.ListN.{length}
 use Rattle.definition.specs.Sheet.{a}
 use Rattle.sheet.specs.Rest.{kind_left}
-use Rattle.start_units.specs.Starting.{noted, noted_unit}
+use Rattle.start_units.specs.Starting.{noted}
 use Rattle.start_units.proofs.note_unit.Given as goal
 
 abbrev pub invariant-loop-k : goal.invariant-loop-k

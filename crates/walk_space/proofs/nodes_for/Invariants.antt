@@ -1,5 +1,5 @@
 use mathlib.Core.Path.{◌≡◌}
-use Prim.Native.Nat.{◌-◌, ◌*◌, ◌≤◌}
+use Prim.Native.Nat.{◌*◌, ◌≤◌}
 use Rattle.definition.specs.Basics.{total, from}
 use Rattle.definition.specs.Sheet.{rows}
 use Rattle.machine.specs.Space.{nodes_of}
