@@ -2,7 +2,9 @@
 use Rattle.std.proofs.Common.{◌≡◌, ap, arith, ◌<◌, Result, Ok, Err}
 use Rattle.std.specs.Result.{IsErrAnd}
 use Rattle.ast.specs.declared.question.Question.{Question}
-use Rattle.ast.specs.declared.question.Question.TheVariants.{RowsFit, NamesFit, FormatFits, DepthFits, InLoop, Mutable, LetFree, Declared, NullDeclared, InstanceofClass, ParentClass, ConstructedRecord, MethodThere, MethodArity, Exported, NameFree, Known, NoCycle, ParentRecord, InitThere, InitArity, Room, Session, SessionRoom, EntryLeft, NoCircle}
+use Rattle.ast.specs.declared.question.Question.TheVariants.{RowsFit, NamesFit, FormatFits, DepthFits, InLoop, Mutable, LetFree, Declared, NullDeclared, InstanceofClass}
+use Rattle.ast.specs.declared.question.Question.TheVariants.{ParentClass, ConstructedRecord, MethodThere, MethodArity, Exported, NameFree, Known, NoCycle, ParentRecord, InitThere}
+use Rattle.ast.specs.declared.question.Question.TheVariants.{InitArity, Room, Session, SessionRoom, EntryLeft, NoCircle}
 use Rattle.ast.specs.Question.{question_number, no_of}
 
 pub question_some : (q : Question) → 0 < question_number q

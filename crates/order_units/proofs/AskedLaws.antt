@@ -13,7 +13,7 @@ use lib.Seq.{sets, sets-eq, length-sets}
 use borrow.Author.Tests.{eq-eqb, ne_eqb, leb-true, leb-false}
 use Rattle.definition.specs.Basics.{when◌then◌else◌, any, first, head, ◌∈?◌}
 use Rattle.definition.specs.Kind.{UNIT}
-use Rattle.definition.specs.Sheet.{Sheet, kind, file, rows, is}
+use Rattle.definition.specs.Sheet.{Sheet, file, rows, is}
 use Rattle.definition.specs.Names.{names_fit, name_count}
 use Rattle.definition.specs.Format.{sheet_fits, depths_fit}
 use Rattle.definition.specs.Outcome.{Outcome, refused, refused_at, rows_fit}

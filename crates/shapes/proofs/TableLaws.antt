@@ -11,7 +11,11 @@ use Rattle.definition.proofs.Lists.Counts.{all_below}
 use lib.ListN.{length, get_or, get_or-eq_default}
 use Rattle.definition.specs.Basics.{all, from, any}
 use Rattle.ast.specs.declared.kind.Kind.{Kind}
-use Rattle.ast.specs.declared.kind.Kind.TheVariants.{Header, Unit as UnitKind, Import, Class, Function, FunctionExport, ConstantExport, Listed, Field, Parameter, ExpressionStatement, Assign, Return, Break, Continue, Block, If, For, Assert, Let, ClassDeclaration, Nil, True as TrueKind, False as FalseKind, Integer, Float, String, Bytes, Array, Dict, Pair, Identifier, HostConstant, Literal, Index, Member, Instanceof, Unary, Binary, Ternary, Call}
+use Rattle.ast.specs.declared.kind.Kind.TheVariants.{Header, Unit as UnitKind, Import, Class, Function, FunctionExport, ConstantExport, Listed, Field, Parameter}
+use Rattle.ast.specs.declared.kind.Kind.TheVariants.{ExpressionStatement, Assign, Return, Break, Continue, Block, If, For, Assert, Let}
+use Rattle.ast.specs.declared.kind.Kind.TheVariants.{ClassDeclaration, Nil, True as TrueKind, False as FalseKind, Integer, Float, String, Bytes, Array, Dict}
+use Rattle.ast.specs.declared.kind.Kind.TheVariants.{Pair, Identifier, HostConstant, Literal, Index, Member, Instanceof, Unary, Binary, Ternary}
+use Rattle.ast.specs.declared.kind.Kind.TheVariants.{Call}
 use Rattle.ast.specs.Kind.{kind_number}
 use Rattle.shapes.specs.States.{entry_of, kind_table, state_table}
 use Rattle.shapes.proofs.Matching.{Outside, none_of}

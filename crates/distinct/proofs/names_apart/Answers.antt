@@ -16,14 +16,17 @@ loop-c-preserved c =
 pub returns-then-not-child_apart-clause-value : goal.returns-then-not-child_apart-clause-value
 returns-then-not-child_apart-clause-value c =
     list_refused _ _ _ _ c.in-Some.ensures.steps c.child_apart.ensures.value c.if-not-child_apart.true
-    (c.loop-c.invariant.value ∙ ap (unmarked c.args.sheet.now (kind_number c.args.kind) c.args.mark c.args.marks.now) (ap rows_left c.into_iter-c-iterator.ensures.into_iter_gives ∙ c.kids-c-items.ensures))
+    (c.loop-c.invariant.value ∙ ap (unmarked c.args.sheet.now (kind_number c.args.kind) c.args.mark c.args.marks.now)
+    (ap rows_left c.into_iter-c-iterator.ensures.into_iter_gives ∙ c.kids-c-items.ensures))
 
 pub returns-clause-value : goal.returns-clause-value
 returns-clause-value c =
     sym (list_done _ _ _ _ c.in-None.ensures.steps.0)
-    ∙ c.loop-c.invariant.value ∙ ap (unmarked c.args.sheet.now (kind_number c.args.kind) c.args.mark c.args.marks.now) (ap rows_left c.into_iter-c-iterator.ensures.into_iter_gives ∙ c.kids-c-items.ensures)
+    ∙ c.loop-c.invariant.value ∙ ap (unmarked c.args.sheet.now (kind_number c.args.kind) c.args.mark c.args.marks.now)
+    (ap rows_left c.into_iter-c-iterator.ensures.into_iter_gives ∙ c.kids-c-items.ensures)
 
 pub returns-clause-marks_after : goal.returns-clause-marks_after
 returns-clause-marks_after c =
     λ e. sym (marks_done _ _ _ _ c.in-None.ensures.steps.0)
-    ∙ c.loop-c.invariant.after ∙ ap (marked c.args.sheet.now (kind_number c.args.kind) c.args.mark c.args.marks.now) (ap rows_left c.into_iter-c-iterator.ensures.into_iter_gives ∙ c.kids-c-items.ensures)
+    ∙ c.loop-c.invariant.after ∙ ap (marked c.args.sheet.now (kind_number c.args.kind) c.args.mark c.args.marks.now)
+    (ap rows_left c.into_iter-c-iterator.ensures.into_iter_gives ∙ c.kids-c-items.ensures)

@@ -15,7 +15,8 @@ add-n-requires c = (
     c.word.ensures,
     c.loop-k.invariant.1,
     c.requires.2,
-    adding_wide c.args.sheet.now c.args.u c.args.marks.now c.args.queue.now c.args.count c.loop-k.marks c.loop-k.queue c.loop-k.n c.loop-k.invariant.0 c.in-Some.ensures.steps c.requires.0 c.requires.1,
+    adding_wide c.args.sheet.now c.args.u c.args.marks.now c.args.queue.now c.args.count c.loop-k.marks c.loop-k.queue c.loop-k.n c.loop-k.invariant.0
+        c.in-Some.ensures.steps c.requires.0 c.requires.1,
   ),
   omega (arith, c.loop-k.invariant.1, c.requires.3),
 )

@@ -1,4 +1,4 @@
-use Prim.Native.Nat.{◌-◌, ◌≤◌}
+use Prim.Native.Nat.{◌≤◌}
 use Rattle.definition.specs.Sheet.{rows as rows_of}
 use Rattle.order_units.proofs.AskedLaws.{AllMarked}
 use Rattle.order_units.proofs.some_left.Given as goal
