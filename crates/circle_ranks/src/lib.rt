@@ -86,6 +86,7 @@ impl Search<'_> {
 
     // Gives the last rank to the units that wait for one, from the last back to unit `u`.
     fn give_rank(&mut self, u: u32) {
+        // From the end, and no further than `u`: what is left waits on.
         while 0 < self.waiting {
             let last = self.waiting - 1;
             let rank = self.rank;

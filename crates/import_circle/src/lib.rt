@@ -20,6 +20,8 @@ use circle_ranks::rank_circles;
 use sheet::kids_of;
 use words::{entry_at, is_kind, put_entry, word};
 
+// Marks, queue and count stay parameters: as a struct they would need a view of their own in every fact about what is found.
+//
 // Adds unit `v` to those found, if it is not among them. `count` units are found; they have marks, and stand first in the queue.
 fn add(v: u32, count: u32, marks: &mut [u32], queue: &mut [u32]) -> u32
     requires { (v < length marks.old) × (length marks.old ≤ 2048) }
@@ -55,6 +57,7 @@ fn comes_back(sheet: &[u32], u: u32, marks: &mut [u32], queue: &mut [u32]) -> bo
 {
     let mut count = add_imports(sheet, u, 0, marks, queue);
     let mut passed: u32 = 0;
+    // The queue grows while it is passed through, so its end is no range's.
     while passed < count {
         if entry_at(marks, u) != 0 {
             return true;

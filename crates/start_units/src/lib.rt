@@ -86,6 +86,7 @@ fn lowest_ready(sheet: &[u32], start: Option<u32>, marks: &[u32], waits: &mut [u
     requires { Importing sheet.now × Waits sheet.now marks.now waits.old }
     ensures { LowestFound sheet.now marks.now (or_past start) result × Waits sheet.now marks.now waits.new }
 {
+    // After a unit comes the next one, wherever it lies: these rows are no range.
     let mut at = start;
     while let Some(u) = at {
         if sheet.len() / 8 <= u as usize {
