@@ -1,5 +1,5 @@
 -- The questions and their numbers.
-use Rattle.std.specs.Prelude.{ℕ}
+use Rattle.std.specs.Prelude.{ℕ, Result, Ok, Err}
 use Rattle.ast.specs.declared.question.Question.{Question}
 use Rattle.ast.specs.declared.question.Question.TheVariants.{RowsFit, NamesFit, FormatFits, DepthFits, InLoop, Mutable, LetFree, Declared, NullDeclared, InstanceofClass, ParentClass, ConstructedRecord, MethodThere, MethodArity, Exported, NameFree, Known, NoCycle, ParentRecord, InitThere, InitArity, Room, Session, SessionRoom, EntryLeft, NoCircle}
 
@@ -31,3 +31,8 @@ question_number Session = 23
 question_number SessionRoom = 24
 question_number EntryLeft = 25
 question_number NoCircle = 29
+
+-- the number of the question that got a no, or 0 if none did
+abbrev pub no_of : Result (Unit {0}) Question → ℕ
+no_of (Ok x) = 0
+no_of (Err q) = question_number q
