@@ -19,7 +19,6 @@ use Rattle.text.specs.Lines.{line_of as text_line}
 use Rattle.text.specs.Writing.{row_at, rows_in}
 use Rattle.text.proofs.Lists.{map_at, from_length, concat_map_lem, parts_joined, pieces_length}
 use Rattle.text.proofs.Laws.{line_length, rows_of_joined}
-use Rattle.lexer.specs.SrcPos.{file_of, line_of, column_of}
 use Rattle.answer.specs.declared.Answer.{Answer}
 use Rattle.answer.specs.Tells.{Tells}
 use Rattle.report.specs.Report.{report_line, told_by, fitted, Begins, reply, answer_text, Printed}
