@@ -1,6 +1,6 @@
 // The questions, by what gets a yes.
 ghost use Rattle.std.specs.Prelude.{◌≡◌};
-ghost use Rattle.ast.specs.Question.{question_number};
+ghost use Rattle.ast.specs.Question.{no_of, question_number};
 
 #[derive(Clone, Copy, Debug, PartialEq, Eq)]
 pub enum Question {
@@ -59,6 +59,16 @@ impl Question {
         ensures { result ≡ question_number self }
     {
         self as u32
+    }
+}
+
+// The number of the question that got a no, or 0 if none did.
+pub fn no_number(asked: Result<(), Question>) -> u32
+    ensures { result ≡ no_of asked }
+{
+    match asked {
+        Ok(()) => 0,
+        Err(no) => no.number(),
     }
 }
 

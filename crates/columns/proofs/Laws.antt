@@ -1,11 +1,11 @@
 -- Each way undoes the other, and so what both routines promise. Assumes nothing.
-use mathlib.Core.Bool.{Bool, true, false, not, ◌&&◌, true≢false}
-use mathlib.Core.Path.{◌≡◌, refl, sym, ap, ◌∙◌}
+use mathlib.Core.Bool.{Bool, true, false, not, ◌&&◌}
+use mathlib.Core.Path.{◌≡◌, refl, sym, ap, subst, ◌∙◌}
 use mathlib.Core.List.{List, ◌++◌, append-nil}
 use Prim.Native.Nat.{ℕ, ◌+◌, ◌-◌, ◌*◌, ◌/◌, ◌%◌, ◌^◌, ◌<◌, ◌≤◌}
 use native.Mathlib.Nat.{mul_comm}
 use native.Mathlib.Omega.{arith}
-use lib.ListN.{length, get_or, take, replicate}
+use lib.ListN.{length, get_or, set, take, drop, replicate}
 use lib.Seq.{take_at}
 use lib.Dec.{eqb, leb, ltb, eqb→eq, leb→le}
 use borrow.Author.Tests.{ltb-false, le-ltb, eq-eqb, ne_eqb}
@@ -13,8 +13,12 @@ use Rattle.definition.specs.Basics.{when◌then◌else◌}
 use Rattle.definition.specs.Sheet.{word, rows}
 use Rattle.definition.specs.Outcome.{rows_fit}
 use Rattle.definition.proofs.Lists.Tests.{T_true, T_and}
-use Rattle.columns.specs.Columns.{is_link, stored, restored, table, to_columns, from_columns, way, first_no, target_after, Rearranged}
+use Rattle.columns.specs.Columns.{is_link, stored, restored, table, to_columns, from_columns, first_no, target_after, Rearranged}
+use Rattle.columns.specs.declared.Way.{Way}
+use Rattle.columns.specs.declared.Way.TheVariants.{ToColumns, ToRows}
+use Rattle.columns.specs.Ways.{opposite, height, width, word_of, way_of}
 use Rattle.columns.proofs.TableLaws.{table_length, table_read, table_of}
+use Rattle.columns.proofs.WriteLaws.{copied, row_begun, place_written, row_written_lem, table_written}
 
 -- a row's number taken off a link and added again modulo 2^32, and the other way round
 less_more : (r w : ℕ) → r ≤ 2 ^ 32 → w < 2 ^ 32 → ((w + 2 ^ 32 - r) % 2 ^ 32 + r) % 2 ^ 32 ≡ w
@@ -153,32 +157,53 @@ rearranged f g s lent t ok long undone e = record { answer = sym ok; target = e 
         after_passing g u (length s) again
         ∙ ap (λ (k : ℕ). g u ++ replicate k 0) none ∙ append-nil (g u) ∙ ap g same ∙ undone
 
--- the two ways as one, by `back`
-pub way_there : (back : Bool) (s : List ℕ) → back ≡ false → to_columns s ≡ way back s
-unfolding way
-way_there false s e = refl
-way_there true s e = absurd (true≢false e)
+-- the two ways as one
+pub way_table : (w : Way) (s : List ℕ) → way_of w s ≡ table (height w (rows s)) (width w (rows s)) (word_of w s)
+unfolding to_columns from_columns
+way_table ToColumns s = refl
+way_table ToRows s = refl
 
-pub way_back : (back : Bool) (s : List ℕ) → back ≡ true → from_columns s ≡ way back s
-unfolding way
-way_back true s e = refl
-way_back false s e = absurd (true≢false (sym e))
+size_table : (w : Way) (n : ℕ) → height w n * width w n ≡ 8 * n
+size_table ToColumns n = refl
+size_table ToRows n = mul_comm n 8
 
-pub way_length : (back : Bool) (s : List ℕ) → 8 * rows s ≡ length s → length (way back s) ≡ length s
-unfolding way
-way_length true s e = from_length s e
-way_length false s e = to_length s e
+pub way_length : (w : Way) (s : List ℕ) → 8 * rows s ≡ length s → length (way_of w s) ≡ length s
+way_length ToColumns s e = to_length s e
+way_length ToRows s e = from_length s e
 
-pub way_undone : (back : Bool) (s : List ℕ) → 8 * rows s ≡ length s → rows s ≤ 2 ^ 32 → ((i : ℕ) → get_or s i 0 < 2 ^ 32) → way (not back) (way back s) ≡ s
-unfolding way
-way_undone true s whole few words = to_from s whole few words
-way_undone false s whole few words = from_to s whole few words
+pub way_undone : (w : Way) (s : List ℕ) → 8 * rows s ≡ length s → rows s ≤ 2 ^ 32 → ((i : ℕ) → get_or s i 0 < 2 ^ 32) → way_of (opposite w) (way_of w s) ≡ s
+way_undone ToColumns s whole few words = from_to s whole few words
+way_undone ToRows s whole few words = to_from s whole few words
 
-module _ (s : List ℕ) (lent n : ℕ) (t : List ℕ) where
-  pub told_there : Rearranged (way false) (way true) s lent n t → Rearranged to_columns from_columns s lent n t
-  unfolding way target_after
-  told_there h = record { answer = h.answer; target = h.target; back = h.back }
+-- a table of m lines of n that is written over d, word by word
+module _ (w : Way) (s : List ℕ) (m n : ℕ) (a : m ≡ height w (rows s)) (b : n ≡ width w (rows s)) (d : List ℕ) (fits : 8 * rows s ≤ length d) where
+  size : m * n ≡ 8 * rows s
+  size = ap (λ (k : ℕ). k * n) a ∙ ap (λ (k : ℕ). height w (rows s) * k) b ∙ size_table w (rows s)
 
-  pub told_back : Rearranged (way true) (way false) s lent n t → Rearranged from_columns to_columns s lent n t
-  unfolding way target_after
-  told_back h = record { answer = h.answer; target = h.target; back = h.back }
+  room : m * n ≤ length d
+  room = omega (arith, size)
+
+  table_is : table m n (word_of w s) ≡ way_of w s
+  table_is =
+      ap (λ (k : ℕ). table k n (word_of w s)) a ∙ ap (λ (k : ℕ). table (height w (rows s)) k (word_of w s)) b ∙ sym (way_table w s)
+
+  pub line_begun : (i : ℕ) (u : List ℕ) → i < m → u ≡ copied (i * n) (way_of w s) d → u ≡ copied (i * n + 0) (way_of w s) u
+  line_begun i u h =
+      subst (λ (v : List ℕ). u ≡ copied (i * n) v d → u ≡ copied (i * n + 0) v u) table_is (row_begun m n (word_of w s) d room i u h)
+
+  pub word_written : (i j x : ℕ) (t : List ℕ) → i < m → j < n → t ≡ copied (i * n + j) (way_of w s) d → x ≡ word_of w s i j
+      → set t (i * n + j) x ≡ copied (i * n + (j + 1)) (way_of w s) d
+  word_written i j x t h l e v =
+      subst (λ (u : List ℕ). t ≡ copied (i * n + j) u d → set t (i * n + j) x ≡ copied (i * n + (j + 1)) u d) table_is
+      (λ q. place_written m n (word_of w s) d room i j (i * n + j) x t h l refl q v) e
+
+  pub line_written : (i j : ℕ) (t u : List ℕ) → i < m → n ≤ j → j ≤ n → u ≡ copied (i * n) (way_of w s) d → t ≡ copied (i * n + j) (way_of w s) u
+      → t ≡ copied ((i + 1) * n) (way_of w s) d
+  line_written i j t u h g l =
+      subst (λ (v : List ℕ). u ≡ copied (i * n) v d → t ≡ copied (i * n + j) v u → t ≡ copied ((i + 1) * n) v d) table_is
+      (row_written_lem m n (word_of w s) d room i j t u h g l)
+
+  pub all_written : (i : ℕ) (t : List ℕ) → m ≤ i → i ≤ m → t ≡ copied (i * n) (way_of w s) d → t ≡ way_of w s ++ drop (8 * rows s) d
+  all_written i t g l e =
+      subst (λ (v : List ℕ). t ≡ copied (i * n) v d → t ≡ v ++ drop (m * n) d) table_is (table_written m n (word_of w s) d room i t g l) e
+      ∙ ap (λ (k : ℕ). way_of w s ++ drop k d) size

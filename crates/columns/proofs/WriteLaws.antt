@@ -2,7 +2,7 @@
 use mathlib.Core.Path.{◌≡◌, refl, sym, ap, ◌∙◌}
 use mathlib.Core.List.{List, [], ◌∷◌, ◌++◌, append-nil}
 use Prim.Native.Nat.{ℕ, zero, suc, ◌+◌, ◌-◌, ◌*◌, ◌<◌, ◌≤◌}
-use native.Mathlib.Nat.{le_of_suc-le-suc, zero-mul, suc-mul, mul-le-mul_right}
+use native.Mathlib.Nat.{le_of_suc-le-suc, suc-mul, mul-le-mul_right}
 use native.Mathlib.Numerals.{add-one}
 use native.Mathlib.Omega.{arith}
 use lib.ListN.{length, get_or, set, take, drop, replicate, length-drop, drop_of_length-le}
@@ -33,10 +33,6 @@ copied_over (suc n) (suc k) (x ∷ f) (y ∷ d) h l g =
     ap (λ (t : List ℕ). x ∷ t) (copied_over n k f d (le_of_suc-le-suc h) (le_of_suc-le-suc l) (le_of_suc-le-suc g))
 
 module _ (m n : ℕ) (f : ℕ → ℕ → ℕ) (d : List ℕ) (room : m * n ≤ length d) where
-  -- before row 0
-  pub none_written : d ≡ copied (0 * n) (table m n f) d
-  none_written = ap (λ (k : ℕ). copied k (table m n f) d) (sym (zero-mul n))
-
   -- before the first word of row i, where the rows before it are written
   pub row_begun : (i : ℕ) (u : List ℕ) → i < m → u ≡ copied (i * n) (table m n f) d → u ≡ copied (i * n + 0) (table m n f) u
   row_begun i u h e =

@@ -28,10 +28,6 @@ to_columns s = table 8 (rows s) (λ c r. stored c r (word s r c))
 unfoldable pub from_columns : List ℕ → List ℕ
 from_columns s = table (rows s) 8 (λ r c. restored c r (get_or s (c * rows s + r) 0))
 
--- by column, or back
-unfoldable pub way : Bool → List ℕ → List ℕ
-way back s = when back then from_columns s else to_columns s
-
 -- the first question that gets a no for a source s and a target of `lent` words, or 0
 unfoldable pub first_no : List ℕ → ℕ → ℕ
 first_no s lent = when not (rows_fit s) then 1 else when ltb lent (length s) then 22 else 0

@@ -7,7 +7,6 @@ use native.Mathlib.Omega.{arith}
 use lib.ListN.{length, take, drop, length-drop}
 use lib.Dec.{T, eqb, ltb, eqb→eq}
 use lib.Seq.{take_at, drop_at, length-take-le}
-use borrow.Author.Tests.{eq-eqb, ne_eqb}
 use borrow.Rule.Slice.PartMut.{put_mid}
 use Rattle.definition.specs.Basics.{when◌then◌else◌, concat_map}
 use Rattle.definition.specs.Text.{sheet_of, text_of}
@@ -21,34 +20,27 @@ use Rattle.answer.specs.declared.Answer.{Answer}
 use Rattle.answer.specs.Tells.{Tells}
 use Rattle.report.specs.Report.{Begins, reply, Printed}
 use Rattle.report.proofs.Laws.{rows_eights, rows_number, rows_joined, report_printed}
-use Rattle.columns.specs.Columns.{way, first_no, target_after, Rearranged}
+use Rattle.columns.specs.Columns.{first_no, target_after, Rearranged}
+use Rattle.columns.specs.Ways.{way_of, opposite}
+use Rattle.columns.specs.declared.Way.{Way}
 use Rattle.columns_text.specs.Reply.{rearranged, told_by, printed_columns, RepliedOfText}
 
 -- the outcome of a target w and the first question q that got a no, or 0
 abbrev outcome_of : ℕ → List ℕ → Bool → Outcome
 outcome_of q w t = when t then record { number = 0; file = 0; line = 0; column = 0; name = 0; rows = rows_in w; globals = 0 } else refused q
 
-rearranged_is : (back : Bool) (lent : ℕ) (s w : List ℕ) (q : ℕ) → q ≡ first_no s (8 * lent) → w ≡ target_after (way back) s (8 * lent)
-    → rearranged back lent s ≡ outcome_of q w (eqb q 0)
+rearranged_is : (way : Way) (lent : ℕ) (s w : List ℕ) (q : ℕ) → q ≡ first_no s (8 * lent) → w ≡ target_after (way_of way) s (8 * lent)
+    → rearranged way lent s ≡ outcome_of q w (eqb q 0)
 unfolding rearranged
-rearranged_is back lent s w q e f = rw (e, f)
+rearranged_is way lent s w q e f = rw (e, f)
 
 -- rows that question 1 refuses
 first_is : (s : List ℕ) (lent : ℕ) → rows_fit s ≡ false → first_no s lent ≡ 1
 unfolding first_no
 first_is s lent e = ap (λ (t : Bool). when not t then 1 else when ltb lent (length s) then 22 else 0) e
 
-pub refused_first : (back : Bool) (lent : ℕ) (s : List ℕ) → rows_fit s ≡ false → rearranged back lent s ≡ refused 1
-refused_first back lent s e = rearranged_is back lent s (target_after (way back) s (8 * lent)) 1 (sym (first_is s (8 * lent) e)) refl
-
--- the answer, by whether a question got a no
-pub told_all : (q lent : ℕ) → q ≡ 0 → record { number = q; pos = record { 0 = 0 }; name = 0; rows = lent; globals = 0 } ≡ told_by q lent
-unfolding told_by
-told_all q lent e = ap (λ (t : Bool). record { number = q; pos = record { 0 = 0 }; name = 0; rows = when t then lent else 0; globals = 0 }) (sym (eq-eqb q 0 e))
-
-pub told_none : (q lent : ℕ) → (q ≡ 0 → ⊥) → record { number = q; pos = record { 0 = 0 }; name = 0; rows = 0; globals = 0 } ≡ told_by q lent
-unfolding told_by
-told_none q lent e = ap (λ (t : Bool). record { number = q; pos = record { 0 = 0 }; name = 0; rows = when t then lent else 0; globals = 0 }) (sym (ne_eqb q 0 e))
+pub refused_first : (way : Way) (lent : ℕ) (s : List ℕ) → rows_fit s ≡ false → rearranged way lent s ≡ refused 1
+refused_first way lent s e = rearranged_is way lent s (target_after (way_of way) s (8 * lent)) 1 (sym (first_is s (8 * lent) e)) refl
 
 -- the answer of an outcome with a target of 8 × lent words
 module _ (q lent : ℕ) (w : List ℕ) (size : length w ≡ 8 * lent) where
@@ -91,10 +83,10 @@ module _ (q lent : ℕ) (w : List ℕ) (size : length w ≡ 8 * lent) where
   rows_of rest n false e = ap (λ (k : ℕ). take (8 * k) (w ++ rest)) e
 
 -- A text of which k lines were read into `words` and rearranged into m words, lent after room for the first line.
-module _ (back : Bool) (lent : ℕ) (sheet rep out : List ℕ) (k : ℕ) (words : List ℕ) (m q : ℕ) (x : Answer) (low : lent ≤ 2048)
+module _ (way : Way) (lent : ℕ) (sheet rep out : List ℕ) (k : ℕ) (words : List ℕ) (m q : ℕ) (x : Answer) (low : lent ≤ 2048)
     (size : length rep ≡ 16392) (e : m ≡ 8 * lent) (read : SheetRead sheet 16384 k words)
     (kept : length out ≡ length (take m (drop 8 rep)))
-    (done : Rearranged (way back) (way (not back)) (take (8 * k) words) (length (take m (drop 8 rep))) q out) (told : x ≡ told_by q lent) where
+    (done : Rearranged (way_of way) (way_of (opposite way)) (take (8 * k) words) (length (take m (drop 8 rep))) q out) (told : x ≡ told_by q lent) where
   words_lent : length (take m (drop 8 rep)) ≡ 8 * lent
   words_lent = length-take-le m (drop 8 rep) (omega (arith, length-drop 8 rep)) ∙ e
 
@@ -104,12 +96,12 @@ module _ (back : Bool) (lent : ℕ) (sheet rep out : List ℕ) (k : ℕ) (words 
   abbrev found : Outcome
   found = outcome_of q out (eqb q 0)
 
-  found_is : rearranged back lent (sheet_of sheet) ≡ found
+  found_is : rearranged way lent (sheet_of sheet) ≡ found
   found_is =
-      sym (same_read (rearranged back lent) (refused 1) (refused_first back lent) sheet k words read)
-      ∙ rearranged_is back lent (take (8 * k) words) out q
+      sym (same_read (rearranged way lent) (refused 1) (refused_first way lent) sheet k words read)
+      ∙ rearranged_is way lent (take (8 * k) words) out q
       (done.answer ∙ ap (first_no (take (8 * k) words)) words_lent)
-      (done.target ∙ ap (target_after (way back) (take (8 * k) words)) words_lent)
+      (done.target ∙ ap (target_after (way_of way) (take (8 * k) words)) words_lent)
 
   tells : Tells found x
   tells = subst (Tells found) (sym told) (tells_of q lent out out_size (eqb q 0) refl)
@@ -125,18 +117,18 @@ module _ (back : Bool) (lent : ℕ) (sheet rep out : List ℕ) (k : ℕ) (words 
 
   -- what is printed of the answer is the report
   pub printed_columns_lem : (before : List ℕ) (n : ℕ) (filled after : List ℕ) → Printed x (put_mid 8 m rep out) before n filled after
-      → Begins (printed_columns back lent sheet) before n after
+      → Begins (printed_columns way lent sheet) before n after
   printed_columns_lem before n filled after h =
       subst (λ (o : Outcome). Begins (text_of (report o)) before n after) (sym found_is)
       (report_printed found x (put_mid 8 m rep out) tells (good_of q lent out out_size (eqb q 0))
       (omega (arith, few_of q lent out out_size (eqb q 0))) rows_there before n filled after h)
 
 -- The reply to the bytes read of a text is the reply to the text.
-pub replied_text : {back : Bool} {lent : ℕ} {sheet before : List ℕ} {n : ℕ} {after : List ℕ}
-    → Begins (reply lent (length before) (printed_columns back lent sheet)) before n after → RepliedOfText back lent sheet before n after
-replied_text {back} {lent} {sheet} {before} {n} {after} h = record {
+pub replied_text : {way : Way} {lent : ℕ} {sheet before : List ℕ} {n : ℕ} {after : List ℕ}
+    → Begins (reply lent (length before) (printed_columns way lent sheet)) before n after → RepliedOfText way lent sheet before n after
+replied_text {way} {lent} {sheet} {before} {n} {after} h = record {
   of_read = h;
   of_text = λ t e.
       subst (λ (o : Outcome). Begins (reply lent (length before) (text_of (report o))) before n after)
-      (ap (λ (u : List ℕ). rearranged back lent (sheet_of u)) e ∙ same_cut (rearranged back lent) (refused 1) (refused_first back lent) t) h;
+      (ap (λ (u : List ℕ). rearranged way lent (sheet_of u)) e ∙ same_cut (rearranged way lent) (refused 1) (refused_first way lent) t) h;
 }

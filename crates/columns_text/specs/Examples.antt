@@ -1,7 +1,9 @@
 -- Replies, computed.
-use Rattle.std.specs.Prelude.{◌≡◌, refl, Bool, true, false, List, [], ◌∷◌, ◌++◌, map, ℕ, replicate}
+use Rattle.std.specs.Prelude.{◌≡◌, refl, List, [], ◌∷◌, ◌++◌, map, ℕ, replicate}
 use Rattle.definition.specs.Text.{text_of}
-use Rattle.columns.specs.Columns.{is_link, stored, restored, table, to_columns, from_columns, way, first_no, target_after}
+use Rattle.columns.specs.Columns.{is_link, stored, restored, table, to_columns, from_columns, first_no, target_after}
+use Rattle.columns.specs.declared.Way.{Way}
+use Rattle.columns.specs.declared.Way.TheVariants.{ToColumns, ToRows}
 use Rattle.report.specs.Report.{reply}
 use Rattle.columns_text.specs.Reply.{rearranged, printed_columns}
 
@@ -21,16 +23,16 @@ abbrev no : ℕ → List ℕ
 no q = text_of ((q ∷ replicate 7 0) ∷ [])
 
 -- the reply to a sheet's text into `room` bytes, with n rows lent
-abbrev to : Bool → List ℕ → ℕ → ℕ → List ℕ
-to back text n room = reply n room (printed_columns back n text)
+abbrev to : Way → List ℕ → ℕ → ℕ → List ℕ
+to way text n room = reply n room (printed_columns way n text)
 
 -- as many rows lent as there are, one more, one too few; and back
-both_ways : map (λ n. to false (text_of sheet) n 165969) (2 ∷ 3 ∷ 1 ∷ []) ++ to true (text_of by_column) 2 165969 ∷ []
+both_ways : map (λ n. to ToColumns (text_of sheet) n 165969) (2 ∷ 3 ∷ 1 ∷ []) ++ to ToRows (text_of by_column) 2 165969 ∷ []
     ≡ answer 2 by_column ∷ answer 3 (by_column ++ replicate 8 0 ∷ []) ∷ no 22 ∷ answer 2 sheet ∷ []
-unfolding is_link stored restored table to_columns from_columns first_no target_after way rearranged reply
+unfolding is_link stored restored table to_columns from_columns first_no target_after rearranged reply
 both_ways = refl
 
 -- no text, with no row lent; over 2,048 rows lent, or too few bytes: no reply
-others : to false [] 0 165969 ∷ to true (text_of sheet) 2049 165969 ∷ to true (text_of sheet) 2048 165968 ∷ [] ≡ no 1 ∷ [] ∷ [] ∷ []
+others : to ToColumns [] 0 165969 ∷ to ToRows (text_of sheet) 2049 165969 ∷ to ToRows (text_of sheet) 2048 165968 ∷ [] ≡ no 1 ∷ [] ∷ [] ∷ []
 unfolding first_no rearranged reply
 others = refl

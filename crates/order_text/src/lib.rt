@@ -17,10 +17,8 @@ fn write_units(list: &[u32], report: &mut [u32])
     requires { (8 * (length list.now + 1) ≤ length report.old) × (report.old ≡ replicate (length report.old) 0) }
     ensures { report.new ≡ concat_map unit_row (0 ∷ list.now) ++ replicate (length report.old - 8 * (length list.now + 1)) 0 }
 {
-    let mut i: usize = 0;
-    while i < list.len() {
-        report[8 * i + 8] = list[i];
-        i += 1;
+    for (i, &row) in list.iter().enumerate() {
+        report[8 * i + 8] = row;
     }
 }
 
@@ -42,16 +40,13 @@ fn print_order(
     print_answer(x, report, text)
 }
 
-// Writes the order of the units of a sheet's text, a row for each unit, with so many words lent for the list. Returns the number of bytes, or 0
-// where more than 2,048 words are lent or the lent text is shorter than the longest report. Of a text that is too long to be accepted one byte
-// more than the longest accepted has is enough.
+// Writes the order of the units of a sheet's text, a row for each unit, with so many words lent for the list. Returns the number of bytes:
+// none where more than 2,048 words are lent or the lent text is shorter than the longest report. Of a text that is too long to be accepted one
+// byte more than the longest accepted has is enough.
 pub fn order_lent(sheet: &[u8], names: &[u8], lent: usize, text: &mut [u8]) -> usize
     ensures { RepliedOfOrder lent sheet.now names.now text.old result text.new }
 {
-    if lent > limit::LENT_ROWS as usize {
-        return 0;
-    }
-    if text.len() < report::LONGEST {
+    if lent > limit::LENT_ROWS as usize || text.len() < report::LONGEST {
         return 0;
     }
     let mut words = [0u32; 16384];

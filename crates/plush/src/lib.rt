@@ -1,7 +1,8 @@
 // The library to link: what C, or Rust through `bindings/rust`, calls. `include/plush.h` declares it.
 #![tactic(auto)]
 
-ghost use Rattle.std.specs.Prelude.{not, eqb, length};
+ghost use Rattle.std.specs.Prelude.{◌≡◌, not, eqb, length};
+ghost use Rattle.ast.specs.Question.{no_of};
 ghost use Rattle.columns.specs.Columns.{to_columns, from_columns, Rearranged};
 ghost use Rattle.fresh_session.specs.Fresh.{Fresh};
 ghost use Rattle.plush.specs.Found.{NameFound};
@@ -12,7 +13,8 @@ ghost use Rattle.plush.specs.SessionPreviewed.{SessionPreviewed};
 ghost use Rattle.plush.specs.SessionWithdrawn.{SessionWithdrawn};
 ghost use Rattle.plush.specs.UnitsOrdered.{UnitsOrdered};
 
-use columns::{from_columns, to_columns};
+use ast::question::no_number;
+use columns::{Way, rearrange};
 use fresh_session::fresh;
 use name_index::find_name;
 use name_place::name_place;
@@ -64,7 +66,7 @@ pub extern "C" fn plush_order_units(
 pub extern "C" fn plush_to_columns(source: &[u32], target: &mut [u32]) -> u32
     ensures { Rearranged to_columns from_columns source.now (length target.old) result target.new }
 {
-    to_columns(source, target)
+    no_number(rearrange(Way::ToColumns, source, target))
 }
 
 // The way back: the sheet that was stored by column.
@@ -72,7 +74,7 @@ pub extern "C" fn plush_to_columns(source: &[u32], target: &mut [u32]) -> u32
 pub extern "C" fn plush_from_columns(source: &[u32], target: &mut [u32]) -> u32
     ensures { Rearranged from_columns to_columns source.now (length target.old) result target.new }
 {
-    from_columns(source, target)
+    no_number(rearrange(Way::ToRows, source, target))
 }
 
 // Finds bytes among the fixed names and those of a list. Returns the number, 0 where they are absent or the list is refused by question 2; and

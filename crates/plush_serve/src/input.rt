@@ -1,8 +1,9 @@
 // The bytes of a request.
-ghost use Rattle.std.specs.Prelude.{◌≤◌, length};
+ghost use Rattle.std.specs.Prelude.{◌≤◌, length, IfOk};
 ghost use Rattle.program_io.specs.Counts.{IsPrefixLen};
 
 use program_io::read_full;
+use request::broken::Broken;
 use std::io::Read;
 
 // Reads from `start` on until the bytes are full or the input ends, each time as many as there are: a pipe hands over few at once. Returns
@@ -25,32 +26,25 @@ pub fn read_part<R: Read>(input: &mut R, n: usize, bytes: &mut [u8]) -> usize
     fill(input, bytes, 0)
 }
 
-// Reads n bytes part by part and keeps none. Returns false where the input ends before.
-pub fn skip<R: Read>(input: &mut R, n: usize) -> bool {
+// Reads n bytes part by part and keeps none. An error says that the input ends before.
+pub fn skip<R: Read>(input: &mut R, n: usize) -> Result<(), Broken> {
     let mut part = [0u8; 4096];
     let mut left = n;
     while left > 0 {
         let got = read_part(input, left, &mut part);
         if got == 0 {
-            return false;
+            return Err(Broken::CutOff);
         }
         left -= got;
     }
-    true
+    Ok(())
 }
 
-// A body of a request: how many of its bytes are kept, and whether all of it was there.
-#[derive(Clone, Copy)]
-pub struct Body {
-    pub kept: usize,
-    pub whole: bool,
-}
-
-// Reads a body of n bytes. What the lent bytes do not hold is read past.
-pub fn read_body<R: Read>(input: &mut R, n: usize, bytes: &mut [u8]) -> Body
-    ensures { IsPrefixLen result.kept bytes.new }
+// Reads a body of n bytes. What the lent bytes do not hold is read past. Returns how many are kept; an error says that the input ends inside it.
+pub fn read_body<R: Read>(input: &mut R, n: usize, bytes: &mut [u8]) -> Result<usize, Broken>
+    ensures { IfOk result (λ kept. IsPrefixLen kept bytes.new) }
 {
     let kept = read_part(input, n, bytes);
-    let whole = skip(input, n - kept);
-    Body { kept, whole }
+    skip(input, n - kept)?;
+    Ok(kept)
 }

@@ -4,9 +4,13 @@
 // program, with a line on standard error.
 #![tactic(auto)]
 
+ghost use Rattle.std.specs.Prelude.{IfOk};
+ghost use Rattle.program_io.specs.Counts.{IsPrefixLen};
+
 mod input;
 mod say;
 
+use columns::Way;
 use columns_text::columns_lent;
 use enter_text::enter_lent;
 use find_text::find_lent;
@@ -15,171 +19,63 @@ use input::{fill, read_body};
 use name_reply::name_lent;
 use order_text::order_lent;
 use preview_text::preview_lent;
-use program_io::fail;
-use request::{Request, broken, read_request, verb};
+use request::broken::Broken;
+use request::verb::Verb;
+use request::{Request, read_request};
 use resolve_text::resolve_lent;
-use say::complain;
+use say::{End, say};
 use std::io::Read;
 use withdraw_text::withdraw_lent;
 
-// A loop needs an end; this one is out of reach.
-const MOST_REQUESTS: u64 = 18446744073709551615;
-
 const HEADER_BYTES: usize = 81;
 
-// Writes a reply. Returns false where that fails.
-fn write<P: Print + Eprint>(rt: &P, text: &[u8]) -> bool {
-    if let Err(e) = rt.write_all(text) {
-        fail(rt, "write", &e);
-        return false;
-    }
-    true
-}
-
-// The reply of a sheet's text and its names, with so many answer rows lent.
-fn reply_resolved<P: Print + Eprint>(
-    rt: &P,
-    sheet: &[u8],
-    names: &[u8],
-    lent: usize,
-    text: &mut [u8],
-) -> bool {
-    let n = resolve_lent(sheet, names, lent, text);
-    write(rt, &text[..n])
-}
-
-// The reply of a sheet's text and its names entered into the session, with so many answer rows lent.
-fn reply_entered<P: Print + Eprint>(
-    rt: &P,
+// The reply to a request with these bodies, by its verb: how many bytes it has. Bytes that are looked for stand in place of a sheet's text.
+fn reply(
+    request: Request,
     words: &mut [u32],
     bytes: &mut [u8],
     sheet: &[u8],
     names: &[u8],
-    lent: usize,
     text: &mut [u8],
-) -> bool {
-    let n = enter_lent(words, bytes, sheet, names, lent, text);
-    write(rt, &text[..n])
+) -> usize
+    ensures { IsPrefixLen result text.new }
+{
+    let x = request.x;
+    let lent = x as usize;
+    match request.verb {
+        Verb::Resolve => resolve_lent(sheet, names, lent, text),
+        Verb::Enter => enter_lent(words, bytes, sheet, names, lent, text),
+        Verb::Preview => preview_lent(words, bytes, sheet, names, lent, text),
+        Verb::Withdraw => withdraw_lent(words, bytes, text),
+        Verb::NameText => name_lent(words, bytes, names, x, request.y, text),
+        Verb::FindName => find_lent(names, sheet, text),
+        Verb::OrderUnits => order_lent(sheet, names, lent, text),
+        Verb::ToColumns => columns_lent(sheet, Way::ToColumns, lent, text),
+        Verb::FromColumns => columns_lent(sheet, Way::ToRows, lent, text),
+    }
 }
 
-// The reply of a sheet's text and its names as if they were entered: the session is only read.
-fn reply_previewed<P: Print + Eprint>(
-    rt: &P,
-    words: &[u32],
-    bytes: &[u8],
-    sheet: &[u8],
-    names: &[u8],
-    lent: usize,
-    text: &mut [u8],
-) -> bool {
-    let n = preview_lent(words, bytes, sheet, names, lent, text);
-    write(rt, &text[..n])
-}
-
-// The reply of the latest entry taken back from the session.
-fn reply_withdrawn<P: Print + Eprint>(
-    rt: &P,
-    words: &mut [u32],
-    bytes: &[u8],
-    text: &mut [u8],
-) -> bool {
-    let n = withdraw_lent(words, bytes, text);
-    write(rt, &text[..n])
-}
-
-// The reply of the order of the units of a sheet's text, with so many words lent.
-fn reply_ordered<P: Print + Eprint>(
-    rt: &P,
-    sheet: &[u8],
-    names: &[u8],
-    lent: usize,
-    text: &mut [u8],
-) -> bool {
-    let n = order_lent(sheet, names, lent, text);
-    write(rt, &text[..n])
-}
-
-// The reply of a sheet's text stored by column, or taken back, with so many rows lent.
-fn reply_columns<P: Print + Eprint>(
-    rt: &P,
-    sheet: &[u8],
-    back: bool,
-    lent: usize,
-    text: &mut [u8],
-) -> bool {
-    let n = columns_lent(sheet, back, lent, text);
-    write(rt, &text[..n])
-}
-
-// The reply of bytes looked for in a list of names.
-fn reply_found<P: Print + Eprint>(rt: &P, names: &[u8], name: &[u8], text: &mut [u8]) -> bool {
-    let n = find_lent(names, name, text);
-    write(rt, &text[..n])
-}
-
-// The reply of the number of a name, of a session or of an entry with these names.
-fn reply_name<'a, P: Print + Eprint>(
-    rt: &P,
-    words: &[u32],
-    bytes: &'a [u8],
-    names: &'a [u8],
-    whose: u32,
-    number: u32,
-    text: &mut [u8],
-) -> bool {
-    let n = name_lent(words, bytes, names, whose, number, text);
-    write(rt, &text[..n])
-}
-
-// Finds a name. The bytes that are looked for, fewer than a sheet's text may have, are kept in its place.
-fn find<P: Print + Eprint, R: Read>(
-    rt: &P,
+// How many bytes of a request's two bodies are kept: of the sheet, or of what is looked for, and of the names.
+fn read_bodies<R: Read>(
     input: &mut R,
     request: Request,
-    sought: &mut [u8],
+    sheet: &mut [u8],
     names: &mut [u8],
-    text: &mut [u8],
-) -> bool {
-    let list = read_body(input, request.names as usize, names);
-    let name = read_body(input, request.second_names as usize, sought);
-    if !list.whole {
-        return complain(rt, broken::CUT_OFF);
+) -> Result<(usize, usize), Broken>
+    ensures { IfOk result (λ kept. (IsPrefixLen kept.0 sheet.new) × (IsPrefixLen kept.1 names.new)) }
+{
+    if request.verb == Verb::FindName {
+        let n = read_body(input, request.names as usize, names)?;
+        let s = read_body(input, request.second_names as usize, sheet)?;
+        return Ok((s, n));
     }
-    if !name.whole {
-        return complain(rt, broken::CUT_OFF);
-    }
-    let n = list.kept;
-    let s = name.kept;
-    reply_found(rt, &names[..n], &sought[..s], text)
-}
-
-// The reply to a request with these bodies, by its verb.
-fn reply<P: Print + Eprint>(
-    rt: &P,
-    request: Request,
-    words: &mut [u32],
-    bytes: &mut [u8],
-    sheet: &[u8],
-    names: &[u8],
-    text: &mut [u8],
-) -> bool {
-    let verb = request.verb;
-    let x = request.x;
-    match verb {
-        verb::RESOLVE => reply_resolved(rt, sheet, names, x as usize, text),
-        verb::ENTER => reply_entered(rt, words, bytes, sheet, names, x as usize, text),
-        verb::PREVIEW => reply_previewed(rt, words, bytes, sheet, names, x as usize, text),
-        verb::WITHDRAW => reply_withdrawn(rt, words, bytes, text),
-        verb::NAME_TEXT => reply_name(rt, words, bytes, names, x, request.y, text),
-        verb::ORDER_UNITS => reply_ordered(rt, sheet, names, x as usize, text),
-        verb::TO_COLUMNS => reply_columns(rt, sheet, false, x as usize, text),
-        verb::FROM_COLUMNS => reply_columns(rt, sheet, true, x as usize, text),
-        _ => complain(rt, broken::VERB),
-    }
+    let s = read_body(input, request.sheet as usize, sheet)?;
+    let n = read_body(input, request.names as usize, names)?;
+    Ok((s, n))
 }
 
 // The request of a header. Of a body that is too long one byte more than the longest accepted is kept.
-fn answer<P: Print + Eprint, R: Read>(
+fn answer<P: Print, R: Read>(
     rt: &P,
     input: &mut R,
     header: &[u8],
@@ -188,29 +84,16 @@ fn answer<P: Print + Eprint, R: Read>(
     sheet: &mut [u8],
     names: &mut [u8],
     text: &mut [u8],
-) -> bool {
-    let request = read_request(header);
-    if request.broken != 0 {
-        return complain(rt, request.broken);
-    }
-    if request.verb == verb::FIND_NAME {
-        return find(rt, input, request, sheet, names, text);
-    }
-    let rows = read_body(input, request.sheet as usize, sheet);
-    let list = read_body(input, request.names as usize, names);
-    if !rows.whole {
-        return complain(rt, broken::CUT_OFF);
-    }
-    if !list.whole {
-        return complain(rt, broken::CUT_OFF);
-    }
-    let s = rows.kept;
-    let n = list.kept;
-    reply(rt, request, words, bytes, &sheet[..s], &names[..n], text)
+) -> Result<(), End> {
+    let request = read_request(header).map_err(End::Broken)?;
+    let (s, n) = read_bodies(input, request, sheet, names).map_err(End::Broken)?;
+    let count = reply(request, words, bytes, &sheet[..s], &names[..n], text);
+    rt.write_all(&text[..count])
+        .map_err(|e| End::Failed("write", e))
 }
 
-// One request. Where there is no byte of a header, there is no request, and nothing is said. Returns false where the program is to end.
-fn step<P: Print + Eprint, R: Read>(
+// One request. Where there is no byte of a header, there is no request.
+fn step<P: Print, R: Read>(
     rt: &P,
     input: &mut R,
     words: &mut [u32],
@@ -218,26 +101,20 @@ fn step<P: Print + Eprint, R: Read>(
     sheet: &mut [u8],
     names: &mut [u8],
     text: &mut [u8],
-) -> bool {
-    let mut header = [0u8; 81];
-    let got = match input.read(&mut header) {
-        Ok(n) => n,
-        Err(e) => {
-            fail(rt, "read", &e);
-            return false;
-        }
-    };
+) -> Result<(), End> {
+    let mut header = [0u8; HEADER_BYTES];
+    let got = input.read(&mut header).map_err(|e| End::Failed("read", e))?;
     if got == 0 {
-        return false;
+        return Err(End::Done);
     }
     if fill(input, &mut header, got) < HEADER_BYTES {
-        return complain(rt, broken::CUT_OFF);
+        return Err(End::Broken(Broken::CutOff));
     }
     answer(rt, input, &header, words, bytes, sheet, names, text)
 }
 
-// All requests, with the words and bytes of the program's session.
-fn run<P: Print + Eprint, R: Read>(
+// All requests, with the words and bytes of the program's session. A loop needs an end; this one is out of reach.
+fn run<P: Print, R: Read>(
     rt: &P,
     input: &mut R,
     words: &mut [u32],
@@ -245,14 +122,11 @@ fn run<P: Print + Eprint, R: Read>(
     sheet: &mut [u8],
     names: &mut [u8],
     text: &mut [u8],
-) {
-    let mut left = MOST_REQUESTS;
-    while left > 0 {
-        if !step(rt, input, words, bytes, sheet, names, text) {
-            return;
-        }
-        left -= 1;
+) -> Result<(), End> {
+    for _ in 0..u64::MAX {
+        step(rt, input, words, bytes, sheet, names, text)?;
     }
+    Ok(())
 }
 
 // Room for a session, for one byte more than the longest sheet and names have, and for the longest reply.
@@ -263,7 +137,7 @@ fn main(rt: HostRuntime) {
     let mut names = [0u8; 32769];
     let mut text = [0u8; 166050];
     fresh(&mut words, &mut bytes);
-    run(
+    if let Err(end) = run(
         &rt,
         &mut rt.stdin(),
         &mut words,
@@ -271,5 +145,7 @@ fn main(rt: HostRuntime) {
         &mut sheet,
         &mut names,
         &mut text,
-    );
+    ) {
+        say(&rt, end);
+    }
 }

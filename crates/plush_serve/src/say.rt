@@ -1,26 +1,40 @@
 // What is said on standard error.
-use request::broken;
+use program_io::fail;
+use request::broken::Broken;
+use std::io::Error;
 
-// Says what breaks a request. Returns false, as the program then ends.
-pub fn complain<R: Eprint>(rt: &R, why: u32) -> bool {
+// Why the program ends.
+#[derive(Drop)]
+pub enum End {
+    // There is no further request.
+    Done,
+    // A request is broken.
+    Broken(Broken),
+    // What failed, and why.
+    Failed(&'static str, Error),
+}
+
+// What breaks a request.
+fn told(why: Broken) -> &'static str {
     match why {
-        broken::NO_ROW => say(
-            rt,
-            "plush_serve: broken request: its header is no row of eight numbers",
-        ),
-        broken::VERB => say(rt, "plush_serve: broken request: unknown verb"),
-        broken::FLAGS => say(rt, "plush_serve: broken request: unknown flag"),
-        broken::X => say(rt, "plush_serve: broken request: x is above its limit"),
-        broken::Y => say(rt, "plush_serve: broken request: y is above its limit"),
-        broken::BODIES => say(
-            rt,
-            "plush_serve: broken request: the verb does not take such a body",
-        ),
-        _ => say(rt, "plush_serve: broken request: the input ends inside it"),
+        Broken::NoRow => "its header is no row of eight numbers",
+        Broken::Verb => "unknown verb",
+        Broken::Flags => "unknown flag",
+        Broken::X => "x is above its limit",
+        Broken::Y => "y is above its limit",
+        Broken::Bodies => "the verb does not take such a body",
+        Broken::CutOff => "the input ends inside it",
     }
 }
 
-fn say<R: Eprint>(rt: &R, line: &str) -> bool {
-    let _ = rt.eprintln(line);
-    false
+// Says why the program ends, if it is not that there is no further request.
+pub fn say<R: Eprint>(rt: &R, end: End) {
+    match end {
+        End::Done => {}
+        End::Broken(why) => {
+            let why = told(why);
+            let _ = eprintln!(rt; "plush_serve: broken request: {why}");
+        }
+        End::Failed(what, why) => fail(rt, what, &why),
+    }
 }

@@ -13,72 +13,64 @@
 // Any other line is a remark.
 #![tactic(auto)]
 
-ghost use Rattle.std.specs.Prelude.{◌≤◌, length};
-
 mod edit;
 
-use crate::edit::{Used, change, copy_words, edited, first_bytes, first_words, numbers, text_of};
+use crate::edit::{Filled, Line, add_chain, add_name, add_names, parse};
+use ast::question::no_number;
+use first_four::first_four;
 use program_io::read_full;
+use words::put;
 
-fn ask(rt: &impl Print, case: &[u8], words: &[u32], names: &[u8], used: Used) {
-    let no = match first_four::first_four(
-        first_words(words, used.words),
-        first_bytes(names, used.names),
-    ) {
-        Ok(()) => 0,
-        Err(question) => question.number(),
-    };
-    let _ = rt.write_all(case);
-    let _ = println!(rt; ": {no}");
+// A sheet and its names, and the sheet with the changes since the last case, of which the questions are asked.
+#[derive(Drop)]
+struct Case<'a> {
+    sheet: Filled<'a, u32>,
+    names: Filled<'a, u8>,
+    changed: &'a mut [u32],
 }
 
-// One line of the script. The questions are asked of `work`, which is the sheet with the changes since the last case.
-fn step(
-    rt: &impl Print,
-    line: &[u8],
-    sheet: &mut [u32],
-    work: &mut [u32],
-    names: &mut [u8],
-    used: Used,
-) -> Used {
-    if line.len() == 0 {
-        return used;
+impl Case<'_> {
+    // Asks the questions, and prints the case's name and the first of them that gets a no, or 0.
+    fn ask(&self, rt: &impl Print, name: &[u8]) {
+        let count = self.sheet.items().len();
+        let words = self.changed.get(..count).unwrap_or(self.changed);
+        let no = no_number(first_four(words, self.names.items()));
+        let _ = rt.write_all(name);
+        let _ = println!(rt; ": {no}");
     }
-    let args = numbers(line);
-    if line[0] == b'c' {
-        change(work, args[1], args[2], args[3]);
-        return used;
-    }
-    if line[0] == b'?' {
-        ask(rt, text_of(line), work, names, used);
-    }
-    let next = edited(line[0], text_of(line), &args, sheet, names, used);
-    copy_words(sheet, work, next.words);
-    next
-}
 
-// Where the line that starts at `at` ends.
-fn line_end(script: &[u8], at: usize) -> usize
-    requires { at ≤ length script.now }
-    ensures { (at ≤ result) × (result ≤ length script.now) }
-{
-    let mut i = at;
-    while i < script.len() {
-        if script[i] == b'\n' {
-            return i;
+    // The sheet without the changes.
+    fn restore(&mut self) {
+        for (word, &stored) in self.changed.iter_mut().zip(self.sheet.items()) {
+            *word = stored;
         }
-        i += 1;
     }
-    i
-}
 
-fn run(rt: &impl Print, script: &[u8], sheet: &mut [u32], work: &mut [u32], names: &mut [u8]) {
-    let mut used = Used { words: 0, names: 0 };
-    let mut at = 0;
-    while at < script.len() {
-        let end = line_end(script, at);
-        used = step(rt, &script[at..end], sheet, work, names, used);
-        at = end + 1;
+    // One line of the script.
+    fn step(&mut self, rt: &impl Print, line: &[u8]) {
+        let Some(&first) = line.first() else {
+            return;
+        };
+        match parse(first, line) {
+            Line::New => {
+                self.sheet.clear();
+                self.names.clear();
+            }
+            Line::Rows {
+                kind,
+                column,
+                count,
+            } => add_chain(&mut self.sheet, kind, column, count),
+            Line::Word => self.sheet.push(0),
+            Line::Name(name) => add_name(&mut self.names, name),
+            Line::Names { count, size } => add_names(&mut self.names, count, size),
+            Line::Cut => self.names.pop(),
+            Line::Row(row) => self.sheet.extend(&row),
+            Line::Change { row, column, value } => return put(self.changed, row, column, value),
+            Line::Ask(name) => self.ask(rt, name),
+            Line::Remark => {}
+        }
+        self.restore();
     }
 }
 
@@ -87,7 +79,14 @@ fn main(rt: HostRuntime) {
     let n = read_full(&mut rt.stdin(), &mut script);
     // 2,049 rows, and 32,769 bytes of names
     let mut sheet = [0u32; 16392];
-    let mut work = [0u32; 16392];
+    let mut changed = [0u32; 16392];
     let mut names = [0u8; 32769];
-    run(&rt, &script[..n], &mut sheet, &mut work, &mut names);
+    let mut case = Case {
+        sheet: Filled::new(&mut sheet),
+        names: Filled::new(&mut names),
+        changed: &mut changed,
+    };
+    for line in script[..n].split(|&byte| byte == b'\n') {
+        case.step(&rt, line);
+    }
 }

@@ -1,5 +1,6 @@
 -- What callers cite of the line that an answer tells, and of a report as text. Assumes nothing.
 use mathlib.Core.Path.{◌≡◌, refl, sym, ap, subst, ◌∙◌}
+use mathlib.Core.Logic.{◌⊎◌, inl, inr}
 use mathlib.Core.Bool.{Bool, true, false, ◌&&◌}
 use mathlib.Core.List.{List, [], ◌∷◌, ◌++◌, append_assoc, append-nil}
 use Prim.Native.Nat.{ℕ, zero, suc, ◌+◌, ◌-◌, ◌*◌, min, ◌<◌, ◌≤◌}
@@ -18,7 +19,6 @@ use Rattle.text.specs.Lines.{line_of as text_line}
 use Rattle.text.specs.Writing.{row_at, rows_in}
 use Rattle.text.proofs.Lists.{map_at, from_length, concat_map_lem, parts_joined, pieces_length}
 use Rattle.text.proofs.Laws.{line_length, rows_of_joined}
-use Rattle.lexer.specs.SrcPos.{file_of, line_of, column_of}
 use Rattle.answer.specs.declared.Answer.{Answer}
 use Rattle.answer.specs.Tells.{Tells}
 use Rattle.report.specs.Report.{report_line, told_by, fitted, Begins, reply, answer_text, Printed}
@@ -34,12 +34,6 @@ unfolding report_line
 line_first o few =
     let e : min 4294967295 (length o.rows) ≡ length o.rows = omega arith in
     ap (λ (k : ℕ). o.number ∷ o.file ∷ o.line ∷ o.column ∷ o.name ∷ k ∷ o.globals ∷ 0 ∷ []) e
-
--- the words of a line, one by one
-pub told_words : (x : Answer) (f l c k : ℕ) → f ≡ file_of x.pos.0 → l ≡ line_of x.pos.0 → c ≡ column_of x.pos.0
-    → k ≡ min 4294967295 x.rows → x.number ∷ f ∷ l ∷ c ∷ x.name ∷ k ∷ x.globals ∷ 0 ∷ [] ≡ told_by x
-unfolding told_by
-told_words x f l c k hf hl hc hk = rw (hf, hl, hc, hk)
 
 -- as many lent words as there are to write
 pub fitted_whole : (n : ℕ) (ws : List ℕ) → length ws ≡ n → fitted n ws ≡ ws
@@ -184,3 +178,8 @@ module _ (lent : ℕ) (told before : List ℕ) where
 
   pub replied_short : room < 165969 → Begins (reply lent room told) before 0 before
   replied_short l = begins_none (reply_short l)
+
+  -- where too many rows or too few bytes are lent
+  pub replied_none : (2048 < lent) ⊎ ((lent ≤ 2048) × (room < 165969)) → Begins (reply lent room told) before 0 before
+  replied_none (inl l) = replied_many l
+  replied_none (inr l) = replied_short l.1

@@ -6,7 +6,7 @@ ghost use Rattle.report.specs.Report.{fitted, told_by, Printed};
 
 use answer::Answer;
 use text::write_rows;
-use words::word_at;
+use words::clear;
 
 // The bytes of a line.
 pub const LINE: usize = 81;
@@ -18,10 +18,11 @@ pub const LONGEST: usize = 2049 * LINE;
 fn count_word(n: usize) -> u32
     ensures { result ≡ min 4294967295 n }
 {
-    if n < 4294967295 { n as u32 } else { 4294967295 }
+    u32::try_from(n).unwrap_or(u32::MAX)
 }
 
 // The line that an answer tells.
+#[tactic(auto, unfolding(crate::specs::Report::told_by))]
 pub fn first_line(x: Answer) -> [u32; 8]
     ensures { result ≡ told_by x }
 {
@@ -42,11 +43,9 @@ pub fn first_line(x: Answer) -> [u32; 8]
 pub fn write_fitted(words: &[u32], lent: &mut [u32])
     ensures { lent.new ≡ fitted (length lent.old) words.now }
 {
-    let mut i: usize = 0;
-    while i < lent.len() {
-        lent[i] = word_at(words, i);
-        i += 1;
-    }
+    let n = words.len().min(lent.len());
+    lent[..n].copy_from_slice(&words[..n]);
+    clear(&mut lent[n..]);
 }
 
 // Writes the report of an answer as text. Its rows stand in the words from the ninth on; the first line is put before them. Returns the

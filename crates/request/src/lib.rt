@@ -6,8 +6,10 @@ mod column;
 pub mod verb;
 
 ghost use Rattle.std.specs.Prelude.{◌≡◌, length};
-ghost use Rattle.request.specs.Header.{largest, broken_by, told, request_of};
+ghost use Rattle.request.specs.Header.{largest, checked, told, request_of};
 
+use crate::broken::Broken;
+use crate::verb::Verb;
 use ast::limit;
 use text::read_sheet;
 
@@ -20,11 +22,10 @@ const OF_ENTRY: u32 = 1;
 // The most bytes that can be looked for.
 const LOOKED_FOR: u32 = 32768;
 
-// What breaks the request (0: nothing), and the numbers of its header.
+// The numbers of a header.
 #[derive(Clone, Copy)]
 pub struct Request {
-    pub broken: u32,
-    pub verb: u32,
+    pub verb: Verb,
     pub sheet: u32,
     pub names: u32,
     pub flags: u32,
@@ -34,66 +35,53 @@ pub struct Request {
     pub second_names: u32,
 }
 
-// The largest of each number that a verb takes, in the order of the header. Of an unknown verb all are 0.
-fn largest_of(verb: u32) -> [u32; 8]
+// The largest of each number that a verb takes, in the order of the header.
+fn largest_of(verb: Verb) -> [u32; 8]
     ensures { result ≡ largest verb }
 {
     match verb {
-        verb::RESOLVE => [verb::RESOLVE, ANY, ANY, 0, limit::LENT_ROWS, 0, 0, 0],
-        verb::ENTER => [verb::ENTER, ANY, ANY, 0, limit::LENT_ROWS, 0, 0, 0],
-        verb::PREVIEW => [verb::PREVIEW, ANY, ANY, 0, limit::LENT_ROWS, 0, 0, 0],
-        verb::WITHDRAW => [verb::WITHDRAW, 0, 0, 0, 0, 0, 0, 0],
-        verb::NAME_TEXT => [verb::NAME_TEXT, 0, ANY, 0, OF_ENTRY, ANY, 0, 0],
-        verb::FIND_NAME => [verb::FIND_NAME, 0, ANY, 0, 0, 0, 0, LOOKED_FOR],
-        verb::ORDER_UNITS => [verb::ORDER_UNITS, ANY, ANY, 0, limit::LENT_ROWS, 0, 0, 0],
-        verb::TO_COLUMNS => [verb::TO_COLUMNS, ANY, 0, 0, limit::LENT_ROWS, 0, 0, 0],
-        verb::FROM_COLUMNS => [verb::FROM_COLUMNS, ANY, 0, 0, limit::LENT_ROWS, 0, 0, 0],
-        _ => [0; 8],
+        Verb::Resolve => [1, ANY, ANY, 0, limit::LENT_ROWS, 0, 0, 0],
+        Verb::Enter => [2, ANY, ANY, 0, limit::LENT_ROWS, 0, 0, 0],
+        Verb::Preview => [3, ANY, ANY, 0, limit::LENT_ROWS, 0, 0, 0],
+        Verb::Withdraw => [4, 0, 0, 0, 0, 0, 0, 0],
+        Verb::NameText => [5, 0, ANY, 0, OF_ENTRY, ANY, 0, 0],
+        Verb::FindName => [6, 0, ANY, 0, 0, 0, 0, LOOKED_FOR],
+        Verb::OrderUnits => [7, ANY, ANY, 0, limit::LENT_ROWS, 0, 0, 0],
+        Verb::ToColumns => [9, ANY, 0, 0, limit::LENT_ROWS, 0, 0, 0],
+        Verb::FromColumns => [10, ANY, 0, 0, limit::LENT_ROWS, 0, 0, 0],
     }
 }
 
-// What breaks a request whose numbers may be so large.
-fn broken_by(most: &[u32], row: &[u32]) -> u32
+// What breaks a request of a known verb, whose numbers may be so large.
+#[tactic(auto, unfolding(crate::specs::Header::checked))]
+fn check(most: &[u32], row: &[u32]) -> Result<(), Broken>
     requires { (length most.now ≡ 8) × (length row.now ≡ 8) }
-    ensures { result ≡ broken_by most.now row.now }
+    ensures { result ≡ checked most.now row.now }
 {
-    if row[column::VERB] == 0 {
-        return broken::VERB;
-    }
-    if row[column::VERB] > most[column::VERB] {
-        return broken::VERB;
-    }
     if row[column::FLAGS] > most[column::FLAGS] {
-        return broken::FLAGS;
+        Err(Broken::Flags)
+    } else if row[column::X] > most[column::X] {
+        Err(Broken::X)
+    } else if row[column::Y] > most[column::Y] {
+        Err(Broken::Y)
+    } else if row[column::SHEET] > most[column::SHEET]
+        || row[column::NAMES] > most[column::NAMES]
+        || row[column::SECOND_SHEET] > most[column::SECOND_SHEET]
+        || row[column::SECOND_NAMES] > most[column::SECOND_NAMES]
+    {
+        Err(Broken::Bodies)
+    } else {
+        Ok(())
     }
-    if row[column::X] > most[column::X] {
-        return broken::X;
-    }
-    if row[column::Y] > most[column::Y] {
-        return broken::Y;
-    }
-    if row[column::SHEET] > most[column::SHEET] {
-        return broken::BODIES;
-    }
-    if row[column::NAMES] > most[column::NAMES] {
-        return broken::BODIES;
-    }
-    if row[column::SECOND_SHEET] > most[column::SECOND_SHEET] {
-        return broken::BODIES;
-    }
-    if row[column::SECOND_NAMES] > most[column::SECOND_NAMES] {
-        return broken::BODIES;
-    }
-    0
 }
 
-fn tell(why: u32, row: &[u32]) -> Request
+#[tactic(auto, unfolding(crate::specs::Header::told))]
+fn tell(verb: Verb, row: &[u32]) -> Request
     requires { length row.now ≡ 8 }
-    ensures { result ≡ told why row.now }
+    ensures { result ≡ told verb row.now }
 {
     Request {
-        broken: why,
-        verb: row[column::VERB],
+        verb,
         sheet: row[column::SHEET],
         names: row[column::NAMES],
         flags: row[column::FLAGS],
@@ -104,14 +92,15 @@ fn tell(why: u32, row: &[u32]) -> Request
     }
 }
 
-// Reads a header. Where it is no row, all numbers are 0.
-pub fn read_request(header: &[u8]) -> Request
+// Reads a header, or tells what breaks the request.
+pub fn read_request(header: &[u8]) -> Result<Request, Broken>
     ensures { result ≡ request_of header.now }
 {
     let mut row = [0u32; 8];
     if read_sheet(header, &mut row) == 0 {
-        return tell(broken::NO_ROW, &row);
+        return Err(Broken::NoRow);
     }
-    let most = largest_of(row[column::VERB]);
-    tell(broken_by(&most, &row), &row)
+    let verb = Verb::try_from(row[column::VERB])?;
+    check(&largest_of(verb), &row)?;
+    Ok(tell(verb, &row))
 }

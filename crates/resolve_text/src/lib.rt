@@ -28,16 +28,13 @@ fn print_report(
     print_answer(x, report, text)
 }
 
-// Writes the report of a sheet's text and its names, with so many answer rows lent. Returns the number of bytes, or 0 where more than
-// 2,048 rows are lent or the lent text is shorter than the longest report. Of a text that is too long to be accepted one byte more than
+// Writes the report of a sheet's text and its names, with so many answer rows lent. Returns the number of bytes: none where more
+// than 2,048 rows are lent or the lent text is shorter than the longest report. Of a text that is too long to be accepted one byte more than
 // the longest accepted has is enough.
 pub fn resolve_lent(sheet: &[u8], names: &[u8], lent: usize, text: &mut [u8]) -> usize
     ensures { RepliedOfTexts lent sheet.now names.now text.old result text.new }
 {
-    if lent > limit::LENT_ROWS as usize {
-        return 0;
-    }
-    if text.len() < report::LONGEST {
+    if lent > limit::LENT_ROWS as usize || text.len() < report::LONGEST {
         return 0;
     }
     let mut words = [0u32; 16384];
@@ -45,8 +42,8 @@ pub fn resolve_lent(sheet: &[u8], names: &[u8], lent: usize, text: &mut [u8]) ->
     print_report(sheet, names, lent, &mut words, &mut report, text)
 }
 
-// Writes what the program prints of the texts of sheet.txt and names.txt: the report with 2,048 rows lent. Returns the number of bytes,
-// or 0 where the lent text is shorter than the longest report. Of a file that is too long one byte more is enough, as above.
+// Writes what the program prints of the texts of sheet.txt and names.txt: the report with 2,048 rows lent. Returns the number of bytes:
+// none where the lent text is shorter than the longest report. Of a file that is too long one byte more is enough, as above.
 pub fn resolve_text(sheet: &[u8], names: &[u8], text: &mut [u8]) -> usize
     ensures { PrintedOfFiles sheet.now names.now text.old result text.new }
 {

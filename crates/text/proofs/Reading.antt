@@ -1,19 +1,22 @@
 -- Steps of reading: spaces, digits, a number. Assumes nothing.
 use mathlib.Core.Path.{◌≡◌, refl, sym, ap, ◌∙◌, subst}
-use mathlib.Core.Bool.{Bool, true, false, ◌&&◌, ◌||◌}
+use mathlib.Core.Logic.{◌⊎◌, inl, inr}
+use mathlib.Core.Bool.{Bool, true, false, true≢false, ◌&&◌, ◌||◌}
 use mathlib.Core.List.{List, [], ◌∷◌, ◌++◌, map, append-nil}
 use Prim.Native.Nat.{ℕ, suc, ◌+◌, ◌*◌, ◌-◌, ◌/◌, ◌^◌, ◌<◌, ◌≤◌}
 use native.Mathlib.Numerals.{add-one}
 use native.Mathlib.Omega.{arith}
+use Rattle.std.specs.Prelude.{Option, Some, None, Result, Ok, Err, OkIff}
+use Rattle.std.specs.Result.{result_ok}
 use native.Mathlib.Nat.{pow-suc, pow-le-pow_right, sub-zero}
 use borrow.Author.Tests.{le-leb, lt-leb, eq-eqb, ne_eqb}
 use borrow.Rule.Slice.PartMut.{put_mid}
-use lib.Dec.{T, leb, eqb, leb→le}
+use lib.Dec.{T, leb, eqb, leb→le, eqb→eq}
 use lib.ListN.{length, get_or, take, drop, set, replicate, drop_of_length-le, length-drop}
 use lib.Seq.{take_all}
 use Rattle.definition.specs.Basics.{when◌then◌else◌, all, from}
 use Rattle.definition.specs.Text.{is_digit, trimmed, digits, is_shortest, is_number, value, lines, column_text, is_sheet_text, sheet_of}
-use Rattle.definition.proofs.Lists.Tests.{and_left, and_right, if_true}
+use Rattle.definition.proofs.Lists.Tests.{and_left, if_true}
 use Rattle.definition.proofs.Format.Passes.{all_fails}
 use Rattle.text.specs.Lines.{line_at, column_at, digits_from, number_in, is_line, numbers_of, good_lines, numbers_in, whole_lines}
 use Rattle.text.specs.Reading.{is_readable, lines_read, words_read}
@@ -26,40 +29,29 @@ trimmed_space x xs e = rw (eq-eqb x 32 e)
 pub trimmed_other : (x : ℕ) (xs : List ℕ) → (x ≡ 32 → ⊥) → trimmed (x ∷ xs) ≡ x ∷ xs
 trimmed_other x xs n = rw (ne_eqb x 32 n)
 
+or_true : (x : Bool) → (x || true) ≡ true
+or_true true = refl
+or_true false = refl
+
+-- digits
 module _ (l : List ℕ) (i : ℕ) where
-  pub space_passed : i < length l → get_or l i 0 ≡ 32 → trimmed (drop (i + 1) l) ≡ trimmed (drop i l)
-  space_passed h e = sym (ap trimmed (drop_next l i 0 h) ∙ trimmed_space (get_or l i 0) (drop (i + 1) l) e)
-
-  pub spaces_end : i < length l → (get_or l i 0 ≡ 32 → ⊥) → drop i l ≡ trimmed (drop i l)
-  spaces_end h n = rw (drop_next l i 0 h) (sym (trimmed_other (get_or l i 0) (drop (i + 1) l) n))
-
-  pub spaces_alone : length l ≤ i → drop i l ≡ trimmed (drop i l)
-  spaces_alone h = rw (drop_of_length-le l h)
-
-  -- digits
   module _ (v : ℕ) where
     digit_cons : (x : ℕ) (xs : List ℕ) → 48 ≤ x → x ≤ 57 → digits_from v (x ∷ xs) ≡ digits_from (10 * v + (x - 48)) xs
     unfolding digits_from
     digit_cons x xs h k = rw (le-leb 48 x h, le-leb x 57 k)
 
-    low_cons : (x : ℕ) (xs : List ℕ) → x < 48 → digits_from v (x ∷ xs) ≡ 4294967296
+    other_cons : (x : ℕ) (xs : List ℕ) → (x < 48) ⊎ (57 < x) → digits_from v (x ∷ xs) ≡ None
     unfolding digits_from
-    low_cons x xs h = rw (lt-leb 48 x h)
-
-    high_cons : (x : ℕ) (xs : List ℕ) → 48 ≤ x → 57 < x → digits_from v (x ∷ xs) ≡ 4294967296
-    unfolding digits_from
-    high_cons x xs h k = rw (le-leb 48 x h, lt-leb x 57 k)
+    other_cons x xs (inl l) = rw (lt-leb 48 x l)
+    other_cons x xs (inr l) = rw (le-leb 48 x (omega arith), lt-leb x 57 l)
 
     pub digit_passed : i < length l → 48 ≤ get_or l i 0 → get_or l i 0 ≤ 57 → digits_from (10 * v + (get_or l i 0 - 48)) (drop (i + 1) l) ≡ digits_from v (drop i l)
     digit_passed h a b = sym (ap (digits_from v) (drop_next l i 0 h) ∙ digit_cons (get_or l i 0) (drop (i + 1) l) a b)
 
-    pub digit_low : i < length l → get_or l i 0 < 48 → digits_from v (drop i l) ≡ 4294967296
-    digit_low h a = ap (digits_from v) (drop_next l i 0 h) ∙ low_cons (get_or l i 0) (drop (i + 1) l) a
+    pub digit_other : i < length l → (get_or l i 0 < 48) ⊎ (57 < get_or l i 0) → digits_from v (drop i l) ≡ None
+    digit_other h a = ap (digits_from v) (drop_next l i 0 h) ∙ other_cons (get_or l i 0) (drop (i + 1) l) a
 
-    pub digit_high : i < length l → 48 ≤ get_or l i 0 → 57 < get_or l i 0 → digits_from v (drop i l) ≡ 4294967296
-    digit_high h a b = ap (digits_from v) (drop_next l i 0 h) ∙ high_cons (get_or l i 0) (drop (i + 1) l) a b
-
-    pub digits_end : length l ≤ i → digits_from v (drop i l) ≡ v
+    pub digits_end : length l ≤ i → digits_from v (drop i l) ≡ Some v
     unfolding digits_from
     digits_end h = rw (drop_of_length-le l h)
 
@@ -68,103 +60,108 @@ pub ten_power : (i : ℕ) → i < 10 → (10 ^ i ≤ 10 ^ 9) × (10 ^ (i + 1) �
 ten_power i h = (pow-le-pow_right {n = 10} (omega arith) {i = i} {j = 9} (omega arith), rw (add-one, pow-suc) (omega arith))
 
 -- the number that the bytes after the spaces write
-abbrev number_of : List ℕ → ℕ
-number_of ds = when leb 1 (length ds) && all is_digit ds && is_shortest ds && leb (digits 0 ds) 4294967295 then digits 0 ds else 4294967296
+abbrev number_of : List ℕ → Option ℕ
+number_of ds = when leb 1 (length ds) && all is_digit ds && is_shortest ds && leb (digits 0 ds) 4294967295 then Some (digits 0 ds) else None
 
--- it is none where a zero stands before another digit, or where it is too large
-zero_padded : (x : ℕ) (xs : List ℕ) → number_of (48 ∷ x ∷ xs) ≡ 4294967296
+-- it is none where a zero stands before another digit
+zero_padded : (x : ℕ) (xs : List ℕ) → number_of (48 ∷ x ∷ xs) ≡ None
 zero_padded x xs = rw (ne_eqb (suc (suc (length xs))) 1 (λ e. omega arith)) (go (leb 1 (suc (suc (length xs)))) (all is_digit (48 ∷ x ∷ xs)))
   where
-    go : (n d : Bool) → (when n && d && false && leb (digits 0 (48 ∷ x ∷ xs)) 4294967295 then digits 0 (48 ∷ x ∷ xs) else 4294967296) ≡ 4294967296
+    go : (n d : Bool) → (when n && d && false && leb (digits 0 (48 ∷ x ∷ xs)) 4294967295 then Some (digits 0 (48 ∷ x ∷ xs)) else None) ≡ None
     go true true = refl
     go true false = refl
     go false d = refl
 
-too_large : (ds : List ℕ) → 4294967295 < digits_from 0 ds → number_of ds ≡ 4294967296
-unfolding digits_from
-too_large ds = go (digits 0 ds) (leb 1 (length ds)) (all is_digit ds) (is_shortest ds)
+-- it is what the digits write otherwise, if that is a word
+not_padded : (ds : List ℕ) → false ≡ eqb (length ds) 0 → ((get_or ds 0 0 ≡ 48) × (length ds ≤ 1)) ⊎ (get_or ds 0 0 ≡ 48 → ⊥)
+    → number_of ds ≡ (when all is_digit ds && leb (digits 0 ds) 4294967295 then Some (digits 0 ds) else None)
+not_padded [] some n = absurd (true≢false (sym some))
+not_padded (x ∷ xs) some n = rw (short n, le-leb 1 (suc (length xs)) (omega arith)) (go (all is_digit (x ∷ xs)) (leb (digits 0 (x ∷ xs)) 4294967295))
   where
-    go : (v : ℕ) (n d s : Bool) → 4294967295 < (when d then v else 4294967296) → (when n && d && s && leb v 4294967295 then v else 4294967296) ≡ 4294967296
-    go v true true true h = rw (lt-leb v 4294967295 h)
-    go v true true false h = refl
-    go v true false s h = refl
-    go v false d s h = refl
+    v : ℕ
+    v = digits 0 (x ∷ xs)
 
--- it is what the digits write where they begin with no zero
-not_padded : (x : ℕ) (xs : List ℕ) → (x ≡ 48 → ⊥) → digits_from 0 (x ∷ xs) ≤ 4294967295 → number_of (x ∷ xs) ≡ digits_from 0 (x ∷ xs)
-unfolding digits_from
-not_padded x xs n h =
-    rw (ne_eqb x 48 n, le-leb 1 (suc (length xs)) (omega arith)) (go (digits 0 (x ∷ xs)) (all is_digit (x ∷ xs)) (eqb (suc (length xs)) 1) h)
-  where
-    go : (v : ℕ) (d s : Bool) → (when d then v else 4294967296) ≤ 4294967295
-        → (when true && d && (s || true) && leb v 4294967295 then v else 4294967296) ≡ (when d then v else 4294967296)
-    go v true true h = rw (le-leb v 4294967295 h)
-    go v true false h = rw (le-leb v 4294967295 h)
-    go v false s h = refl
+    short : ((x ≡ 48) × (suc (length xs) ≤ 1)) ⊎ (x ≡ 48 → ⊥) → is_shortest (x ∷ xs) ≡ true
+    short (inl l) = rw (eq-eqb (suc (length xs)) 1 (omega (arith, l.1)))
+    short (inr n) = rw (ne_eqb x 48 n) (or_true (eqb (suc (length xs)) 1))
 
--- a column's number, from where its spaces end
-module _ (l : List ℕ) (i : ℕ) (e : drop i l ≡ trimmed l) where
-  pub number_missing : i ≡ length l → number_in l ≡ 4294967296
+    go : (d b : Bool) → (when true && d && true && b then Some v else None) ≡ (when d && b then Some v else None)
+    go true b = refl
+    go false b = refl
+
+-- a column's number, by what follows its spaces
+module _ (l : List ℕ) where
+  pub number_missing : (ds : List ℕ) → ds ≡ trimmed l → true ≡ eqb (length ds) 0 → number_in l ≡ None
   unfolding number_in
-  number_missing h = ap number_of (sym e ∙ drop_of_length-le l {i = i} (omega arith))
+  number_missing [] e n = ap number_of (sym e)
+  number_missing (x ∷ xs) e n = absurd (omega (arith, eqb→eq (suc (length xs)) 0 (subst T n tt)))
 
-  -- a digit 0 that comes first
-  module _ (z : get_or l i 0 ≡ 48) where
-    pub number_zero : i + 1 ≡ length l → number_in l ≡ 0
+  pub number_padded : (ds : List ℕ) → ds ≡ trimmed l → 1 < length ds → get_or ds 0 0 ≡ 48 → number_in l ≡ None
+  unfolding number_in
+  number_padded [] e n z = absurd (omega arith)
+  number_padded (x ∷ []) e n z = absurd (omega arith)
+  number_padded (x ∷ y ∷ ys) e n z = ap number_of (sym e ∙ ap (λ (v : ℕ). v ∷ y ∷ ys) z) ∙ zero_padded y ys
+
+  module _ (ds : List ℕ) (e : ds ≡ trimmed l) (some : false ≡ eqb (length ds) 0) (n : ((get_or ds 0 0 ≡ 48) × (length ds ≤ 1)) ⊎ (get_or ds 0 0 ≡ 48 → ⊥)) where
+    number_found : number_in l ≡ (when all is_digit ds && leb (digits 0 ds) 4294967295 then Some (digits 0 ds) else None)
     unfolding number_in
-    number_zero h =
-        let q : trimmed l ≡ 48 ∷ [] = sym e ∙ drop_next l i 0 (omega arith) ∙ cc (z, drop_of_length-le l {i = i + 1} (omega arith)) in
-        ap number_of q
+    number_found = ap number_of (sym e) ∙ not_padded ds some n
 
-    pub number_padded : i + 1 < length l → number_in l ≡ 4294967296
-    unfolding number_in
-    number_padded h =
-        let q : trimmed l ≡ 48 ∷ get_or l (i + 1) 0 ∷ drop (i + 1 + 1) l = sym e ∙ drop_next l i 0 (omega arith) ∙ cc (z, drop_next l (i + 1) 0 h) in
-        ap number_of q ∙ zero_padded (get_or l (i + 1) 0) (drop (i + 1 + 1) l)
+    pub number_none : digits_from 0 ds ≡ None → number_in l ≡ None
+    unfolding digits_from
+    number_none d = number_found ∙ go (all is_digit ds) (digits 0 ds) d
+      where
+        go : (t : Bool) (v : ℕ) → (when t then Some v else None) ≡ None → (when t && leb v 4294967295 then Some v else None) ≡ None
+        go true v k = cc
+        go false v k = refl
 
-  pub number_large : 4294967295 < digits_from 0 (drop i l) → number_in l ≡ 4294967296
-  unfolding number_in
-  number_large h = too_large (trimmed l) (rw e at h)
+    pub number_is : (v : ℕ) → digits_from 0 ds ≡ Some v → number_in l ≡ (when leb v 4294967295 then Some v else None)
+    unfolding digits_from
+    number_is v d = number_found ∙ go (all is_digit ds) (digits 0 ds) d
+      where
+        go : (t : Bool) (w : ℕ) → (when t then Some w else None) ≡ Some v → (when t && leb w 4294967295 then Some w else None) ≡ (when leb v 4294967295 then Some v else None)
+        go true w k =
+            let q : w ≡ v = cc in
+            rw q
+        go false w k = cc
 
-  pub number_found : i < length l → (get_or l i 0 ≡ 48 → ⊥) → digits_from 0 (drop i l) ≤ 4294967295 → number_in l ≡ digits_from 0 (drop i l)
-  unfolding number_in
-  number_found g n h =
-      let q : drop i l ≡ get_or l i 0 ∷ drop (i + 1) l = drop_next l i 0 g in
-      ap number_of (sym e ∙ q) ∙ not_padded (get_or l i 0) (drop (i + 1) l) n (rw q at h) ∙ ap (digits_from 0) (sym q)
+-- what fits a word
+pub word_fits : {E : Type 0} (r : Result ℕ E) (v : ℕ) → OkIff r (v < 2 ^ 32) v → result_ok r ≡ (when leb v 4294967295 then Some v else None)
+word_fits (Ok x) v h = rw (le-leb v 4294967295 (omega (arith, h.0))) (ap Some h.1)
+word_fits (Err e) v h = rw (lt-leb v 4294967295 (omega (arith, h)))
 
 -- a number that was read
-number_good : (xs : List ℕ) → number_in xs ≤ 4294967295 → (is_number xs ≡ true) × (number_in xs ≡ value xs)
+number_good : (xs : List ℕ) (v : ℕ) → number_in xs ≡ Some v → (is_number xs ≡ true) × (v ≡ value xs)
 unfolding number_in
-number_good xs h = go (is_number xs) h
+number_good xs v h = go (is_number xs) h
   where
-    go : (t : Bool) → (when t then value xs else 4294967296) ≤ 4294967295 → (t ≡ true) × ((when t then value xs else 4294967296) ≡ value xs)
-    go true h = (refl, refl)
-    go false h = absurd (omega arith)
+    go : (t : Bool) → (when t then Some (value xs) else None) ≡ Some v → (t ≡ true) × (v ≡ value xs)
+    go true h = (refl, cc)
+    go false h = cc
 
-number_bad : (xs : List ℕ) → 4294967295 < number_in xs → is_number xs ≡ false
+number_bad : (xs : List ℕ) → number_in xs ≡ None → is_number xs ≡ false
 unfolding number_in
-number_bad xs h = go (is_number xs) (λ w. leb→le (value xs) 4294967295
-    (and_right (leb 1 (length (trimmed xs)) && all is_digit (trimmed xs) && is_shortest (trimmed xs)) (leb (value xs) 4294967295) w)) h
+number_bad xs h = go (is_number xs) h
   where
-    go : (t : Bool) → (T t → value xs ≤ 4294967295) → 4294967295 < (when t then value xs else 4294967296) → t ≡ false
-    go true f h = absurd (omega (arith, f tt))
-    go false f h = refl
+    go : (t : Bool) → (when t then Some (value xs) else None) ≡ None → t ≡ false
+    go true h = cc
+    go false h = refl
 
 -- a line, column by column
 module _ (l : List ℕ) where
-  pub column_number : (c v : ℕ) → v ≡ number_in (take (10 * c + 10 - 10 * c) (drop (10 * c) l)) → v ≡ number_in (column_at l c)
+  pub column_number : (c : ℕ) (v : Option ℕ) → v ≡ number_in (take (10 * c + 10 - 10 * c) (drop (10 * c) l)) → number_in (column_at l c) ≡ v
   column_number c v e =
       let q : 10 * c + 10 - 10 * c ≡ 10 = omega arith in
-      e ∙ ap (λ (k : ℕ). number_in (take k (drop (10 * c) l))) q
+      sym (e ∙ ap (λ (k : ℕ). number_in (take k (drop (10 * c) l))) q)
 
-  pub column_bad : (c v : ℕ) → v ≡ number_in (column_at l c) → c < 8 → 4294967295 < v → is_line l ≡ false
+  pub column_bad : (c : ℕ) → number_in (column_at l c) ≡ None → c < 8 → is_line l ≡ false
   unfolding is_line
-  column_bad c v e h b =
-      ap (λ (t : Bool). t && eqb (get_or l 80 0) 10) (all_fails (λ k. is_number (column_at l k)) 8 c h (number_bad (column_at l c) (subst (λ (n : ℕ). 4294967295 < n) e b)))
+  column_bad c e h =
+      ap (λ (t : Bool). t && eqb (get_or l 80 0) 10) (all_fails (λ k. is_number (column_at l k)) 8 c h (number_bad (column_at l c) e))
 
-  module _ (c v : ℕ) (e : v ≡ number_in (column_at l c)) (b : v ≤ 4294967295) where
-    good : (is_number (column_at l c) ≡ true) × (number_in (column_at l c) ≡ value (column_at l c))
-    good = number_good (column_at l c) (subst (λ (n : ℕ). n ≤ 4294967295) e b)
+  module _ (c v : ℕ) (e : number_in (column_at l c) ≡ Some v) where
+    good : (is_number (column_at l c) ≡ true) × (v ≡ value (column_at l c))
+    good = number_good (column_at l c) v e
 
     pub column_good : all (λ k. is_number (column_at l k)) (from 0 c) ≡ true → all (λ k. is_number (column_at l k)) (from 0 (c + 1)) ≡ true
     column_good h = all_more (λ k. is_number (column_at l k)) c ∙ both (all (λ k. is_number (column_at l k)) (from 0 c)) (is_number (column_at l c)) h good.0
@@ -174,7 +171,7 @@ module _ (l : List ℕ) where
 
     pub column_read : (row : List ℕ) → c < length row → take c row ≡ map (λ k. value (column_at l k)) (from 0 c)
         → take (c + 1) (set row c v) ≡ map (λ k. value (column_at l k)) (from 0 (c + 1))
-    column_read row h q = take_stored row c v h ∙ cc (q, e, good.1) ∙ sym (map_more (λ k. value (column_at l k)) c)
+    column_read row h q = take_stored row c v h ∙ cc (q, good.1) ∙ sym (map_more (λ k. value (column_at l k)) c)
 
   pub line_end : (c : ℕ) → c ≤ 8 → 8 ≤ c → all (λ k. is_number (column_at l k)) (from 0 c) ≡ true → eqb (get_or l 80 0) 10 ≡ is_line l
   unfolding is_line
@@ -195,9 +192,9 @@ module _ (t : List ℕ) where
       let q : 81 * r + 81 - 81 * r ≡ 81 = omega arith in
       ap (λ (k : ℕ). take k (drop (81 * r) t)) q
 
-  pub line_bad : (n r : ℕ) → r < n → is_line (line_at t r) ≡ false → 0 ≡ good_lines t n
+  pub line_bad : (n r : ℕ) → r < n → is_line (line_at t r) ≡ false → false ≡ good_lines t n
   unfolding good_lines
-  line_bad n r h e = rw (all_fails (λ k. is_line (line_at t k)) n r h e)
+  line_bad n r h e = sym (all_fails (λ k. is_line (line_at t k)) n r h e)
 
   pub line_good : (r : ℕ) → is_line (line_at t r) ≡ true → all (λ k. is_line (line_at t k)) (from 0 r) ≡ true → all (λ k. is_line (line_at t k)) (from 0 (r + 1)) ≡ true
   line_good r e h = all_more (λ k. is_line (line_at t k)) r ∙ both (all (λ k. is_line (line_at t k)) (from 0 r)) (is_line (line_at t r)) h e
@@ -216,36 +213,18 @@ module _ (t : List ℕ) where
   unfolding numbers_in
   none_read = refl
 
-  pub lines_end : (n r : ℕ) → r ≤ n → n ≤ r → all (λ k. is_line (line_at t k)) (from 0 r) ≡ true → n ≡ good_lines t n
-  unfolding good_lines
-  lines_end n r h g e =
-      let q : r ≡ n = omega arith in
-      rw (subst (λ (k : ℕ). all (λ j. is_line (line_at t j)) (from 0 k) ≡ true) q e)
-
 -- the lines to read and the words for them fit
-whole_fits : (b lent : ℕ) → (81 * whole_lines b lent ≤ b) × (8 * whole_lines b lent ≤ lent)
-unfolding whole_lines
-whole_fits b lent = go (eqb (81 * (b / 81)) b && leb (b / 81) 2048) (leb (8 * (b / 81)) lent) (leb→le (8 * (b / 81)) lent)
-  where
-    go : (x y : Bool) → (T y → 8 * (b / 81) ≤ lent) → (81 * (when x && y then b / 81 else 0) ≤ b) × (8 * (when x && y then b / 81 else 0) ≤ lent)
-    go true true f = (omega arith, f tt)
-    go true false f = (omega arith, omega arith)
-    go false y f = (omega arith, omega arith)
-
-good_fits : (t : List ℕ) (n : ℕ) → good_lines t n ≤ n
-unfolding good_lines
-good_fits t n = go (all (λ r. is_line (line_at t r)) (from 0 n))
-  where
-    go : (x : Bool) → (when x then n else 0) ≤ n
-    go true = omega arith
-    go false = omega arith
-
-module _ (t : List ℕ) (lent n : ℕ) (e : n ≡ whole_lines (length t) lent) where
-  pub whole_lent : (81 * n ≤ length t) × (8 * n ≤ lent)
-  whole_lent = (omega (arith, (whole_fits (length t) lent).0), omega (arith, (whole_fits (length t) lent).1))
-
-  pub count_lent : (k : ℕ) → k ≡ good_lines t n → 8 * k ≤ lent
-  count_lent k q = omega (arith, whole_lent.1, good_fits t n)
+module _ (b lent n : ℕ) (e : whole_lines b lent ≡ Some n) where
+  pub whole_fits : (81 * n ≤ b) × (8 * n ≤ lent)
+  unfolding whole_lines
+  whole_fits = go (eqb (81 * (b / 81)) b && leb (b / 81) 2048) (leb (8 * (b / 81)) lent) (leb→le (8 * (b / 81)) lent) e
+    where
+      go : (x y : Bool) → (T y → 8 * (b / 81) ≤ lent) → (when x && y then Some (b / 81) else None) ≡ Some n → (81 * n ≤ b) × (8 * n ≤ lent)
+      go true true f k =
+          let q : b / 81 ≡ n = cc in
+          (omega arith, omega (arith, f tt))
+      go true false f k = cc
+      go false y f k = cc
 
 -- the definition's lines are those of the parts
 module _ (t : List ℕ) where
@@ -280,26 +259,48 @@ module _ (t : List ℕ) where
 
 -- the lines read, and the words
 module _ (t : List ℕ) (lent : ℕ) where
-  pub lines_read_lem : good_lines t (whole_lines (length t) lent) ≡ lines_read t lent
+  abbrev all_lines : ℕ → Bool
+  all_lines n = all (λ r. is_line (line_at t r)) (from 0 n)
+
+  -- all lines that there are to read, where each is one, or none
+  lines_read_lem : (n : ℕ) → whole_lines (length t) lent ≡ Some n → (when good_lines t n then n else 0) ≡ lines_read t lent
   unfolding good_lines whole_lines lines_read is_readable
-  lines_read_lem =
-      go (eqb (81 * lines t) (length t)) (all (λ r. is_line (line_at t r)) (from 0 (lines t))) (leb (lines t) 2048) (leb (8 * lines t) lent) (lines t) (good_lines t) refl refl
-      ∙ ap (λ (b : Bool). when b && leb (lines t) 2048 && leb (8 * lines t) lent then lines t else 0) (sym (text_lines t))
+  lines_read_lem n e =
+      sym (ap (λ (s : Bool). when s && leb (lines t) 2048 && leb (8 * lines t) lent then lines t else 0) (text_lines t)
+      ∙ go (eqb (81 * lines t) (length t)) (leb (lines t) 2048) (leb (8 * lines t) lent) (lines t) e)
     where
-      go : (e a b c : Bool) (n : ℕ) (g : ℕ → ℕ) → g 0 ≡ 0 → g n ≡ (when a then n else 0) → g (when e && b && c then n else 0) ≡ (when e && a && b && c then n else 0)
-      go true true true true n g z s = s
-      go true false true true n g z s = s
-      go true a true false n g z s = z ∙ none a
-        where
-          none : (a : Bool) → 0 ≡ (when a && true && false then n else 0)
-          none true = refl
-          none false = refl
-      go true a false c n g z s = z ∙ none a
-        where
-          none : (a : Bool) → 0 ≡ (when a && false && c then n else 0)
-          none true = refl
-          none false = refl
-      go false a b c n g z s = z
+      these : (a : Bool) → (when a && true && true then n else 0) ≡ (when a then n else 0)
+      these true = refl
+      these false = refl
+
+      go : (w b c : Bool) (k : ℕ) → (when w && b && c then Some k else None) ≡ Some n → (when (w && all_lines k) && b && c then k else 0) ≡ (when all_lines n then n else 0)
+      go true true true k h =
+          let q : k ≡ n = cc in
+          rw q (these (all_lines n))
+      go true true false k h = cc
+      go true false c k h = cc
+      go false b c k h = cc
+
+  module _ (n : ℕ) (b : Bool) (e : whole_lines (length t) lent ≡ Some n) (g : b ≡ good_lines t n) where
+    pub lines_found : b ≡ true → n ≡ lines_read t lent
+    lines_found h = ap (λ (x : Bool). when x then n else 0) (sym h ∙ g) ∙ lines_read_lem n e
+
+    pub lines_bad : b ≡ false → 0 ≡ lines_read t lent
+    lines_bad h = ap (λ (x : Bool). when x then n else 0) (sym h ∙ g) ∙ lines_read_lem n e
+
+  pub lines_none : whole_lines (length t) lent ≡ None → 0 ≡ lines_read t lent
+  unfolding whole_lines lines_read is_readable
+  lines_none e =
+      sym (ap (λ (s : Bool). when s && leb (lines t) 2048 && leb (8 * lines t) lent then lines t else 0) (text_lines t)
+      ∙ go (eqb (81 * lines t) (length t)) (all_lines (lines t)) (leb (lines t) 2048) (leb (8 * lines t) lent) (lines t) e)
+    where
+      go : (w a b c : Bool) (k : ℕ) → (when w && b && c then Some k else None) ≡ None → (when (w && a) && b && c then k else 0) ≡ 0
+      go true a true true k h = cc
+      go true true true false k h = refl
+      go true false true false k h = refl
+      go true true false c k h = refl
+      go true false false c k h = refl
+      go false a b c k h = refl
 
   pub readable : T (is_readable t lent) → T (is_sheet_text t)
   unfolding is_readable
@@ -314,14 +315,11 @@ module _ (t : List ℕ) (lent : ℕ) where
       go true f = ap (λ (l : List ℕ). l ++ replicate (lent - 8 * lines t) 0) (sym (text_numbers t (f tt)))
       go false f = cc (sym (none_read t), sub-zero lent)
 
-  pub words_left : (n : ℕ) (before last : List ℕ) → n ≡ good_lines t (whole_lines (length t) lent) → length before ≡ lent → take (8 * n) before ≡ numbers_in t n
+  pub words_left : (n : ℕ) (before last : List ℕ) → n ≡ lines_read t lent → length before ≡ lent → take (8 * n) before ≡ numbers_in t n
       → last ≡ replicate (length (take (length before - 8 * n) (drop (8 * n) before))) 0
       → (n ≡ lines_read t lent) × (put_mid (8 * n) (length before - 8 * n) before last ≡ words_read t lent)
-  words_left n before last e g q z = (found, all_words ∙ ap (λ (k : ℕ). numbers_in t k ++ replicate (lent - 8 * k) 0) found ∙ words_read_lem)
+  words_left n before last e g q z = (e, all_words ∙ ap (λ (k : ℕ). numbers_in t k ++ replicate (lent - 8 * k) 0) e ∙ words_read_lem)
     where
-      found : n ≡ lines_read t lent
-      found = e ∙ lines_read_lem
-
       after : take (length before - 8 * n) (drop (8 * n) before) ≡ drop (8 * n) before
       after = take_all (length before - 8 * n) (drop (8 * n) before) (omega (arith, length-drop (8 * n) before))
 

@@ -19,24 +19,6 @@ use Rattle.text.specs.Lines.{place_byte, line_of, lines_of}
 use Rattle.text.specs.Writing.{row_at, rows_in, bytes_written, text_written}
 use Rattle.text.proofs.Lists.{drop_next, put_front, map_at, concat_append, concat_map_lem, concat_more}
 
--- the byte at place i of ten
-module _ (n i : ℕ) where
-  pub place_space : n ≡ 0 → i < 9 → place_byte n i ≡ 32
-  unfolding place_byte
-  place_space e h = rw (le-leb 1 (9 - i) (omega arith), eq-eqb n 0 e)
-
-  pub place_last : 9 ≤ i → place_byte n i ≡ 48 + n % 10
-  unfolding place_byte
-  place_last h = rw (lt-leb 1 (9 - i) (omega arith))
-
-  pub place_digit : (n ≡ 0 → ⊥) → place_byte n i ≡ 48 + n % 10
-  unfolding place_byte
-  place_digit e = rw (ne_eqb n 0 e) (go (leb 1 (9 - i)))
-    where
-      go : (t : Bool) → (when t && false then 32 else 48 + n % 10) ≡ 48 + n % 10
-      go true = refl
-      go false = refl
-
 -- a number, last digit first
 pub quotient_zero : (n p : ℕ) → 0 < p → eqb (n / p) 0 ≡ ltb n p
 quotient_zero n p h = go (dec_lt n p)
@@ -79,9 +61,6 @@ module _ (n : ℕ) where
       rest =
           let z : i ≡ j + 1 = omega arith in
           subst (λ (k : ℕ). drop k column ≡ drop k (in_ten n)) z q
-
-  pub none_written : (column : List ℕ) → length column ≡ 10 → (n ≡ n / 10 ^ (10 - 10)) × (drop 10 column ≡ drop 10 (in_ten n))
-  none_written column h = (omega arith, drop_of_length-le column {i = 10} (omega arith))
 
 -- a line, column by column
 module _ (row line : List ℕ) (c : ℕ) where

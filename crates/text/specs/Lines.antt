@@ -1,5 +1,5 @@
 -- What the inner routines promise of a column, a line and a run of lines.
-use Rattle.std.specs.Prelude.{Bool, ◌&&◌, List, [], ◌∷◌, ◌++◌, map, ℕ, ◌+◌, ◌-◌, ◌*◌, ◌/◌, ◌%◌, get_or, take, drop, eqb, leb}
+use Rattle.std.specs.Prelude.{Bool, Option, Some, None, ◌&&◌, List, [], ◌∷◌, ◌++◌, map, ℕ, ◌+◌, ◌-◌, ◌*◌, ◌/◌, ◌%◌, get_or, take, drop, eqb, leb}
 use Rattle.definition.specs.Basics.{when◌then◌else◌, all, from, concat_map}
 use Rattle.definition.specs.Text.{is_digit, digits, is_number, value, in_ten}
 use Rattle.text.specs.Writing.{row_at}
@@ -12,13 +12,13 @@ line_at t r = take 81 (drop (81 * r) t)
 abbrev pub column_at : List ℕ → ℕ → List ℕ
 column_at l c = take 10 (drop (10 * c) l)
 
--- the number that digits write, after v, or 4,294,967,296 where not all are digits
-unfoldable pub digits_from : ℕ → List ℕ → ℕ
-digits_from v xs = when all is_digit xs then digits v xs else 4294967296
+-- the number that digits write, after v, where all are digits
+unfoldable pub digits_from : ℕ → List ℕ → Option ℕ
+digits_from v xs = when all is_digit xs then Some (digits v xs) else None
 
--- the number in a column, or 4,294,967,296 where there is none
-unfoldable pub number_in : List ℕ → ℕ
-number_in xs = when is_number xs then value xs else 4294967296
+-- the number in a column, if there is one
+unfoldable pub number_in : List ℕ → Option ℕ
+number_in xs = when is_number xs then Some (value xs) else None
 
 -- is a line eight numbers and a newline?
 unfoldable pub is_line : List ℕ → Bool
@@ -28,18 +28,18 @@ is_line l = all (λ c. is_number (column_at l c)) (from 0 8) && eqb (get_or l 80
 unfoldable pub numbers_of : List ℕ → List ℕ
 numbers_of l = map (λ c. value (column_at l c)) (from 0 8)
 
--- n where each of the first n lines is eight numbers and a newline, else 0
-unfoldable pub good_lines : List ℕ → ℕ → ℕ
-good_lines t n = when all (λ r. is_line (line_at t r)) (from 0 n) then n else 0
+-- is each of the first n lines eight numbers and a newline?
+unfoldable pub good_lines : List ℕ → ℕ → Bool
+good_lines t n = all (λ r. is_line (line_at t r)) (from 0 n)
 
 -- the numbers of the first n lines
 unfoldable pub numbers_in : List ℕ → ℕ → List ℕ
 numbers_in t n = concat_map (λ r. numbers_of (line_at t r)) (from 0 n)
 
--- the lines of so many bytes, where they are whole, at most 2,048, and so many words are enough for them; else 0
-unfoldable pub whole_lines : ℕ → ℕ → ℕ
+-- the lines of so many bytes, where they are whole, at most 2,048, and so many words are enough for them
+unfoldable pub whole_lines : ℕ → ℕ → Option ℕ
 whole_lines bytes lent =
-    when eqb (81 * (bytes / 81)) bytes && leb (bytes / 81) 2048 && leb (8 * (bytes / 81)) lent then bytes / 81 else 0
+    when eqb (81 * (bytes / 81)) bytes && leb (bytes / 81) 2048 && leb (8 * (bytes / 81)) lent then Some (bytes / 81) else None
 
 -- a row as a line of text
 unfoldable pub line_of : List ℕ → List ℕ

@@ -1,75 +1,51 @@
 // A sheet's text and its words: a row is eight numbers, each right-justified in ten columns, and a newline.
 #![tactic(auto)]
 
-ghost use Rattle.std.specs.Prelude.{◌≡◌, true, ◌*◌, ◌≤◌, length, take, drop};
-ghost use Rattle.definition.specs.Text.{trimmed, in_ten};
+ghost use Rattle.std.specs.Prelude.{◌≡◌, true, ◌*◌, ◌≤◌, length, take};
+ghost use Rattle.definition.specs.Text.{in_ten, trimmed};
 ghost use Rattle.text.specs.Lines.{is_line, numbers_of, number_in, digits_from, whole_lines, good_lines, numbers_in, line_of, place_byte};
-ghost use Rattle.text.specs.Reading.{SheetRead};
+ghost use Rattle.text.specs.Reading.{SheetRead, lines_read};
 ghost use Rattle.text.specs.Writing.{RowsWritten};
 
 use ast::limit;
 use words::clear;
 
-const MAX_NUMBER: u64 = 4294967295;
-
-// Stands for no number.
-const NO_NUMBER: u64 = 4294967296;
-
-// Where the leading spaces of a column end.
-fn skip_spaces(column: &[u8]) -> usize
-    ensures { (result ≤ length column.now) × (drop result column.now ≡ trimmed column.now) }
-{
-    let mut i: usize = 0;
-    while i < column.len() {
-        if column[i] != 32 {
-            return i;
-        }
-        i += 1;
-    }
-    i
-}
-
-// The number that the bytes from `start` on write. Ten digits at most fit 64 bits.
-fn read_digits(column: &[u8], start: usize) -> u64
-    requires { (start ≤ length column.now) × (length column.now ≤ 10) }
-    ensures { result ≡ digits_from 0 (drop start column.now) }
+// The number that bytes write, if all are digits. Ten digits at most fit 64 bits.
+fn read_digits(digits: &[u8]) -> Option<u64>
+    requires { length digits.now ≤ 10 }
+    ensures { result ≡ digits_from 0 digits.now }
 {
     let mut v: u64 = 0;
-    let mut i = start;
-    while i < column.len() {
-        let b = column[i] as u64;
-        if b < 48 {
-            return NO_NUMBER;
+    for &byte in digits {
+        if !byte.is_ascii_digit() {
+            return None;
         }
-        if b > 57 {
-            return NO_NUMBER;
-        }
-        v = 10 * v + (b - 48);
-        i += 1;
+        v = 10 * v + u64::from(byte - b'0');
     }
-    v
+    Some(v)
+}
+
+// A column without its leading spaces.
+fn trimmed(column: &[u8]) -> &[u8]
+    ensures { (result.now ≡ trimmed column.now) × (length result.now ≤ length column.now) }
+{
+    let mut rest = column;
+    while let [b' ', others @ ..] = rest {
+        rest = others;
+    }
+    rest
 }
 
 // The number in a column. A zero has no digit after it.
-fn read_number(column: &[u8]) -> u64
+fn read_number(column: &[u8]) -> Option<u32>
     requires { length column.now ≤ 10 }
     ensures { result ≡ number_in column.now }
 {
-    let start = skip_spaces(column);
-    if start == column.len() {
-        return NO_NUMBER;
+    let digits = trimmed(column);
+    if digits.is_empty() || digits[0] == b'0' && digits.len() > 1 {
+        return None;
     }
-    if column[start] == 48 {
-        if start + 1 < column.len() {
-            return NO_NUMBER;
-        }
-        return 0;
-    }
-    let v = read_digits(column, start);
-    if v > MAX_NUMBER {
-        return NO_NUMBER;
-    }
-    v
+    u32::try_from(read_digits(digits)?).ok()
 }
 
 // Reads a line into a row. Where it is no line, the row is left as far as it was read.
@@ -77,70 +53,67 @@ fn read_line(line: &[u8], row: &mut [u32]) -> bool
     requires { (length line.now ≡ 81) × (length row.old ≡ 8) }
     ensures { (result ≡ is_line line.now) × (result ≡ true → row.new ≡ numbers_of line.now) }
 {
-    let mut c: usize = 0;
-    while c < 8 {
-        let v = read_number(&line[10 * c..10 * c + 10]);
-        if v > MAX_NUMBER {
+    for (c, word) in row.iter_mut().enumerate() {
+        let Some(n) = read_number(&line[10 * c..10 * c + 10]) else {
+            return false;
+        };
+        *word = n;
+    }
+    line[80] == b'\n'
+}
+
+// Reads n lines into as many rows. Returns whether all of them are lines.
+// By index: after `chunks_exact_mut` a proof knows no word that was written.
+fn read_lines(text: &[u8], words: &mut [u32], n: usize) -> bool
+    requires { (81 * n ≤ length text.now) × (8 * n ≤ length words.old) }
+    ensures { (result ≡ good_lines text.now n) × (result ≡ true → take (8 * n) words.new ≡ numbers_in text.now n) }
+{
+    for r in 0..n {
+        if !read_line(&text[81 * r..81 * r + 81], &mut words[8 * r..8 * r + 8]) {
             return false;
         }
-        row[c] = v as u32;
-        c += 1;
     }
-    line[80] == 10
+    true
 }
 
-// Reads n lines into as many rows. Returns n, or 0 where one of them is no line.
-fn read_lines(text: &[u8], words: &mut [u32], n: usize) -> usize
-    requires { (81 * n ≤ length text.now) × (8 * n ≤ length words.old) }
-    ensures { (result ≡ good_lines text.now n) × (take (8 * result) words.new ≡ numbers_in text.now result) }
-{
-    let mut r: usize = 0;
-    while r < n {
-        if !read_line(&text[81 * r..81 * r + 81], &mut words[8 * r..8 * r + 8]) {
-            return 0;
-        }
-        r += 1;
-    }
-    n
-}
-
-// The lines to read of so many bytes into so many words: none where they are not whole or too many.
-fn lines_to_read(bytes: usize, lent: usize) -> usize
+// The lines to read of so many bytes into so many words, where they are whole and not too many.
+#[tactic(auto, unfolding(crate::specs::Lines::whole_lines))]
+fn lines_to_read(bytes: usize, lent: usize) -> Option<usize>
     ensures { result ≡ whole_lines bytes lent }
 {
     let n = bytes / 81;
-    if 81 * n != bytes {
-        return 0;
-    }
-    if n > limit::ROWS {
-        return 0;
-    }
-    if 8 * n > lent {
-        return 0;
-    }
-    n
+    (81 * n == bytes && n <= limit::ROWS && 8 * n <= lent).then_some(n)
 }
 
-// Reads a sheet's text into the lent words, and clears those after it. Returns the number of lines, or 0 where nothing is read.
+// Reads the lines of a text, if all of them are lines and fit the words. Returns the number of lines read: all, or none.
+fn read_all(text: &[u8], words: &mut [u32]) -> usize
+    ensures { (result ≡ lines_read text.now (length words.old)) × (take (8 * result) words.new ≡ numbers_in text.now result) }
+{
+    match lines_to_read(text.len(), words.len()) {
+        Some(n) => if read_lines(text, words, n) { n } else { 0 },
+        None => 0,
+    }
+}
+
+// Reads a sheet's text into the lent words, and clears those after it. Returns the number of lines read: all, or none.
 pub fn read_sheet(text: &[u8], words: &mut [u32]) -> usize
     ensures { SheetRead text.now (length words.old) result words.new }
 {
-    let n = lines_to_read(text.len(), words.len());
-    let count = read_lines(text, words, n);
+    let count = read_all(text, words);
     clear(&mut words[8 * count..]);
     count
 }
 
 // The byte at place i of ten, of a number whose digits up to there write `rest`: a space before the first digit.
+#[tactic(auto, unfolding(crate::specs::Lines::place_byte))]
 fn place_byte(rest: u32, i: usize) -> u8
     ensures { result ≡ place_byte rest i }
 {
-    if rest == 0 {
-        if i < 9 {
-            return 32;
-        }
+    if rest == 0 && i < 9 {
+        b' '
+    } else {
+        b'0' + (rest % 10) as u8
     }
-    (48 + rest % 10) as u8
 }
 
 // Writes a number right-justified in ten columns, its last digit first.
@@ -149,24 +122,21 @@ fn write_number(n: u32, column: &mut [u8])
     ensures { column.new ≡ in_ten n }
 {
     let mut left = n;
-    let mut i: usize = 10;
-    while 0 < i {
-        i -= 1;
+    for i in (0..10).rev() {
         column[i] = place_byte(left, i);
-        left = left / 10;
+        left /= 10;
     }
 }
 
+// Writes a row as a line.
 fn write_line(row: &[u32], line: &mut [u8])
     requires { (length row.now ≡ 8) × (length line.old ≡ 81) }
     ensures { line.new ≡ line_of row.now }
 {
-    let mut c: usize = 0;
-    while c < 8 {
-        write_number(row[c], &mut line[10 * c..10 * c + 10]);
-        c += 1;
+    for (c, &n) in row.iter().enumerate() {
+        write_number(n, &mut line[10 * c..10 * c + 10]);
     }
-    line[80] = 10;
+    line[80] = b'\n';
 }
 
 // Writes the whole rows of the words as text. Returns the number of bytes, or 0 where they do not fit the lent text.
@@ -177,10 +147,8 @@ pub fn write_rows(words: &[u32], text: &mut [u8]) -> usize
     if n > text.len() / 81 {
         return 0;
     }
-    let mut r: usize = 0;
-    while r < n {
+    for r in 0..n {
         write_line(&words[8 * r..8 * r + 8], &mut text[81 * r..81 * r + 81]);
-        r += 1;
     }
     81 * n
 }

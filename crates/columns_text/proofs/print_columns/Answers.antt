@@ -6,6 +6,7 @@ use borrow.Rule.Slice.PartMut.{same_len_mid}
 use lib.Seq.{length-take-le}
 use Rattle.text.specs.Reading.{SheetRead}
 use Rattle.text.proofs.Longer.{read_few}
+use Rattle.ast.specs.Question.{no_of}
 use Rattle.columns_text.proofs.ReplyLaws.{few, printed_columns_lem}
 use Rattle.columns_text.proofs.print_columns.Goals as goal
 
@@ -26,11 +27,11 @@ print_answer-requires c =
     let read =
     subst (λ (n : ℕ). SheetRead c.args.sheet.now n c.read_sheet-n.result c.read_sheet-n.new.words) c.requires.1
     c.read_sheet-n.ensures in
-    let rows = few c.args.back c.args.lent c.args.sheet.now c.args.report.now c.rearrange-no.new.target
-    c.read_sheet-n.result c.read_sheet-n.new.words (8 + 8 * c.args.lent - 8) c.rearrange-no.result c.tell.result c.requires.0
-    c.requires.2 (omega arith) read c.rearrange-no.auto.target c.rearrange-no.ensures c.tell.ensures in
+    let rows = few c.args.way c.args.lent c.args.sheet.now c.args.report.now c.rearrange-asked.new.target
+    c.read_sheet-n.result c.read_sheet-n.new.words (8 + 8 * c.args.lent - 8) (no_of c.rearrange-asked.result) c.tell.result c.requires.0
+    c.requires.2 (omega arith) read c.rearrange-asked.auto.target c.rearrange-asked.ensures c.tell.ensures in
     let size =
-    same_len_mid 8 (8 + 8 * c.args.lent - 8) c.args.report.now c.rearrange-no.new.target c.rearrange-no.auto.target in
+    same_len_mid 8 (8 + 8 * c.args.lent - 8) c.args.report.now c.rearrange-asked.new.target c.rearrange-asked.auto.target in
     (omega (arith, rows, size, c.requires.2), omega (arith, rows, c.requires.3))
 
 pub returns : goal.returns
@@ -38,7 +39,7 @@ returns c =
     let read =
     subst (λ (n : ℕ). SheetRead c.args.sheet.now n c.read_sheet-n.result c.read_sheet-n.new.words) c.requires.1
     c.read_sheet-n.ensures in
-    printed_columns_lem c.args.back c.args.lent c.args.sheet.now c.args.report.now c.rearrange-no.new.target
-    c.read_sheet-n.result c.read_sheet-n.new.words (8 + 8 * c.args.lent - 8) c.rearrange-no.result c.tell.result c.requires.0
-    c.requires.2 (omega arith) read c.rearrange-no.auto.target c.rearrange-no.ensures c.tell.ensures
+    printed_columns_lem c.args.way c.args.lent c.args.sheet.now c.args.report.now c.rearrange-asked.new.target
+    c.read_sheet-n.result c.read_sheet-n.new.words (8 + 8 * c.args.lent - 8) (no_of c.rearrange-asked.result) c.tell.result c.requires.0
+    c.requires.2 (omega arith) read c.rearrange-asked.auto.target c.rearrange-asked.ensures c.tell.ensures
     c.args.text.now _ _ _ c.print_answer.ensures

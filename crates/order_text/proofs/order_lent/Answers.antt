@@ -4,18 +4,13 @@ use Prim.Native.Nat.{ℕ}
 use native.Mathlib.Omega.{arith}
 use borrow.Author.Rules.{rules}
 use Rattle.report.specs.Report.{Begins}
-use Rattle.report.proofs.Laws.{replied, replied_many, replied_short}
+use Rattle.report.proofs.Laws.{replied, replied_none}
 use Rattle.order_text.specs.Reply.{printed_order}
 use Rattle.order_text.proofs.ReplyLaws.{list_length, replied_order}
 use Rattle.order_text.proofs.order_lent.Goals as goal
 
 pub returns-then-lent : goal.returns-then-lent
-returns-then-lent c =
-    replied_order (replied_many c.args.lent _ c.args.text.now c.if-lent.true)
-
-pub returns-then-text-lt-LONGEST : goal.returns-then-text-lt-LONGEST
-returns-then-text-lt-LONGEST c =
-    replied_order (replied_short c.args.lent _ c.args.text.now c.if-text-lt-LONGEST.true)
+returns-then-lent c = replied_order (replied_none c.args.lent _ c.args.text.now c.then-lent.either)
 
 pub slice_bounds-print_order-end-2 : goal.slice_bounds-print_order-end-2
 slice_bounds-print_order-end-2 c =

@@ -1,15 +1,10 @@
 -- `resolve_lent` meets its contract. Assumes nothing.
-use Rattle.report.proofs.Laws.{replied, replied_many, replied_short}
+use Rattle.report.proofs.Laws.{replied, replied_none}
 use Rattle.resolve_text.proofs.Longer.{replied_texts}
 use Rattle.resolve_text.proofs.resolve_lent.Goals as goal
 
 pub returns-then-lent : goal.returns-then-lent
-returns-then-lent c =
-    replied_texts (replied_many c.args.lent _ c.args.text.now c.if-lent.true)
-
-pub returns-then-text-lt-LONGEST : goal.returns-then-text-lt-LONGEST
-returns-then-text-lt-LONGEST c =
-    replied_texts (replied_short c.args.lent _ c.args.text.now c.if-text-lt-LONGEST.true)
+returns-then-lent c = replied_texts (replied_none c.args.lent _ c.args.text.now c.then-lent.either)
 
 pub returns : goal.returns
 returns c =

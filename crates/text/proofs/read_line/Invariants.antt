@@ -2,8 +2,7 @@
 use mathlib.Core.Path.{◌≡◌}
 use mathlib.Core.List.{map}
 use mathlib.Core.Bool.{true}
-use Prim.Native.Nat.{◌≤◌, ◌-◌}
-use lib.ListN.{length, take}
+use lib.ListN.{take}
 use Rattle.definition.specs.Text.{is_number, value}
 use Rattle.definition.specs.Basics.{all, from}
 use Rattle.text.specs.Lines.{column_at}
@@ -11,8 +10,4 @@ use Rattle.text.proofs.read_line.Given as goal
 
 abbrev pub invariant-loop-c : goal.invariant-loop-c
 invariant-loop-c l =
-    (l.c ≤ 8) × (length l.row ≡ 8) × (all (λ k. is_number (column_at l.line k)) (from 0 l.c) ≡ true)
-    × (take l.c l.row ≡ map (λ k. value (column_at l.line k)) (from 0 l.c))
-
-abbrev pub decreases-loop-c : goal.decreases-loop-c
-decreases-loop-c l = 8 - l.c
+    (all (λ k. is_number (column_at l.line k)) (from 0 l.c) ≡ true) × (take l.c l.row ≡ map (λ k. value (column_at l.line k)) (from 0 l.c))

@@ -1,37 +1,22 @@
--- `read_number` meets its contract. By cases on where the spaces end, a digit 0 that comes first, and how large the
--- number is. Assumes nothing.
+-- `read_number` meets its contract. By cases on what follows the spaces, and how large the number is. Assumes nothing.
 use mathlib.Core.Path.{sym, ◌∙◌}
-use native.Mathlib.Omega.{arith}
-use Rattle.text.proofs.Reading.{number_missing, number_zero, number_padded, number_large, number_found}
+use Rattle.text.proofs.Reading.{number_missing, number_padded, number_none, number_is, word_fits}
 use Rattle.text.proofs.read_number.Goals as goal
+use Rattle.text.proofs.read_number.Goals.{then-is_empty-via-then-is_empty, then-is_empty-via-else-is_empty+then-digits-gt1}
 
-pub returns-then-start-column : goal.returns-then-start-column
-returns-then-start-column c =
-    sym (number_missing c.args.column.now c.skip_spaces-start.result
-    c.skip_spaces-start.ensures.1 (omega arith))
+pub returns-then-is_empty : goal.returns-then-is_empty
+returns-then-is_empty c =
+    let e = c.trimmed-digits.ensures.0 in
+    elim c.then-is_empty.branch [
+      | then-is_empty-via-then-is_empty w ↦ sym (number_missing c.args.column.now _ e w.if-is_empty.ensures)
+      | then-is_empty-via-else-is_empty+then-digits-gt1 w ↦ sym (number_padded c.args.column.now _ e w.if-digits-gt1.true.1 w.if-digits-gt1.true.0)
+    ]
 
-pub bounds-column-start : goal.bounds-column-start
-bounds-column-start c = omega (arith, c.skip_spaces-start.ensures.0)
-
-pub overflow_add-start : goal.overflow_add-start
-overflow_add-start c = omega (arith, c.requires)
-
-pub returns-then-start-column-2 : goal.returns-then-start-column-2
-returns-then-start-column-2 c =
-    sym (number_padded c.args.column.now c.skip_spaces-start.result c.skip_spaces-start.ensures.1 (omega arith) (omega arith))
-
-pub returns-then-column-start-eq48 : goal.returns-then-column-start-eq48
-returns-then-column-start-eq48 c =
-    sym (number_zero c.args.column.now c.skip_spaces-start.result c.skip_spaces-start.ensures.1 (omega arith)
-    (omega (arith, c.skip_spaces-start.ensures.0)))
-
-pub returns-then-v-gt-MAX_NUMBER : goal.returns-then-v-gt-MAX_NUMBER
-returns-then-v-gt-MAX_NUMBER c =
-    sym (number_large c.args.column.now c.skip_spaces-start.result c.skip_spaces-start.ensures.1
-    (omega (arith, c.read_digits-v.ensures)))
+pub returns-in_err-read_digits : goal.returns-in_err-read_digits
+returns-in_err-read_digits c =
+    c.from_residual.ensures ∙ sym (number_none c.args.column.now _ c.trimmed-digits.ensures.0 c.if-is_empty.ensures c.if-digits-gt1.either (sym c.in_err-read_digits.ensures))
 
 pub returns : goal.returns
 returns c =
-    c.read_digits-v.ensures
-    ∙ sym (number_found c.args.column.now c.skip_spaces-start.result c.skip_spaces-start.ensures.1
-    (omega (arith, c.skip_spaces-start.ensures.0)) (λ e. omega arith) (omega (arith, c.read_digits-v.ensures)))
+    c.ok.ensures.value ∙ word_fits _ _ c.try_from.ensures
+    ∙ sym (number_is c.args.column.now _ c.trimmed-digits.ensures.0 c.if-is_empty.ensures c.if-digits-gt1.either _ (sym c.in_ok-read_digits.ensures))
