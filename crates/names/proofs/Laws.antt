@@ -15,7 +15,7 @@ use Rattle.std.specs.Option.{unwrap_or, option_map}
 use Rattle.std.specs.Borrow.{Bor}
 use Rattle.std.proofs.lemmas.Option.{unwrap_or-slice_get}
 use Rattle.std.specs.Prelude.{min, Option, Some, None}
-use Rattle.definition.specs.Basics.{when◌then◌else◌, all, total}
+use Rattle.definition.specs.Basics.{when◌then◌else◌, all, place, total}
 use Rattle.definition.specs.Names.{Name, listed, lead, names_ended}
 use Rattle.names.specs.Listed.{name_of, first_size, Ends, starts_from, starts}
 
@@ -50,6 +50,36 @@ store_last t k x h = rw (add-one, take-suc-set)
 pub store_next : {A : Type 0} (t : List A) (k : ℕ) (x : A) (l : List A) → k < length t → take (k + 1) (set t k x) ++ l ≡ take k t ++ x ∷ l
 store_next t k x l h = rw (store_last t k x h) (append_snoc (take k t) x l)
 
+-- `all` and `place` of the definition are the library's
+pub all_same : {A : Type 0} (p : A → Bool) (xs : List A) → all p xs ≡ list_all p xs
+all_same p [] = refl
+all_same p (x ∷ xs) = ap (λ (t : Bool). p x && t) (all_same p xs)
+
+pub place_same : {A : Type 0} (p : A → Bool) (xs : List A) → place p xs ≡ position_or_len p xs
+place_same p [] = refl
+place_same p (x ∷ xs) = go (p x) (place_same p xs)
+  where
+    go : (t : Bool) → place p xs ≡ position_or_len p xs → (when t then 0 else suc (place p xs)) ≡ cond (not t) (1 + position_or_len p xs) 0
+    go true e = refl
+    go false e = omega (arith, e)
+
+pub place_le : {A : Type 0} (p : A → Bool) (xs : List A) → place p xs ≤ length xs
+place_le p [] = omega arith
+place_le p (x ∷ xs) = shorter (p x) (place_le p xs)
+  where
+    shorter : (t : Bool) {m n : ℕ} → m ≤ n → (when t then 0 else suc m) ≤ suc n
+    shorter true l = omega arith
+    shorter false l = omega arith
+
+-- what `position` finds, or the length
+pub place_found : {A : Type 0} (p : A → Bool) (xs : List A)
+    → unwrap_or (cond (ltb (position_or_len p xs) (length xs)) (Some (position_or_len p xs)) None) (length xs) ≡ place p xs
+place_found p xs = rw (sym (place_same p xs)) (go (ltb (place p xs) (length xs)) refl)
+  where
+    go : (t : Bool) → ltb (place p xs) (length xs) ≡ t → unwrap_or (cond t (Some (place p xs)) None) (length xs) ≡ place p xs
+    go true e = refl
+    go false e = omega (arith, ltb-false (place p xs) (length xs) e, place_le p xs)
+
 -- The first name of a list.
 
 by_end : (t : Bool) (x : ℕ) (xs : List ℕ) → lead x (listed xs) ≡ (x ∷ take (first_size xs) xs) ∷ listed (drop (suc (first_size xs)) xs)
@@ -67,22 +97,8 @@ pub first_name : (xs : List ℕ) → 0 < length xs → listed xs ≡ take (first
 first_name [] h = absurd (omega arith)
 first_name (x ∷ xs) h = from_byte x xs
 
-shorter : (t : Bool) {m n : ℕ} → m ≤ n → (when t then 0 else suc m) ≤ suc n
-shorter true l = omega arith
-shorter false l = omega arith
-
 pub first_size_lem : (xs : List ℕ) → first_size xs ≤ length xs
-first_size_lem [] = omega arith
-first_size_lem (x ∷ xs) = shorter (eqb x 10) (first_size_lem xs)
-
-pub first_size_place : (xs : List ℕ) → first_size xs ≡ position_or_len (λ x. eqb x 10) xs
-first_size_place [] = refl
-first_size_place (x ∷ xs) = go (eqb x 10) (first_size_place xs)
-  where
-    go : (t : Bool) → first_size xs ≡ position_or_len (λ x. eqb x 10) xs
-        → (when t then 0 else suc (first_size xs)) ≡ cond (not t) (1 + position_or_len (λ x. eqb x 10) xs) 0
-    go true e = refl
-    go false e = omega (arith, e)
+first_size_lem = place_le (λ x. eqb x 10)
 
 -- the same, as the iterator steps
 pub first_next : (xs : List ℕ) (e m : ℕ) → e ≡ first_size xs → m ≡ min (length xs) (e + 1) → 0 < length xs
@@ -121,20 +137,6 @@ listed_short (x ∷ xs) = go (eqb x 10) (listed xs) (listed_short xs)
     go true l h = omega arith
     go false [] h = omega arith
     go false (n ∷ l) h = omega arith
-
--- `all` of the definition is the library's
-pub all_same : {A : Type 0} (p : A → Bool) (xs : List A) → all p xs ≡ list_all p xs
-all_same p [] = refl
-all_same p (x ∷ xs) = ap (λ (t : Bool). p x && t) (all_same p xs)
-
--- what `position` finds, or the length
-pub size_found : (xs : List ℕ) → unwrap_or (cond (ltb (position_or_len (λ x. eqb x 10) xs) (length xs)) (Some (position_or_len (λ x. eqb x 10) xs)) None) (length xs)
-    ≡ first_size xs
-size_found xs = rw (sym (first_size_place xs)) (go (ltb (first_size xs) (length xs)) refl)
-  where
-    go : (t : Bool) → ltb (first_size xs) (length xs) ≡ t → unwrap_or (cond t (Some (first_size xs)) None) (length xs) ≡ first_size xs
-    go true e = refl
-    go false e = omega (arith, ltb-false (first_size xs) (length xs) e, first_size_lem xs)
 
 -- from place i on, byte by byte
 module _ (w : List ℕ) (i : ℕ) where

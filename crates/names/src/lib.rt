@@ -98,9 +98,70 @@ pub fn is_ended(names: &[u8]) -> bool
     names.last().copied().unwrap_or(END) == END
 }
 
+// Names, and where each of them starts with the place past the last.
+#[derive(Clone, Copy)]
+pub struct NameTable<'a> {
+    pub names: &'a [u8],
+    pub table: &'a [u32],
+    ghost of_names: { table.now ≡ starts names.now },
+}
+
+// The fixed names by their places.
+const FIXED_NAMES: NameTable<'static> = NameTable {
+    names: &FIXED,
+    table: &FIXED_STARTS,
+};
+
+impl<'a> NameTable<'a> {
+    // Writes the table of some names into lent words.
+    pub fn write(names: &'a [u8], words: &'a mut [u32]) -> NameTable<'a>
+        requires short { length names.now ≤ 32768 }
+        requires room { length (listed names.now) < length words.old }
+        ensures { result.names.now ≡ names.now }
+    {
+        let count = find_starts(names, words);
+        NameTable {
+            names,
+            table: &words[..count + 1],
+        }
+    }
+
+    // How many names there are.
+    pub fn count(self) -> usize
+        ensures { result + 1 ≡ length self.entry.table.now }
+    {
+        self.table.len() - 1
+    }
+
+    // The name at place `k`.
+    pub fn name_at(self, k: usize) -> &'a [u8]
+        requires { k + 1 < length self.table.now }
+        ensures { result.now ≡ get_or (listed self.entry.names.now) k [] }
+    {
+        let start = self.table[k] as usize;
+        let end = self.table[k + 1] as usize - 1;
+        &self.names[start..end]
+    }
+
+    // The name of a number, fixed or listed here; a number above them all has the empty name.
+    pub fn named(self, number: u32) -> &'a [u8]
+        requires { 0 < number }
+        ensures { result.now ≡ named (numbered self.entry.names.now) number }
+    {
+        if number < FIRST_LISTED {
+            return FIXED_NAMES.name_at(number as usize - 1);
+        }
+        let k = (number - FIRST_LISTED) as usize;
+        if k + 1 < self.table.len() {
+            return self.name_at(k);
+        }
+        &[]
+    }
+}
+
 // Writes where each name starts and then the place past the last, and answers how many names there are.
 #[tactic(auto, using(crate::proofs::Laws::listed_short))]
-pub fn find_starts(names: &[u8], table: &mut [u32]) -> usize
+fn find_starts(names: &[u8], table: &mut [u32]) -> usize
     requires { (length names.now ≤ 32768) × (length (listed names.now) < length table.old) }
     ensures { (result ≡ length (listed names.now)) × (result < length table.old)
         × (take (result + 1) table.new ≡ starts names.now) }
@@ -114,29 +175,4 @@ pub fn find_starts(names: &[u8], table: &mut [u32]) -> usize
     }
     table[count] = at as u32;
     count
-}
-
-// The name at place `k` of a list whose starts are in `table`.
-pub fn name_at<'a>(names: &'a [u8], table: &[u32], k: usize) -> &'a [u8]
-    requires { (table.now ≡ starts names.now) × (k + 1 < length table.now) }
-    ensures { result.now ≡ get_or (listed names.now) k [] }
-{
-    let start = table[k] as usize;
-    let end = table[k + 1] as usize - 1;
-    &names[start..end]
-}
-
-// Are these bytes the name of a number? `table` has the starts of the listed names. A number above them all has the empty name.
-pub fn is_name_of(name: &[u8], names: &[u8], table: &[u32], number: u32) -> bool
-    requires { (table.now ≡ starts names.now) × (0 < number) }
-    ensures { result ≡ same_name name.now (named (numbered names.now) number) }
-{
-    if number < FIRST_LISTED {
-        return same_name(name, name_at(&FIXED, &FIXED_STARTS, number as usize - 1));
-    }
-    let k = (number - FIRST_LISTED) as usize;
-    if k + 1 < table.len() {
-        return same_name(name, name_at(names, table, k));
-    }
-    name.len() == 0
 }

@@ -1,5 +1,5 @@
 -- `names::name_bytes` meets its contract. Assumes nothing.
-use Rattle.std.proofs.Common.{◌∙◌, ap, arith, ◌≡◌, ◌-◌, [], List, ℕ, get_or, refl}
+use Rattle.std.proofs.Common.{◌∙◌, ap, [], ℕ, get_or, refl}
 use Rattle.std.specs.Borrow.{Bor}
 use Rattle.std.proofs.lemmas.Iterator.Consumers.{YieldsList-from_first, nth_from_yields_List}
 use Rattle.definition.specs.Names.{Name, listed}

@@ -1,5 +1,5 @@
 -- `names::sizes_fit` meets its contract: `names_sized` asks the same of each listed name. Assumes nothing.
-use Rattle.std.proofs.Common.{sym, ◌∙◌, ap, arith, ◌≡◌, ◌&&◌, Bool, true, length, rules, tests}
+use Rattle.std.proofs.Common.{sym, ◌∙◌, ap, ◌≡◌, ◌&&◌, Bool, true, length, rules, tests}
 use borrow.Author.Tests.{le-leb}
 use Rattle.std.proofs.lemmas.Iterator.Consumers.{YieldsList-from_first}
 use Rattle.std.proofs.lemmas.Iterator.Search.{all_from_yields_List}
