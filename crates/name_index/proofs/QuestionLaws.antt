@@ -5,7 +5,7 @@ use mathlib.Core.List.{List}
 use Prim.Native.Nat.{ℕ, zero, suc}
 use native.Mathlib.Omega.{arith}
 use Rattle.std.specs.Prelude.{Option, Some, None}
-use Rattle.std.specs.Option.{is_some}
+use Rattle.std.specs.Option.{is_some, unwrap_or}
 use lib.ListN.{length, length-append}
 use borrow.Author.Tests.{ne_eqb}
 use Rattle.definition.specs.Basics.{when◌then◌else◌}
@@ -19,6 +19,11 @@ use Rattle.name_index.proofs.IndexLaws.{index_size}
 -- a number that is not 0 is one that was found
 pub some_found : (n : ℕ) → (n ≡ 0 → ⊥) → Some n ≡ found_number n
 some_found n f = sym (ap (λ (t : Bool). when t then None else Some n) (ne_eqb n 0 f))
+
+-- printed as a word it is 0 again where nothing was found
+pub found_word : (n : ℕ) {o : Option ℕ} → o ≡ found_number n → unwrap_or o 0 ≡ n
+found_word zero e = ap (λ (p : Option ℕ). unwrap_or p 0) e
+found_word (suc n) e = ap (λ (p : Option ℕ). unwrap_or p 0) (e ∙ sym (some_found (suc n) (λ (z : suc n ≡ 0). omega arith)))
 
 -- and one that was found is not 0
 pub found_not : (n : ℕ) (o : Option ℕ) → o ≡ found_number n → is_some o ≡ true → n ≡ 0 → ⊥
