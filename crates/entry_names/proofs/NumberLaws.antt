@@ -8,9 +8,10 @@ use lib.ListN.{length, get_or, take, drop, set, length-append}
 use lib.Dec.{eqb}
 use borrow.Author.Tests.{eqb-true, eqb-false, ne_eqb}
 use Rattle.std.specs.Prelude.{Option, Some, None}
-use Rattle.std.specs.Option.{unwrap_or, is_none}
+use Rattle.std.specs.Option.{unwrap_or, is_some}
 use Rattle.definition.specs.Basics.{when◌then◌else◌, bit, filter, any, unlike, total, place, from, concat_map}
 use Rattle.definition.specs.Names.{Name, fixed, listed, same_name, names_fit}
+use Rattle.definition.proofs.Lists.Tests.{T_true}
 use Rattle.names.specs.Listed.{starts, numbered}
 use Rattle.names.proofs.Laws.{store_next, listed_short, table_size}
 use Rattle.names.proofs.Question.{fit_small}
@@ -64,12 +65,14 @@ found_next n next o e = ap (λ (p : Option ℕ). unwrap_or p next) e ∙ go (eqb
     go true = refl
     go false = refl
 
-pub found_none : (n : ℕ) (o : Option ℕ) → o ≡ found_number n → is_none o ≡ eqb n 0
-found_none n o e = ap is_none e ∙ go (eqb n 0)
+pub found_none : (n : ℕ) (o : Option ℕ) (t : Bool) → o ≡ found_number n → is_some o ≡ not t → t ≡ eqb n 0
+found_none n o t e f = go (eqb n 0) t (sym f ∙ ap is_some e)
   where
-    go : (t : Bool) → is_none (when t then None else Some n) ≡ t
-    go true = refl
-    go false = refl
+    go : (u t : Bool) → not t ≡ is_some (when u then None else Some n) → t ≡ u
+    go true true h = refl
+    go true false h = absurd (T_true false (sym h))
+    go false true h = absurd (T_true false h)
+    go false false h = refl
 
 -- the first new number, by the starts t of the session's names
 pub first_new : (ns t : List ℕ) → t ≡ starts ns → 24 + length t ≡ suc (length (numbered ns))

