@@ -13,6 +13,7 @@ use find_text::find_lent;
 use fresh_session::fresh;
 use input::{fill, read_body};
 use name_reply::name_lent;
+use name_text::Whose;
 use order_text::order_lent;
 use preview_text::preview_lent;
 use program_io::fail;
@@ -127,7 +128,7 @@ fn reply_name<'a, P: Print + Eprint>(
     number: u32,
     text: &mut [u8],
 ) -> bool {
-    let n = name_lent(words, bytes, names, whose, number, text);
+    let n = name_lent(words, bytes, names, Whose::from(whose), number, text);
     write(rt, &text[..n])
 }
 
