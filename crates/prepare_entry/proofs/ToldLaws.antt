@@ -42,6 +42,10 @@ module _ (w n : List ℕ) (fit : session_fits whole w n ≡ true) where
   pub all_apart : unlike same_name (all_names (session_in whole w n)) ≡ true
   all_apart = subst (λ (k : List Name). unlike same_name k ≡ true) (sym listed_all) (names_apart_lem l (list_fits whole w n runs))
 
+  -- the listed names lie in the bytes
+  pub list_inside : 168 + get_or w 4 0 ≤ length n
+  list_inside = omega (arith, leb→le (get_or w 4 0) 32768 (limits whole w n runs 3), leb→le (168 + 32768) (length n) (limits whole w n runs 8))
+
   pub list_all : {k : List ℕ} → k ≡ name_bytes whole w n → all_names (session_in whole w n) ≡ numbered k
   list_all e = listed_all ∙ ap numbered (sym e)
 

@@ -29,6 +29,11 @@ pub listing_no : {fits : Bool} (ns : List ℕ) (r : Option NameIndex) → r ≡ 
 listing_no ns None e f = f
 listing_no ns (Some x) e f = absurd (T_true false (ap is_some (sym e)))
 
+-- they are there exactly if the test is passed
+pub listing_fits : {fits : Bool} (ns : List ℕ) (r : Option NameIndex) → Listing fits ns r → is_some r ≡ fits
+listing_fits ns None h = sym h
+listing_fits ns (Some x) h = sym h.0
+
 module _ (w n : List ℕ) where
   abbrev ns : List ℕ
   ns = name_bytes whole w n
