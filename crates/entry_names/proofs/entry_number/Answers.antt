@@ -9,7 +9,7 @@ use Rattle.entry_names.proofs.entry_number.Goals.{then-n-lt-FIRST_LISTED-via-the
 pub returns-then-n-lt-FIRST_LISTED : goal.returns-then-n-lt-FIRST_LISTED
 returns-then-n-lt-FIRST_LISTED c =
     λ S ns apart fit told end. elim c.then-n-lt-FIRST_LISTED.branch [
-      then-n-lt-FIRST_LISTED-via-then-n-lt-FIRST_LISTED w ↦ back_low S ns c.args.n w.if-n-lt-FIRST_LISTED.true
+      | then-n-lt-FIRST_LISTED-via-then-n-lt-FIRST_LISTED w ↦ back_low S ns c.args.n w.if-n-lt-FIRST_LISTED.true
       | then-n-lt-FIRST_LISTED-via-else-n-lt-FIRST_LISTED+then-last-n w ↦ back_past S ns c.args.n c.args.last end w.if-last-n.true
     ]
 

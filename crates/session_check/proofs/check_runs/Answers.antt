@@ -31,7 +31,9 @@ returns-then-not-numbers_fit c =
 
 pub returns : goal.returns
 returns c =
-    let list = c.in_ok-list.ensures in
-    (numbers_decide c.args.words.now c.args.bytes.now (c.counts_fit.ensures c.args.bytes.now refl)
-    (ap not c.if-not-counts_fit.false) list.0 _ (start_bytes c.args.words.now c.args.bytes.now list.1 c.in_ok-list.list.listed.of_names list.0)
-    ∙ sym c.numbers_fit.ensures ∙ c.if-not-numbers_fit.false, list.1)
+    let list = c.in_ok-list.ensures in (
+      numbers_decide c.args.words.now c.args.bytes.now (c.counts_fit.ensures c.args.bytes.now refl)
+          (ap not c.if-not-counts_fit.false) list.0 _ (start_bytes c.args.words.now c.args.bytes.now list.1 c.in_ok-list.list.listed.of_names list.0)
+          ∙ sym c.numbers_fit.ensures ∙ c.if-not-numbers_fit.false,
+      list.1,
+    )
