@@ -10,8 +10,7 @@ use lib.Dec.{leb}
 use borrow.Author.Tests.{le-leb, lt-leb}
 use Rattle.definition.specs.Basics.{when◌then◌else◌, filter, any, place, concat_map}
 use Rattle.definition.specs.Names.{Name, listed, same_name}
-use Rattle.names.specs.Listed.{Ends}
-use Rattle.names.proofs.Laws.{drop_step, past_end, next_name}
+use Rattle.names.proofs.Laws.{drop_step}
 use Rattle.session.specs.Session.{Session, all_names}
 use Rattle.session.specs.Entry.{new_names, names_with}
 use Rattle.session.specs.Words.{ended}
@@ -52,21 +51,16 @@ module _ (first number : ℕ) (x : Name) where
       go true = omega (arith, length-append x (10 ∷ []))
       go false = omega arith
 
--- The name that starts at `at` is written, or passed; then the names after it.
-pub name_written : {ns : List ℕ} {at e : ℕ} (n : Ends ns at e) (first : ℕ) (numbers v u : List ℕ) (k to number to' : ℕ) → number ≡ get_or numbers k 0
-    → u ≡ sets v to (ended_from first number (take (e - at) (drop at ns))) → to' ≡ to + length (ended_from first number (take (e - at) (drop at ns)))
-    → sets u to' (new_bytes first numbers (k + 1) (listed (drop (e + 1) ns))) ≡ sets v to (new_bytes first numbers k (listed (drop at ns)))
-name_written {ns} {at} {e} n first numbers v u k to number to' f g h =
-    let x : Name = take (e - at) (drop at ns) in
-    let xs : List Name = listed (drop (e + 1) ns) in
+-- A name is written, or passed; then the names after it.
+pub name_written : (x : Name) (xs : List Name) (first : ℕ) (numbers v u : List ℕ) (k to number to' : ℕ) → number ≡ get_or numbers k 0
+    → u ≡ sets v to (ended_from first number x) → to' ≡ to + length (ended_from first number x)
+    → sets u to' (new_bytes first numbers (k + 1) xs) ≡ sets v to (new_bytes first numbers k (x ∷ xs))
+name_written x xs first numbers v u k to number to' f g h =
     let q : k + 1 ≡ suc k = omega arith in
     let rest : List ℕ = new_bytes first numbers (suc k) xs in
     ap (λ (j : ℕ). sets u to' (new_bytes first numbers j xs)) q ∙ ap (λ (w : List ℕ). sets w to' rest) g
     ∙ ap (λ (j : ℕ). sets (sets v to (ended_from first number x)) j rest) h ∙ sym (sets_more v to (ended_from first number x) rest refl)
-    ∙ ap (λ (m : ℕ). sets v to (ended_from first m x ++ rest)) f ∙ ap (λ (l : List Name). sets v to (new_bytes first numbers k l)) (sym (next_name n))
-
-pub none_written : (ns : List ℕ) (at first : ℕ) (numbers v : List ℕ) (k to : ℕ) → length ns ≤ at → sets v to (new_bytes first numbers k (listed (drop at ns))) ≡ v
-none_written ns at first numbers v k to out = ap (λ (l : List Name). sets v to (new_bytes first numbers k l)) (past_end ns at out)
+    ∙ ap (λ (m : ℕ). sets v to (ended_from first m x ++ rest)) f
 
 -- Names whose numbers say whether they are new.
 new_bytes_lem : (p : Name → Bool) (first : ℕ) (numbers : List ℕ) (xs : List Name) (i : ℕ)

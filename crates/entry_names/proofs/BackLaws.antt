@@ -129,27 +129,3 @@ module _ (S : Session) (ns : List ℕ) where
         (λ k l. same_number n k (omega arith) (omega (arith, e, g)) l
         ∙ ap (λ (m : ℕ). eqb m n) (sym (numbers_at S ns numbers told k l ∙ listed_number S ns k l))) in
         omega (arith, q, at, place_right (same_name y) fixed (listed ns) away, renumbered_is both (own_names ns) n (omega arith) (omega (arith, e, g)))
-
-pub place_below : (numbers : List ℕ) (n : ℕ) → place (λ x. eqb x n) numbers ≤ length numbers
-place_below [] n = omega arith
-place_below (w ∷ ws) n = go (eqb w n) (place_below ws n)
-  where
-    go : (t : Bool) → place (λ x. eqb x n) ws ≤ length ws → (when t then 0 else suc (place (λ x. eqb x n) ws)) ≤ suc (length ws)
-    go true h = omega arith
-    go false h = omega arith
-
--- The place of a number, by a loop: the first k are passed,
-module _ (numbers : List ℕ) (n k : ℕ) where
-  abbrev is : ℕ → Bool
-  is x = eqb x n
-
-  place_step : k < length numbers → place is (drop k numbers) ≡ (when eqb (get_or numbers k 0) n then 0 else suc (place is (drop (k + 1) numbers)))
-  place_step h = ap (place is) (drop_step numbers k 0 h)
-
-  -- it is there,
-  pub place_here : k < length numbers → get_or numbers k 0 ≡ n → place is (drop k numbers) ≡ 0
-  place_here h e = place_step h ∙ ap (λ (t : Bool). when t then 0 else suc (place is (drop (k + 1) numbers))) (eq-eqb (get_or numbers k 0) n e)
-
-  -- or further on
-  pub place_on : k < length numbers → (get_or numbers k 0 ≡ n → ⊥) → place is (drop k numbers) ≡ suc (place is (drop (k + 1) numbers))
-  place_on h f = place_step h ∙ ap (λ (t : Bool). when t then 0 else suc (place is (drop (k + 1) numbers))) (ne_eqb (get_or numbers k 0) n f)

@@ -7,13 +7,15 @@ use native.Mathlib.Omega.{arith}
 use lib.ListN.{length, get_or, take, drop, set, length-append}
 use lib.Dec.{eqb}
 use borrow.Author.Tests.{eqb-true, eqb-false, ne_eqb}
-use Rattle.definition.specs.Basics.{when◌then◌else◌, bit, filter, any, unlike, place, from, concat_map}
+use Rattle.std.specs.Prelude.{Option, Some, None}
+use Rattle.std.specs.Option.{unwrap_or, is_some}
+use Rattle.definition.specs.Basics.{when◌then◌else◌, bit, filter, any, unlike, total, place, from, concat_map}
 use Rattle.definition.specs.Names.{Name, fixed, listed, same_name, names_fit}
-use Rattle.names.specs.Listed.{Ends, starts, numbered}
-use Rattle.names.proofs.Laws.{store_next, past_end, next_size, next_name, next_count, table_size}
+use Rattle.definition.proofs.Lists.Tests.{T_true}
+use Rattle.names.specs.Listed.{starts, numbered}
+use Rattle.names.proofs.Laws.{store_next, listed_short, table_size}
 use Rattle.names.proofs.Question.{fit_small}
-use Rattle.name_index.specs.Index.{place_of, turned, index_of, walk, searched}
-use Rattle.name_index.proofs.IndexLaws.{index_size}
+use Rattle.name_index.specs.Index.{index_of, searched, find, found_number}
 use Rattle.name_index.proofs.FindLaws.{search_has, search_each}
 use Rattle.session.specs.Session.{Session, all_names}
 use Rattle.session.specs.Entry.{own_names, new_names, names_with, to_session}
@@ -49,15 +51,28 @@ number_found l room u x = go (any (same_name x) l) refl
 numbered_few : (ns : List ℕ) → names_fit ns ≡ true → length (numbered ns) ≤ 2048
 numbered_few ns fit = omega (arith, (fit_small ns fit).0, length-append fixed (listed ns))
 
-pub index_room : (ns : List ℕ) → names_fit ns ≡ true → length (index_of (numbered ns)) ≡ 2048
-index_room ns fit = index_size (numbered ns) (numbered_few ns fit)
-
--- what a search from place p of the index t finds
-pub search_number : (ns t : List ℕ) (x : Name) {p found : ℕ} → names_fit ns ≡ true → t ≡ index_of (numbered ns) → p ≡ place_of x
-    → found ≡ (walk (numbered ns) x (turned p t)).0 → found ≡ number_in (numbered ns) x
-search_number ns t x fit i e f =
-    f ∙ ap (λ (q : ℕ). (walk (numbered ns) x (turned q t)).0) e ∙ ap (λ (u : List ℕ). (searched (numbered ns) u x).0) i
+-- what is found in a list that passes question 2
+pub find_number : (ns : List ℕ) (x : Name) → names_fit ns ≡ true → (find ns x).0 ≡ number_in (numbered ns) x
+find_number ns x fit =
+    ap (λ (u : Bool). (when u then searched (numbered ns) (index_of (numbered ns)) x else (0, 0)).0) fit
     ∙ number_found (numbered ns) (numbered_few ns fit) (names_apart_lem ns fit) x
+
+-- a number that was found, or the next one; and whether none was
+pub found_next : (n next : ℕ) (o : Option ℕ) → o ≡ found_number n → unwrap_or o next ≡ found_or next n
+found_next n next o e = ap (λ (p : Option ℕ). unwrap_or p next) e ∙ go (eqb n 0)
+  where
+    go : (t : Bool) → unwrap_or (when t then None else Some n) next ≡ (when t then next else n)
+    go true = refl
+    go false = refl
+
+pub found_none : (n : ℕ) (o : Option ℕ) (t : Bool) → o ≡ found_number n → is_some o ≡ not t → t ≡ eqb n 0
+found_none n o t e f = go (eqb n 0) t (sym f ∙ ap is_some e)
+  where
+    go : (u t : Bool) → not t ≡ is_some (when u then None else Some n) → t ≡ u
+    go true true h = refl
+    go true false h = absurd (T_true false (sym h))
+    go false true h = absurd (T_true false h)
+    go false false h = refl
 
 -- the first new number, by the starts t of the session's names
 pub first_new : (ns t : List ℕ) → t ≡ starts ns → 24 + length t ≡ suc (length (numbered ns))
@@ -154,94 +169,82 @@ module _ (S : Session) (ns : List ℕ) where
       ap (λ (m : ℕ). numbers_from l (suc m) (listed ns)) z ∙ numbers_are l [] (listed ns) u
       ∙ by_number (λ x. suc (place (same_name x) (names_with S ns))) (to_session S ns) (listed ns) 25 (λ k h. sym (listed_number k h))
 
--- The names before place `at` of the list ns are numbered and counted; those from it on are left.
-pub record Passed (l : List Name) (ns numbers : List ℕ) (at count new bytes : ℕ) : Type 0 where
-  pub within : at ≤ length ns + 1
+-- Of the listed names of ns some are numbered and counted; xs are left.
+pub record Passed (l : List Name) (ns : List ℕ) (xs : List Name) (numbers : List ℕ) (count new bytes : ℕ) : Type 0 where
   pub few : new ≤ count
-  pub small : bytes ≤ at
-  pub counted : count + length (listed (drop at ns)) ≡ length (listed ns)
-  pub new_counted : new + length (filter (is_new l) (listed (drop at ns))) ≡ length (filter (is_new l) (listed ns))
-  pub bytes_counted : bytes + length (concat_map ended (filter (is_new l) (listed (drop at ns)))) ≡ length (concat_map ended (filter (is_new l) (listed ns)))
-  pub told : take count numbers ++ numbers_from l (suc (length l) + new) (listed (drop at ns)) ≡ numbers_from l (suc (length l)) (listed ns)
+  pub small : bytes + total (λ n. length n + 1) xs ≤ length ns + 1
+  pub counted : count + length xs ≡ length (listed ns)
+  pub new_counted : new + length (filter (is_new l) xs) ≡ length (filter (is_new l) (listed ns))
+  pub bytes_counted : bytes + length (concat_map ended (filter (is_new l) xs)) ≡ length (concat_map ended (filter (is_new l) (listed ns)))
+  pub told : take count numbers ++ numbers_from l (suc (length l) + new) xs ≡ numbers_from l (suc (length l)) (listed ns)
 
-pub passed_none : (l : List Name) (ns numbers : List ℕ) → Passed l ns numbers 0 0 0 0
-passed_none l ns numbers =
+pub passed_none : (l : List Name) (ns : List ℕ) (xs : List Name) (numbers : List ℕ) → xs ≡ listed ns → Passed l ns xs numbers 0 0 0
+passed_none l ns xs numbers e =
     let z : suc (length l) + 0 ≡ suc (length l) = omega arith in
-    record {
-      within = omega arith;
+    rw e (record {
       few = omega arith;
-      small = omega arith;
+      small = omega (arith, listed_short ns);
       counted = omega arith;
       new_counted = omega arith;
       bytes_counted = omega arith;
       told = ap (λ (n : ℕ). numbers_from l n (listed ns)) z;
-    }
+    })
 
--- while a name is left there is room
-pub passed_few : {l : List Name} {ns numbers : List ℕ} {at e count new bytes : ℕ} → Passed l ns numbers at count new bytes → Ends ns at e → names_fit ns ≡ true
-    → (count < 1024) × (new ≤ 1024) × (bytes ≤ 32768) × (e - at ≤ 32768)
-passed_few {ns = ns} p n fit =
-    let few = fit_small ns fit in (
-      omega (arith, p.counted, next_count n, few.0),
-      omega (arith, p.counted, next_count n, few.0, p.few),
-      omega (arith, p.small, n.inside, few.1),
-      omega (arith, n.within, few.1),
-    )
+-- a name x is left, before others
+module _ {l : List Name} {ns : List ℕ} {ys : List Name} {numbers : List ℕ} {count new bytes : ℕ} (p : Passed l ns ys numbers count new bytes) (x : Name) (xs : List Name) (next : ys ≡ x ∷ xs) where
+  -- so there is room,
+  pub passed_few : names_fit ns ≡ true → (count < 1024) × (new ≤ 1024) × (bytes ≤ 32768) × (length x ≤ 32768)
+  passed_few fit =
+      let few = fit_small ns fit in
+      let all = ap (total (λ n. length n + 1)) next in (
+        omega (arith, p.counted, ap length next, few.0),
+        omega (arith, p.counted, ap length next, few.0, p.few),
+        omega (arith, p.small, all, few.1),
+        omega (arith, p.small, all, few.1),
+      )
 
--- the name that ends at e, of which a number was found or not
-pub passed_next : {l : List Name} {ns numbers : List ℕ} {at e count new bytes found next number count' new' bytes' : ℕ} → Passed l ns numbers at count new bytes
-    → Ends ns at e → found ≡ number_in l (take (e - at) (drop at ns)) → next ≡ suc (length l) + new → number ≡ found_or next found → count < length numbers
-    → count' ≡ count + 1 → new' ≡ new + bit (eqb found 0) → bytes' ≡ bytes + (when eqb found 0 then e - at + 1 else 0)
-    → Passed l ns (set numbers count number) (e + 1) count' new' bytes'
-passed_next {l} {ns} {numbers} {at} {e} {count} {new} {bytes} {found} {next} {number} {count'} {new'} {bytes'} p n f m g room c a b =
-    record {
-      within = omega (arith, n.within);
-      few = omega (arith, p.few, c, a, small_bit (eqb found 0));
-      small = omega (arith, p.small, b, small_part (eqb found 0), n.size);
-      counted = omega (arith, p.counted, c, next_count n);
-      new_counted = omega (arith, p.new_counted, a, ap (λ (r : List Name). length (filter (is_new l) r)) (next_name n), new_more l x xs, ap (λ (k : ℕ). bit (eqb k 0)) f);
-      bytes_counted = omega (
-        arith,
-        p.bytes_counted,
-        b,
-        ap (λ (r : List Name). length (concat_map ended (filter (is_new l) r))) (next_name n),
-        bytes_more l x xs,
-        ap (λ (k : ℕ). when eqb k 0 then length x + 1 else 0) f,
-        ap (λ (k : ℕ). when eqb found 0 then k + 1 else 0) (next_size n),
-      );
-      told =
-          ap (λ (k : ℕ). take k (set numbers count number) ++ numbers_from l (suc (length l) + new') xs) c
-          ∙ store_next numbers count number (numbers_from l (suc (length l) + new') xs) room
-          ∙ ap (λ (r : List ℕ). take count numbers ++ r) here ∙ p.told;
-    }
-  where
-    x : Name
-    x = take (e - at) (drop at ns)
+  -- and it is numbered, whether its number was found or not
+  pub passed_next : {number count' new' bytes' : ℕ} {t : Bool} → t ≡ eqb (number_in l x) 0 → number ≡ found_or (suc (length l) + new) (number_in l x) → count < length numbers
+      → count' ≡ count + 1 → new' ≡ new + bit t → bytes' ≡ bytes + (when t then length x + 1 else 0) → Passed l ns xs (set numbers count number) count' new' bytes'
+  passed_next {number} {count'} {new'} {bytes'} {t} f g room c a b =
+      record {
+        few = omega (arith, p.few, c, a, small_bit t);
+        small = omega (arith, p.small, b, small_part t, ap (total (λ n. length n + 1)) next);
+        counted = omega (arith, p.counted, c, ap length next);
+        new_counted = omega (arith, p.new_counted, a, ap (λ (r : List Name). length (filter (is_new l) r)) next, new_more l x xs, ap bit f);
+        bytes_counted = omega (
+          arith,
+          p.bytes_counted,
+          b,
+          ap (λ (r : List Name). length (concat_map ended (filter (is_new l) r))) next,
+          bytes_more l x xs,
+          ap (λ (u : Bool). when u then length x + 1 else 0) f,
+        );
+        told =
+            ap (λ (k : ℕ). take k (set numbers count number) ++ numbers_from l (suc (length l) + new') xs) c
+            ∙ store_next numbers count number (numbers_from l (suc (length l) + new') xs) room
+            ∙ ap (λ (r : List ℕ). take count numbers ++ r) here ∙ p.told;
+      }
+    where
+      small_bit : (t : Bool) → bit t ≤ 1
+      small_bit true = omega arith
+      small_bit false = omega arith
 
-    xs : List Name
-    xs = listed (drop (e + 1) ns)
+      small_part : (t : Bool) → (when t then length x + 1 else 0) ≤ length x + 1
+      small_part true = omega arith
+      small_part false = omega arith
 
-    small_bit : (t : Bool) → bit t ≤ 1
-    small_bit true = omega arith
-    small_bit false = omega arith
-
-    small_part : (t : Bool) → (when t then e - at + 1 else 0) ≤ e - at + 1
-    small_part true = omega arith
-    small_part false = omega arith
-
-    here : number ∷ numbers_from l (suc (length l) + new') xs ≡ numbers_from l (suc (length l) + new) (listed (drop at ns))
-    here =
-        let q : suc (length l) + new' ≡ suc (length l) + new + bit (eqb (number_in l x) 0) = omega (arith, a, ap (λ (k : ℕ). bit (eqb k 0)) f) in
-        let v : number ≡ found_or (suc (length l) + new) (number_in l x) = g ∙ ap (λ (k : ℕ). found_or k found) m ∙ ap (found_or (suc (length l) + new)) f in
-        ap (λ (k : ℕ). k ∷ numbers_from l (suc (length l) + new') xs) v
-        ∙ ap (λ (k : ℕ). found_or (suc (length l) + new) (number_in l x) ∷ numbers_from l k xs) q
-        ∙ ap (numbers_from l (suc (length l) + new)) (sym (next_name n))
+      here : number ∷ numbers_from l (suc (length l) + new') xs ≡ numbers_from l (suc (length l) + new) ys
+      here =
+          let q : suc (length l) + new' ≡ suc (length l) + new + bit (eqb (number_in l x) 0) = omega (arith, a, ap bit f) in
+          ap (λ (k : ℕ). k ∷ numbers_from l (suc (length l) + new') xs) g
+          ∙ ap (λ (k : ℕ). found_or (suc (length l) + new) (number_in l x) ∷ numbers_from l k xs) q
+          ∙ ap (numbers_from l (suc (length l) + new)) (sym next)
 
 -- no name is left
-pub passed_all : {l : List Name} {ns numbers : List ℕ} {at count new bytes : ℕ} → Passed l ns numbers at count new bytes → length ns ≤ at → names_fit ns ≡ true
+pub passed_all : {l : List Name} {ns : List ℕ} {xs : List Name} {numbers : List ℕ} {count new bytes : ℕ} → Passed l ns xs numbers count new bytes → xs ≡ [] → names_fit ns ≡ true
     → (S : Session) → all_names S ≡ l → NamesTold S ns count new bytes numbers
-passed_all {l} {ns} {numbers} {at} {count} {new} {bytes} p out fit S held =
-    let none : listed (drop at ns) ≡ [] = past_end ns at out in
+passed_all {l} {ns} {xs} {numbers} {count} {new} {bytes} p none fit S held =
     let c : count ≡ length (listed ns) = omega (arith, p.counted, ap length none) in
     let k : filter (is_new l) (listed ns) ≡ new_names S ns = ap (λ (m : List Name). filter (is_new m) (listed ns)) (sym held) in
     record {

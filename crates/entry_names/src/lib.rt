@@ -7,19 +7,18 @@ ghost use Rattle.std.proofs.lemmas.List.Edits.{sets};
 ghost use Rattle.definition.specs.Basics.{when◌then◌else◌, bit, concat_map, place, unlike};
 ghost use Rattle.definition.specs.Names.{same_name, names_fit};
 ghost use Rattle.definition.specs.Outcome.{rows_fit};
-ghost use Rattle.names.specs.Listed.{starts, numbered};
-ghost use Rattle.name_index.specs.Index.{index_of};
+ghost use Rattle.names.specs.Listed.{numbered};
 ghost use Rattle.shapes.specs.Numbers.{rule_number};
 ghost use Rattle.shapes.specs.States.{rule_at};
 ghost use Rattle.session.specs.Session.{Session, all_names};
 ghost use Rattle.session.specs.Entry.{new_names, names_with, to_entry, holds_name, entry_sheet};
 ghost use Rattle.session.specs.Words.{ended};
-ghost use Rattle.entry_names.specs.Told.{number_in, found_or, session_numbers, NamesTold, number_told, in_column, word_told, ended_from};
+ghost use Rattle.entry_names.specs.Told.{session_numbers, NamesTold, number_told, in_column, word_told, ended_from};
 
 use ast::kind::Kind;
 use ast::{column, name};
-use name_index::{first_place, search};
-use names::{END, FIRST_LISTED, name_end};
+use name_index::NameIndex;
+use names::{END, FIRST_LISTED, Names};
 use shapes::rule::Rule;
 use shapes::{rule_a, rule_b};
 use words::word_at;
@@ -28,79 +27,45 @@ use words::word_at;
 const ROW_WORDS: usize = 8;
 
 // How many names are listed, how many of them are new to the session, and how many bytes the new ones take with their ends.
-#[derive(Clone, Copy)]
+#[derive(Clone, Copy, Debug, PartialEq, Eq)]
 pub struct Numbered {
     pub count: usize,
     pub new: usize,
     pub bytes: usize,
 }
 
-// The session's number of a name, 0 if it has none. `table` and `index` are of the session's list.
-fn number_of(list: &[u8], table: &[u32], index: &[u32], name: &[u8]) -> u32
-    requires { (names_fit list.now ≡ true) × (table.now ≡ starts list.now) × (index.now ≡ index_of (numbered list.now)) }
-    ensures { result ≡ number_in (numbered list.now) name.now }
-{
-    let found = search(index, first_place(name), name, list, table);
-    found.number
-}
-
-// The number found, or the next one if none was.
-fn found_or(next: u32, found: u32) -> u32
-    ensures { result ≡ found_or next found }
-{
-    if found == 0 { next } else { found }
-}
-
-// One name more is counted, of `size` bytes without its end; it is new if no number was found.
-fn counted(tally: Numbered, found: u32, size: usize) -> Numbered
-    requires { (tally.count ≤ 1024) × (tally.new ≤ 1024) × (tally.bytes ≤ 32768) × (size ≤ 32768) }
-    ensures { (result.count ≡ tally.count + 1) × (result.new ≡ tally.new + bit (eqb found 0))
-        × (result.bytes ≡ tally.bytes + (when eqb found 0 then size + 1 else 0)) }
-{
-    let count = tally.count + 1;
-    if found == 0 {
-        return Numbered {
-            count,
-            new: tally.new + 1,
-            bytes: tally.bytes + size + 1,
-        };
-    }
-    Numbered {
-        count,
-        new: tally.new,
-        bytes: tally.bytes,
+impl Numbered {
+    // One name more, of `size` bytes without its end.
+    fn counted(self, is_new: bool, size: usize) -> Numbered
+        requires { (self.count ≤ 1024) × (self.new ≤ 1024) × (self.bytes ≤ 32768) × (size ≤ 32768) }
+        ensures { (result.count ≡ self.count + 1) × (result.new ≡ self.new + bit is_new)
+            × (result.bytes ≡ self.bytes + (when is_new then size + 1 else 0)) }
+    {
+        Numbered {
+            count: self.count + 1,
+            new: self.new + is_new as usize,
+            bytes: self.bytes + if is_new { size + 1 } else { 0 },
+        }
     }
 }
 
 // Writes the session's number of each listed name of an entry. A name that the session has not gets the next number: no two of the
 // entry's names are the same, so none is looked for among the new ones.
-pub fn number_names(
-    list: &[u8],
-    table: &[u32],
-    index: &[u32],
-    names: &[u8],
-    numbers: &mut [u32],
-) -> Numbered
-    requires { (names_fit list.now ≡ true) × (table.now ≡ starts list.now) × (index.now ≡ index_of (numbered list.now))
-        × (names_fit names.now ≡ true) × (1024 ≤ length numbers.old) }
-    ensures { (S : Session) → all_names S ≡ numbered list.now
+pub fn number_names(list: NameIndex<'_>, names: &[u8], numbers: &mut [u32]) -> Numbered
+    requires { (names_fit names.now ≡ true) × (1024 ≤ length numbers.old) }
+    ensures { (S : Session) → all_names S ≡ numbered list.entry.listed.names.now
         → NamesTold S names.now result.count result.new result.bytes numbers.new }
 {
-    // The table has one start more than names are listed.
-    let first_new = name::LAST_FIXED + table.len();
+    let first_new = name::LAST_FIXED + 1 + list.listed.count();
     let mut tally = Numbered {
         count: 0,
         new: 0,
         bytes: 0,
     };
-    let mut at: usize = 0;
-    while at < names.len() {
-        let end = name_end(names, at);
-        let found = number_of(list, table, index, &names[at..end]);
-        let k = tally.count;
-        numbers[k] = found_or((first_new + tally.new) as u32, found);
-        tally = counted(tally, found, end - at);
-        at = end + 1;
+    for name in Names(names) {
+        let found = list.find(name).number;
+        numbers[tally.count] = found.unwrap_or((first_new + tally.new) as u32);
+        tally = tally.counted(found.is_none(), name.len());
     }
     tally
 }
@@ -109,11 +74,10 @@ pub fn number_names(
 fn number_told(numbers: &[u32], n: u32) -> u32
     ensures { result ≡ number_told numbers.now n }
 {
-    if n < FIRST_LISTED {
-        return n;
+    match n.checked_sub(FIRST_LISTED) {
+        Some(k) => numbers.get(k as usize).copied().unwrap_or(n),
+        None => n,
     }
-    let k = (n - FIRST_LISTED) as usize;
-    if k < numbers.len() { numbers[k] } else { n }
 }
 
 // Does a column under this rule hold names?
@@ -160,10 +124,8 @@ pub fn entry_sheet(sheet: &[u32], numbers: &[u32], copy: &mut [u32])
     ensures { (S : Session) (ns : List ℕ) → numbers.now ≡ session_numbers S ns
         → copy.new ≡ entry_sheet S ns sheet.now }
 {
-    let mut i: usize = 0;
-    while i < sheet.len() {
+    for i in 0..sheet.len() {
         copy[i] = entry_word(sheet, numbers, i);
-        i += 1;
     }
 }
 
@@ -171,14 +133,10 @@ pub fn entry_sheet(sheet: &[u32], numbers: &[u32], copy: &mut [u32])
 fn place_of(numbers: &[u32], n: u32) -> usize
     ensures { result ≡ place (λ x. eqb x n) numbers.now }
 {
-    let mut k: usize = 0;
-    while k < numbers.len() {
-        if numbers[k] == n {
-            return k;
-        }
-        k += 1;
-    }
-    k
+    numbers
+        .iter()
+        .position(|&number| number == n)
+        .unwrap_or(numbers.len())
 }
 
 // The entry's number of the session's name n, by the numbers of the listed names; `last` is the last number of the session's and the new names.
@@ -187,10 +145,7 @@ pub fn entry_number(numbers: &[u32], last: u32, n: u32) -> u32
     ensures { (S : Session) (ns : List ℕ) → unlike same_name (all_names S) ≡ true → names_fit ns ≡ true
         → numbers.now ≡ session_numbers S ns → last ≡ length (names_with S ns) → result ≡ to_entry S ns n }
 {
-    if n < FIRST_LISTED {
-        return n;
-    }
-    if last < n {
+    if n < FIRST_LISTED || last < n {
         return n;
     }
     FIRST_LISTED + place_of(numbers, n) as u32
@@ -210,12 +165,10 @@ fn write_name(name: &[u8], bytes: &mut [u8], at: usize)
     requires { at + length name.now < 2 ^ 64 }
     ensures { bytes.new ≡ sets bytes.old at (ended name.now) }
 {
-    let mut i: usize = 0;
-    while i < name.len() {
+    for i in 0..name.len() {
         put_byte(bytes, at + i, name[i]);
-        i += 1;
     }
-    put_byte(bytes, at + i, END);
+    put_byte(bytes, at + name.len(), END);
 }
 
 // Writes a name with its end if its number is that of a new one, and answers the place after what was written.
@@ -238,13 +191,9 @@ pub fn append_names(names: &[u8], numbers: &[u32], first: u32, bytes: &mut [u8],
         → bytes.new ≡ sets bytes.old at (concat_map ended (new_names S names.now)) }
 {
     let mut to = at;
-    let mut start: usize = 0;
     let mut k: usize = 0;
-    while start < names.len() {
-        let end = name_end(names, start);
-        let number = word_at(numbers, k);
-        to = append_new(&names[start..end], number, first, bytes, to);
-        start = end + 1;
+    for name in Names(names) {
+        to = append_new(name, word_at(numbers, k), first, bytes, to);
         k += 1;
     }
 }

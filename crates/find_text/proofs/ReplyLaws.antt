@@ -5,6 +5,7 @@ use mathlib.Core.List.{List, [], ◌∷◌}
 use Prim.Native.Nat.{ℕ}
 use native.Mathlib.Omega.{arith}
 use lib.ListN.{length, take, drop}
+use Rattle.std.specs.Option.{unwrap_or}
 use Rattle.definition.specs.Basics.{when◌then◌else◌, concat_map}
 use Rattle.definition.specs.Names.{names_fit}
 use Rattle.definition.specs.Text.{text_of}
@@ -17,31 +18,23 @@ use Rattle.answer.specs.Tells.{Tells}
 use Rattle.report.specs.Report.{Begins, reply, Printed}
 use Rattle.report.proofs.Laws.{report_printed}
 use Rattle.name_index.specs.declared.Found.{Found}
-use Rattle.name_index.specs.Index.{searched, index_of, find}
+use Rattle.name_index.specs.Index.{searched, index_of, find, found_number}
+use Rattle.name_index.proofs.QuestionLaws.{found_word}
 use Rattle.names.specs.Listed.{numbered}
 use Rattle.find_text.specs.Reply.{answered, row_of, printed_find, RepliedOfNames}
-
-pub row_length : (x : Found) → length (row_of x) ≡ 16
-unfolding row_of
-row_length x = refl
-
-pub row_told : (x : Found) → 0 ∷ 0 ∷ 0 ∷ 0 ∷ 0 ∷ 0 ∷ 0 ∷ 0 ∷ x.number ∷ x.places ∷ 0 ∷ 0 ∷ 0 ∷ 0 ∷ 0 ∷ 0 ∷ [] ≡ row_of x
-unfolding row_of
-row_told x = refl
 
 -- the answer of one row
 abbrev one_row : Answer
 one_row = record { number = 0; pos = record { 0 = 0 }; name = 0; rows = 1; globals = 0 }
 
 -- What is found of bytes in a list, in words, and printed.
-module _ (names name : List ℕ) (x : Found) (w : List ℕ) (found : (x.number ≡ (find names name).0) × (x.places ≡ (find names name).1))
+module _ (names name : List ℕ) (x : Found) (w : List ℕ) (found : (x.number ≡ found_number (find names name).0) × (x.places ≡ (find names name).1))
     (words : w ≡ row_of x) where
   tells : Tells (answered (find names name)) one_row
   tells = record { number = refl; file = file_none; line = line_none; column = column_none; name = refl; rows = refl; globals = refl }
 
   row_there : take 8 (drop 8 w) ≡ concat_map (λ r. r) (answered (find names name)).rows
-  unfolding row_of
-  row_there = ap (λ (v : List ℕ). take 8 (drop 8 v)) words ∙ rw (found.0, found.1)
+  row_there = ap (λ (v : List ℕ). take 8 (drop 8 v)) words ∙ rw (found_word (find names name).0 found.0, found.1)
 
   pub printed_find_lem : (before : List ℕ) (n : ℕ) (filled after : List ℕ) → Printed one_row w before n filled after
       → Begins (printed_find names name) before n after

@@ -1,5 +1,6 @@
 -- The reply to bytes that are looked for in a list of names (document 02, F-2).
 use Rattle.std.specs.Prelude.{◌≡◌, List, [], ◌∷◌, ◌++◌, ℕ, length, take, replicate}
+use Rattle.std.specs.Option.{unwrap_or}
 use Rattle.definition.specs.Text.{text_of}
 use Rattle.definition.specs.Answer.{eight}
 use Rattle.definition.specs.Outcome.{Outcome, report}
@@ -12,8 +13,8 @@ abbrev pub answered : ℕ × ℕ → Outcome
 answered a = record { number = 0; file = 0; line = 0; column = 0; name = 0; rows = eight (a.0 ∷ a.1 ∷ []) ∷ []; globals = 0 }
 
 -- the program's words of it, after room for the first line
-unfoldable pub row_of : Found → List ℕ
-row_of x = replicate 8 0 ++ x.number ∷ x.places ∷ replicate 6 0
+abbrev pub row_of : Found → List ℕ
+row_of x = replicate 8 0 ++ unwrap_or x.number 0 ∷ x.places ∷ replicate 6 0
 
 -- the report as text, of a list of names and the bytes that are looked for
 abbrev pub printed_find : List ℕ → List ℕ → List ℕ

@@ -22,7 +22,24 @@ const ONE_ROW: Answer = Answer {
 fn found_words(x: Found) -> [u32; 16]
     ensures { result ≡ row_of x }
 {
-    [0, 0, 0, 0, 0, 0, 0, 0, x.number, x.places, 0, 0, 0, 0, 0, 0]
+    [
+        0,
+        0,
+        0,
+        0,
+        0,
+        0,
+        0,
+        0,
+        x.number.unwrap_or(0),
+        x.places,
+        0,
+        0,
+        0,
+        0,
+        0,
+        0,
+    ]
 }
 
 // Writes the reply to bytes looked for in a list of names: its number, 0 where it is absent, and how many places of the index were read. Returns

@@ -14,10 +14,8 @@ const CORE_NAMES: u32 = 9;
 fn write_fixed(bytes: &mut [u8])
     ensures { bytes.new ≡ fresh_in (length bytes.old) }
 {
-    let mut i: usize = 0;
-    while i < bytes.len() {
+    for i in 0..bytes.len() {
         bytes[i] = fixed_byte(i);
-        i += 1;
     }
 }
 
@@ -26,9 +24,10 @@ fn fixed_byte(i: usize) -> u8
     ensures { result ≡ fresh_byte i }
 {
     if i < names::FIXED.len() {
-        return names::FIXED[i];
+        names::FIXED[i]
+    } else {
+        0
     }
-    0
 }
 
 // Makes the session in the lent words and bytes a fresh one. They may be of any length; `enter` refuses too short ones as 23.

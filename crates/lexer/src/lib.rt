@@ -30,11 +30,8 @@ impl SrcPos {
         if file_id >= MAX_FILES {
             return SrcPos(0);
         }
-        let start = (file_id as u64) * FILE_WEIGHT + (line_no as u64) * LINE_WEIGHT;
-        if col_no > MAX_COL_NO {
-            return SrcPos(start + (MAX_COL_NO as u64));
-        }
-        SrcPos(start + (col_no as u64))
+        let column = col_no.min(MAX_COL_NO);
+        SrcPos((file_id as u64) * FILE_WEIGHT + (line_no as u64) * LINE_WEIGHT + column as u64)
     }
 
     pub fn file_id(self) -> u32

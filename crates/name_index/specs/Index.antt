@@ -1,7 +1,7 @@
 -- The name index: a table of 2,048 places in which names stand under their numbers. A place that holds 0 is free.
-use Rattle.std.specs.Prelude.{List, [], ◌∷◌, ◌++◌, ℕ, suc, ◌+◌, ◌*◌, ◌%◌, ◌^◌, eqb, take, drop, set, replicate}
+use Rattle.std.specs.Prelude.{Option, None, Some, List, [], ◌∷◌, ◌++◌, ℕ, suc, ◌+◌, ◌*◌, ◌%◌, ◌^◌, eqb, take, drop, set, replicate}
 use Rattle.std.specs.Int.Bits.{bit_xor}
-use Rattle.definition.specs.Basics.{when◌then◌else◌}
+use Rattle.definition.specs.Basics.{when◌then◌else◌, place}
 use Rattle.definition.specs.Names.{Name, same_name, names_fit}
 use Rattle.names.specs.Listed.{numbered, named}
 
@@ -24,8 +24,7 @@ turned p t = drop p t ++ take p t
 
 -- how many words stand before the first free place
 abbrev pub run : List ℕ → ℕ
-run [] = 0
-run (w ∷ ws) = when eqb w 0 then 0 else suc (run ws)
+run = place (λ w. eqb w 0)
 
 -- number n entered in a table at the first free place from p on; while fewer than 2,048 places are full there is one
 abbrev pub enter : List ℕ → ℕ → ℕ → List ℕ
@@ -56,3 +55,7 @@ searched l t b = walk l b (turned (place_of b) t)
 -- bytes looked for in a list of names: the number and the places read; a list refused as 2 has no index
 abbrev pub find : List ℕ → Name → ℕ × ℕ
 find ns b = when names_fit ns then searched (numbered ns) (index_of (numbered ns)) b else (0, 0)
+
+-- a number that was found, none where it is 0
+abbrev pub found_number : ℕ → Option ℕ
+found_number n = when eqb n 0 then None else Some n

@@ -1,4 +1,3 @@
--- The name index, values and searches computed, and an index in lent words.
+-- The name index, and values and searches computed.
 pub mod Index
 pub mod Samples
-pub mod Indexed

@@ -202,16 +202,6 @@ module _ (ns : List ℕ) (k : ℕ) (some : length (when names_fit ns then get_or
   pub list_low : bytes_before (k - 25) ns ≤ 32936
   list_low = omega (arith, before_le (k - 25) ns, (fit_small ns fits).1)
 
--- whose number it is
-pub whose_session : (b k : ℕ) → b ≡ 0 → (not (eqb b 0) && leb 25 k) ≡ false
-whose_session b k e = rw (eq-eqb b 0 e)
-
-pub whose_fixed : (b k : ℕ) → (b ≡ 0 → ⊥) → k < 25 → (not (eqb b 0) && leb 25 k) ≡ false
-whose_fixed b k f l = rw (ne_eqb b 0 f, lt-leb 25 k l)
-
-pub whose_entry : (b k : ℕ) → (b ≡ 0 → ⊥) → 25 ≤ k → (not (eqb b 0) && leb 25 k) ≡ true
-whose_entry b k f l = rw (ne_eqb b 0 f, le-leb 25 k l)
-
 -- The text t of number k.
 module _ (w n ns : List ℕ) (o : Bool) (k : ℕ) {t : List ℕ} (e : t ≡ name_text whole w n ns o k) where
   pub text_short : length t ≤ 255

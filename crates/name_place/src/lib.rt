@@ -1,11 +1,12 @@
 // Where the text of a name stands, for callers that cannot be handed a part of a slice.
 #![tactic(auto)]
 
-ghost use Rattle.std.specs.Prelude.{◌≡◌, not, ◌-◌, ◌≤◌, eqb};
+ghost use Rattle.std.specs.Prelude.{◌≡◌, ◌-◌, ◌≤◌, eqb};
 ghost use Rattle.definition.specs.Basics.{when◌then◌else◌};
 ghost use Rattle.name_place.specs.Place.{bytes_before, NamePlaced};
+ghost use Rattle.name_text.specs.Text.{of_entry};
 
-use name_text::{OF_SESSION, name_text};
+use name_text::{Whose, name_text};
 use names::{END, FIRST_LISTED};
 
 // In which bytes a text stands: those of the session, or the list of the entry.
@@ -32,10 +33,7 @@ fn left_after(left: u32, byte: u8) -> u32
     requires { 1 ≤ left }
     ensures { result ≡ (when eqb byte 10 then left - 1 else left) }
 {
-    if byte == END {
-        return left - 1;
-    }
-    left
+    left - (byte == END) as u32
 }
 
 // Where name `k` of a list starts, counted from 0.
@@ -43,15 +41,13 @@ fn start_of(list: &[u8], k: u32) -> usize
     ensures { result ≡ bytes_before k list.now }
 {
     let mut left = k;
-    let mut at: usize = 0;
-    while at < list.len() {
+    for at in 0..list.len() {
         if left == 0 {
             return at;
         }
         left = left_after(left, list[at]);
-        at += 1;
     }
-    at
+    list.len()
 }
 
 // The place of name `k` of some bytes, which is `length` bytes long.
@@ -66,25 +62,22 @@ fn place_in(list: u32, bytes: &[u8], k: u32, length: usize) -> Place
     }
 }
 
-// Where the text of name `number` stands, the session's or the entry's by `whose`; all zeros where it has none.
+// Where the text of name `number` stands, of the session or the entry; all zeros where it has none.
 pub fn name_place<'a>(
     words: &[u32],
     bytes: &'a [u8],
     names: &'a [u8],
-    whose: u32,
+    whose: Whose,
     number: u32,
 ) -> Place
-    ensures { NamePlaced words.now bytes.now names.now (not (eqb whose 0)) number result }
+    ensures { NamePlaced words.now bytes.now names.now (of_entry whose) number result }
 {
     let length = name_text(words, bytes, names, whose, number).len();
     if length == 0 {
         return NOWHERE;
     }
-    if whose == OF_SESSION {
-        return place_in(IN_SESSION, bytes, number - 1, length);
+    if whose.is_listed(number) {
+        return place_in(IN_LIST, names, number - FIRST_LISTED, length);
     }
-    if number < FIRST_LISTED {
-        return place_in(IN_SESSION, bytes, number - 1, length);
-    }
-    place_in(IN_LIST, names, number - FIRST_LISTED, length)
+    place_in(IN_SESSION, bytes, number - 1, length)
 }

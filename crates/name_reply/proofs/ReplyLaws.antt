@@ -18,38 +18,6 @@ use Rattle.report.specs.Report.{Begins, reply}
 use Rattle.report.proofs.Laws.{begins_more}
 use Rattle.name_reply.specs.Reply.{printed_name, RepliedOfName}
 
--- bytes put at the start of a text, i of them so far
-pub record Putting (name before : List ℕ) (i : ℕ) (text : List ℕ) : Type 0 where
-  pub put : text ≡ take i name ++ drop i before
-  pub within : i ≤ length name
-  pub long : length text ≡ length before
-
-pub putting_start : (name before : List ℕ) → Putting name before 0 before
-putting_start name before = record { put = refl; within = omega arith; long = refl }
-
-pub putting_more : {name before text : List ℕ} {i : ℕ} → Putting name before i text → length name ≤ length before → i < length name
-    → Putting name before (i + 1) (set text i (get_or name i 0))
-putting_more {name} {before} {text} {i} h room l =
-    let s : i + 1 ≡ suc i = omega arith in
-    record {
-      put =
-          ap (λ (t : List ℕ). set t i (get_or name i 0)) h.put ∙ step i name before l (omega arith) ∙ ap (λ (k : ℕ). take k name ++ drop k before) (sym s);
-      within = omega arith;
-      long = length-set text i (get_or name i 0) ∙ h.long;
-    }
-  where
-    step : (i : ℕ) (name before : List ℕ) → i < length name → i < length before
-        → set (take i name ++ drop i before) i (get_or name i 0) ≡ take (suc i) name ++ drop (suc i) before
-    step i [] before l m = absurd (omega arith)
-    step i (x ∷ xs) [] l m = absurd (omega arith)
-    step zero (x ∷ xs) (y ∷ ys) l m = refl
-    step (suc i) (x ∷ xs) (y ∷ ys) l m = ap (λ (t : List ℕ). x ∷ t) (step i xs ys (omega arith) (omega arith))
-
-pub putting_end : {name before text : List ℕ} {i : ℕ} → Putting name before i text → length name ≤ i → text ≡ name ++ drop (length name) before
-putting_end {name} {before} {text} {i} h l =
-    let e : i ≡ length name = omega (arith, h.within) in
-    h.put ∙ ap (λ (k : ℕ). take k name ++ drop k before) e ∙ ap (λ (t : List ℕ). t ++ drop (length name) before) (take_all (length name) name (omega arith))
-
 -- the line that tells the length k of what follows
 abbrev row : ℕ → List ℕ
 row k = 0 ∷ 0 ∷ 0 ∷ 0 ∷ 0 ∷ 0 ∷ 0 ∷ k ∷ []

@@ -1,11 +1,12 @@
 // The text of a name as a reply: the reply to verb 5 of the pipe.
 #![tactic(auto)]
 
-ghost use Rattle.std.specs.Prelude.{◌≡◌, not, ◌++◌, ◌≤◌, eqb, length, drop};
+ghost use Rattle.std.specs.Prelude.{◌≡◌, ◌++◌, ◌≤◌, length, drop};
+ghost use Rattle.name_text.specs.Text.{of_entry};
 ghost use Rattle.report.specs.Report.{Begins};
 ghost use Rattle.name_reply.specs.Reply.{printed_name, RepliedOfName};
 
-use name_text::name_text;
+use name_text::{Whose, name_text};
 use report::LINE;
 use text::write_rows;
 
@@ -14,11 +15,7 @@ fn put_start(name: &[u8], text: &mut [u8])
     requires { length name.now ≤ length text.old }
     ensures { text.new ≡ name.now ++ drop (length name.now) text.old }
 {
-    let mut i: usize = 0;
-    while i < name.len() {
-        text[i] = name[i];
-        i += 1;
-    }
+    text[..name.len()].copy_from_slice(name);
 }
 
 // Writes the line of a report that refuses nothing and has no rows, with the length of a name in it, and then the name. Returns the number of bytes.
@@ -39,11 +36,11 @@ pub fn name_lent<'a>(
     words: &[u32],
     bytes: &'a [u8],
     names: &'a [u8],
-    whose: u32,
+    whose: Whose,
     number: u32,
     text: &mut [u8],
 ) -> usize
-    ensures { RepliedOfName words.now bytes.now names.now (not (eqb whose 0)) number
+    ensures { RepliedOfName words.now bytes.now names.now (of_entry whose) number
         text.old result text.new }
 {
     if text.len() < report::LONGEST {

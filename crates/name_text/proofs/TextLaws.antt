@@ -1,6 +1,7 @@
 -- Texts of names: the fixed and the listed names of a session as one list.
 use mathlib.Core.Path.{◌≡◌, refl, sym, ap, ◌∙◌}
 use mathlib.Core.Bool.{Bool, true, false, not, ◌&&◌, ◌||◌}
+use mathlib.Core.Logic.{◌⊎◌, inl, inr, ⊎_elim}
 use mathlib.Core.List.{List, [], ◌∷◌, ◌++◌}
 use Prim.Native.Nat.{ℕ, zero, suc, ◌+◌, ◌-◌, ◌<◌, ◌≤◌}
 use native.Mathlib.Omega.{arith}
@@ -14,6 +15,8 @@ use Rattle.definition.specs.Names.{Name, fixed, lead, listed, same_name, names_f
 use Rattle.definition.proofs.Lists.Tests.{T_true, true_of, and_left, and_right}
 use Rattle.names.proofs.Question.{fit_small}
 use Rattle.session.proofs.EntryLaws.{same_is}
+use Rattle.std.specs.Prelude.{min}
+use Rattle.names.proofs.Laws.{side}
 use Rattle.names.specs.Listed.{name_of}
 use Rattle.session.specs.Words.{whole, fixed_bytes, name_bytes, session_names_fit, name_text}
 use Rattle.name_text.specs.Text.{list_text, session_text}
@@ -46,12 +49,20 @@ listed_after (x ∷ y ∷ ys) b h = go (eqb x 10) (listed_after (y ∷ ys) b (rw
     go false e f = ap (lead x) e ∙ lead_after (listed (y ∷ ys)) (listed b) f
 
 -- the listed names of a session end where its bytes do, or before
-pub end_short : (n : List ℕ) (k : ℕ) → 168 ≤ length n → length n < 168 + k → take (length n - 168) (drop 168 n) ≡ take k (drop 168 n)
+end_short : (n : List ℕ) (k : ℕ) → 168 ≤ length n → length n < 168 + k → take (length n - 168) (drop 168 n) ≡ take k (drop 168 n)
 end_short n k l h =
     take_all (length n - 168) (drop 168 n) (omega (arith, length-drop 168 n)) ∙ sym (take_all k (drop 168 n) (omega (arith, length-drop 168 n)))
 
-pub end_long : (n : List ℕ) (k : ℕ) → take (168 + k - 168) (drop 168 n) ≡ take k (drop 168 n)
+end_long : (n : List ℕ) (k : ℕ) → take (168 + k - 168) (drop 168 n) ≡ take k (drop 168 n)
 end_long n k = let e : 168 + k - 168 ≡ k = omega arith in ap (λ (i : ℕ). take i (drop 168 n)) e
+
+-- where the listed names end
+pub list_until : (n : List ℕ) (s e : ℕ) → 168 ≤ length n → e ≡ min (168 + s) (length n) → (168 ≤ e) × (e ≤ length n) × (take (e - 168) (drop 168 n) ≡ take s (drop 168 n))
+list_until n s e h m = go (side (length n) (168 + s))
+  where
+    go : (length n < 168 + s) ⊎ (168 + s ≤ length n) → (168 ≤ e) × (e ≤ length n) × (take (e - 168) (drop 168 n) ≡ take s (drop 168 n))
+    go (inl l) = let z : e ≡ length n = omega arith in (omega arith, omega arith, ap (λ (k : ℕ). take (k - 168) (drop 168 n)) z ∙ end_short n s h l)
+    go (inr l) = let z : e ≡ 168 + s = omega arith in (omega arith, omega arith, ap (λ (k : ℕ). take (k - 168) (drop 168 n)) z ∙ end_long n s)
 
 module _ (w n : List ℕ) where
   abbrev list : List ℕ
@@ -72,10 +83,10 @@ module _ (w n : List ℕ) where
       (fit_small list (true_of b (and_right a b (and_left (a && b) c (T_true (a && b && c) e))))).0
 
   -- a number that names nothing
-  pub none_zero : (k : ℕ) → k ≡ 0 → [] ≡ session_text w n k
+  none_zero : (k : ℕ) → k ≡ 0 → [] ≡ session_text w n k
   none_zero k e = rw e
 
-  pub none_past : (k : ℕ) → 1048 < k → [] ≡ session_text w n k
+  none_past : (k : ℕ) → 1048 < k → [] ≡ session_text w n k
   none_past k h = by (session_names_fit whole w n) refl
     where
       by : (t : Bool) → session_names_fit whole w n ≡ t → [] ≡ (when eqb k 0 || not t then [] else get_or (fixed ++ listed list) (k - 1) [])
@@ -83,6 +94,9 @@ module _ (w n : List ℕ) where
           let past : length (fixed ++ listed list) ≤ k - 1 = omega (arith, length-append fixed (listed list), few e) in
           rw (ne_eqb k 0 (λ z. omega arith)) (sym (get_or-eq_default (fixed ++ listed list) [] past))
       by false e = rw (ne_eqb k 0 (λ z. omega arith))
+
+  pub none_out : (k : ℕ) → (1 ≤ k → 1048 < k) → [] ≡ session_text w n k
+  none_out k f = ⊎_elim (λ (l : k < 1). none_zero k (omega arith)) (λ (l : 1 ≤ k). none_past k (f l)) (side k 1)
 
   pub none_short : (k : ℕ) → length n < 168 → [] ≡ session_text w n k
   none_short k h = by (session_names_fit whole w n) refl
@@ -130,16 +144,15 @@ module _ (w n : List ℕ) where
           take_split (suc i) j [] = take-nil (suc i + j) ∙ sym (take-nil j)
           take_split (suc i) j (y ∷ l) = let q : suc i + j ≡ suc (i + j) = omega arith in ap (λ (m : ℕ). take m (y ∷ l)) q ∙ ap (λ (r : List ℕ). y ∷ r) (take_split i j l)
 
--- the whole: whose number, and which
-module _ (w n ns : List ℕ) (b k : ℕ) {x : List ℕ} where
-  pub of_session : b ≡ 0 → x ≡ session_text w n k → x ≡ name_text whole w n ns (not (eqb b 0)) k
-  of_session e h = h ∙ sym (rw e)
+-- the whole: a number of the session's bytes, or of the entry's list
+module _ (w n ns : List ℕ) (o : Bool) (k : ℕ) {x : List ℕ} where
+  pub of_session : (o && leb 25 k) ≡ false → x ≡ session_text w n k → x ≡ name_text whole w n ns o k
+  of_session e h = h ∙ sym (ap (λ (t : Bool). when t then (when names_fit ns then get_or (listed ns) (k - 25) [] else []) else session_text w n k) e)
 
-  pub of_fixed : (b ≡ 0 → ⊥) → k < 25 → x ≡ session_text w n k → x ≡ name_text whole w n ns (not (eqb b 0)) k
-  of_fixed f l h = h ∙ sym (rw (ne_eqb b 0 f, lt-leb 25 k l))
-
-  pub of_entry_lem : (b ≡ 0 → ⊥) → 25 ≤ k → x ≡ list_text ns k → x ≡ name_text whole w n ns (not (eqb b 0)) k
-  of_entry_lem f l h = h ∙ sym (rw (ne_eqb b 0 f, le-leb 25 k l))
+  pub of_entry_lem : (o && leb 25 k) ≡ true → x ≡ list_text ns k → x ≡ name_text whole w n ns o k
+  of_entry_lem e h =
+      h ∙ ap (λ (t : Bool). when names_fit ns then (when t then get_or (listed ns) (k - 25) [] else []) else []) (true_of (leb 25 k) (and_right o (leb 25 k) (T_true (o && leb 25 k) e)))
+      ∙ sym (ap (λ (t : Bool). when t then (when names_fit ns then get_or (listed ns) (k - 25) [] else []) else session_text w n k) e)
 
 -- the three tests of a session's names, of which the second asks the list l
 module _ (w n : List ℕ) {l : List ℕ} (e : l ≡ name_bytes whole w n) {x y : Bool} (ex : x ≡ same_name (take 168 n) fixed_bytes) (ey : y ≡ names_fit l) where

@@ -1,6 +1,6 @@
 -- Laws of name lists: a list is its first name and the rest, names by number, and a table of starts cuts a list into its names.
-use mathlib.Core.Path.{◌≡◌, refl, ap, ◌∙◌}
-use mathlib.Core.Bool.{Bool, true, false, ◌&&◌}
+use mathlib.Core.Path.{◌≡◌, refl, sym, ap, ◌∙◌}
+use mathlib.Core.Bool.{Bool, true, false, not, cond, ◌&&◌}
 use mathlib.Core.Logic.{◌⊎◌, inl, inr, ⊎_elim}
 use mathlib.Core.List.{List, [], ◌∷◌, ◌++◌}
 use Prim.Native.Nat.{ℕ, zero, suc, ◌+◌, ◌-◌, ◌<◌, ◌≤◌}
@@ -8,9 +8,14 @@ use native.Mathlib.Omega.{arith}
 use native.Mathlib.Numerals.{add-one}
 use lib.Dec.{eqb, leb, ltb}
 use lib.ListN.{length, get_or, take, drop, set, length-drop, drop_of_length-le}
-use lib.Seq.{drop-cons, drop-drop, length-take-le, take-suc-set, append_snoc}
+use lib.Seq.{drop-cons, drop-drop, take_all, length-take-le, take-suc-set, append_snoc}
 use borrow.Author.Tests.{ltb-true, ltb-false, eq-eqb, ne_eqb, le-leb, lt-leb}
-use Rattle.definition.specs.Basics.{when◌then◌else◌, all}
+use Rattle.std.specs.List.{position_or_len, list_all, slice_get}
+use Rattle.std.specs.Option.{unwrap_or, option_map}
+use Rattle.std.specs.Borrow.{Bor}
+use Rattle.std.proofs.lemmas.Option.{unwrap_or-slice_get}
+use Rattle.std.specs.Prelude.{min, Option, Some, None}
+use Rattle.definition.specs.Basics.{when◌then◌else◌, all, place, total}
 use Rattle.definition.specs.Names.{Name, listed, lead, names_ended}
 use Rattle.names.specs.Listed.{name_of, first_size, Ends, starts_from, starts}
 
@@ -45,6 +50,36 @@ store_last t k x h = rw (add-one, take-suc-set)
 pub store_next : {A : Type 0} (t : List A) (k : ℕ) (x : A) (l : List A) → k < length t → take (k + 1) (set t k x) ++ l ≡ take k t ++ x ∷ l
 store_next t k x l h = rw (store_last t k x h) (append_snoc (take k t) x l)
 
+-- `all` and `place` of the definition are the library's
+pub all_same : {A : Type 0} (p : A → Bool) (xs : List A) → all p xs ≡ list_all p xs
+all_same p [] = refl
+all_same p (x ∷ xs) = ap (λ (t : Bool). p x && t) (all_same p xs)
+
+pub place_same : {A : Type 0} (p : A → Bool) (xs : List A) → place p xs ≡ position_or_len p xs
+place_same p [] = refl
+place_same p (x ∷ xs) = go (p x) (place_same p xs)
+  where
+    go : (t : Bool) → place p xs ≡ position_or_len p xs → (when t then 0 else suc (place p xs)) ≡ cond (not t) (1 + position_or_len p xs) 0
+    go true e = refl
+    go false e = omega (arith, e)
+
+pub place_le : {A : Type 0} (p : A → Bool) (xs : List A) → place p xs ≤ length xs
+place_le p [] = omega arith
+place_le p (x ∷ xs) = shorter (p x) (place_le p xs)
+  where
+    shorter : (t : Bool) {m n : ℕ} → m ≤ n → (when t then 0 else suc m) ≤ suc n
+    shorter true l = omega arith
+    shorter false l = omega arith
+
+-- what `position` finds, or the length
+pub place_found : {A : Type 0} (p : A → Bool) (xs : List A)
+    → unwrap_or (cond (ltb (position_or_len p xs) (length xs)) (Some (position_or_len p xs)) None) (length xs) ≡ place p xs
+place_found p xs = rw (sym (place_same p xs)) (go (ltb (place p xs) (length xs)) refl)
+  where
+    go : (t : Bool) → ltb (place p xs) (length xs) ≡ t → unwrap_or (cond t (Some (place p xs)) None) (length xs) ≡ place p xs
+    go true e = refl
+    go false e = omega (arith, ltb-false (place p xs) (length xs) e, place_le p xs)
+
 -- The first name of a list.
 
 by_end : (t : Bool) (x : ℕ) (xs : List ℕ) → lead x (listed xs) ≡ (x ∷ take (first_size xs) xs) ∷ listed (drop (suc (first_size xs)) xs)
@@ -62,13 +97,46 @@ pub first_name : (xs : List ℕ) → 0 < length xs → listed xs ≡ take (first
 first_name [] h = absurd (omega arith)
 first_name (x ∷ xs) h = from_byte x xs
 
-shorter : (t : Bool) {m n : ℕ} → m ≤ n → (when t then 0 else suc m) ≤ suc n
-shorter true l = omega arith
-shorter false l = omega arith
-
 pub first_size_lem : (xs : List ℕ) → first_size xs ≤ length xs
-first_size_lem [] = omega arith
-first_size_lem (x ∷ xs) = shorter (eqb x 10) (first_size_lem xs)
+first_size_lem = place_le (λ x. eqb x 10)
+
+-- the same, as the iterator steps
+pub first_next : (xs : List ℕ) (e m : ℕ) → e ≡ first_size xs → m ≡ min (length xs) (e + 1) → 0 < length xs
+    → listed xs ≡ take e xs ∷ listed (take (length xs - m) (drop m xs))
+first_next xs e m p q h =
+    let rest : take (length xs - m) (drop m xs) ≡ drop (suc (first_size xs)) xs =
+    take_all (length xs - m) (drop m xs) (omega (arith, length-drop m xs)) ∙ drop_within (side (suc (first_size xs)) (length xs)) in
+    first_name xs h
+    ∙ ap (λ (n : ℕ). take n xs ∷ listed (drop (suc (first_size xs)) xs)) (sym p)
+    ∙ ap (λ (l : List ℕ). take e xs ∷ listed l) (sym rest)
+  where
+    drop_within : (suc (first_size xs) < length xs) ⊎ (length xs ≤ suc (first_size xs)) → drop m xs ≡ drop (suc (first_size xs)) xs
+    drop_within (inl l) = let z : m ≡ suc (first_size xs) = omega arith in ap (λ (k : ℕ). drop k xs) z
+    drop_within (inr l) = drop_of_length-le xs (omega arith) ∙ sym (drop_of_length-le xs l)
+
+lead_length : (x : ℕ) (l : List Name) → length (lead x l) ≤ suc (length l)
+lead_length x [] = omega arith
+lead_length x (n ∷ l) = omega arith
+
+-- at most as many names as bytes
+pub listed_few : (xs : List ℕ) → length (listed xs) ≤ length xs
+listed_few [] = omega arith
+listed_few (x ∷ xs) = go (eqb x 10) (listed_few xs)
+  where
+    go : (t : Bool) → length (listed xs) ≤ length xs → length (when t then [] ∷ listed xs else lead x (listed xs)) ≤ suc (length xs)
+    go true h = omega arith
+    go false h = omega (arith, lead_length x (listed xs))
+
+-- with an end each they take at most one byte more than the list
+pub listed_short : (xs : List ℕ) → total (λ n. length n + 1) (listed xs) ≤ length xs + 1
+listed_short [] = omega arith
+listed_short (x ∷ xs) = go (eqb x 10) (listed xs) (listed_short xs)
+  where
+    go : (t : Bool) (l : List Name) → total (λ n. length n + 1) l ≤ length xs + 1
+        → total (λ n. length n + 1) (when t then [] ∷ l else lead x l) ≤ suc (length xs) + 1
+    go true l h = omega arith
+    go false [] h = omega arith
+    go false (n ∷ l) h = omega arith
 
 -- from place i on, byte by byte
 module _ (w : List ℕ) (i : ℕ) where
@@ -139,6 +207,14 @@ module _ {w : List ℕ} {at e : ℕ} (n : Ends w at e) where
 
 pub name_of_lem : (w : List ℕ) (n : ℕ) → 25 ≤ n → get_or (listed w) (n - 25) [] ≡ name_of w n
 name_of_lem w n h = rw (le-leb 25 n h)
+
+-- the part that `nth` gives, or an empty one
+pub nth_named : (r : Option (Bor Name)) (d : Bor Name) (l : List Name) (k : ℕ) → option_map (λ n. n.now) r ≡ slice_get l k → d.now ≡ [] → (unwrap_or r d).now ≡ get_or l k []
+nth_named r d l k e z = cases r e ∙ unwrap_or-slice_get l k []
+  where
+    cases : (r : Option (Bor Name)) → option_map (λ n. n.now) r ≡ slice_get l k → (unwrap_or r d).now ≡ unwrap_or (slice_get l k) []
+    cases None e = z ∙ ap (λ (o : Option Name). unwrap_or o []) e
+    cases (Some x) e = ap (λ (o : Option Name). unwrap_or o []) e
 
 -- Tables of starts.
 

@@ -1,6 +1,6 @@
 -- Listed names by number, and the places at which they start in their bytes.
-use Rattle.std.specs.Prelude.{◌≡◌, List, [], ◌∷◌, ◌++◌, ℕ, suc, ◌+◌, ◌-◌, ◌<◌, ◌≤◌, length, get_or, drop, eqb, leb}
-use Rattle.definition.specs.Basics.{when◌then◌else◌}
+use Rattle.std.specs.Prelude.{◌≡◌, List, [], ◌∷◌, ◌++◌, ℕ, ◌+◌, ◌-◌, ◌<◌, ◌≤◌, length, get_or, drop, eqb, leb}
+use Rattle.definition.specs.Basics.{when◌then◌else◌, place}
 use Rattle.definition.specs.Names.{Name, fixed, listed}
 
 -- the listed name of number n, without its end; empty where n names nothing in the list
@@ -17,8 +17,7 @@ named l n = get_or l (n - 1) []
 
 -- how many bytes stand before the first end
 abbrev pub first_size : List ℕ → ℕ
-first_size [] = 0
-first_size (x ∷ xs) = when eqb x 10 then 0 else suc (first_size xs)
+first_size = place (λ x. eqb x 10)
 
 -- the name that starts at place `at` of the list ns ends at e: at its end byte, or with the list
 pub record Ends (ns : List ℕ) (at e : ℕ) : Type 0 where

@@ -3,8 +3,9 @@
 #![tactic(auto)]
 
 ghost use Rattle.std.specs.Prelude.{◌≡◌, ◌&&◌, [], ◌+◌, ◌<◌, ◌≤◌, length, get_or, take};
+ghost use Rattle.std.specs.Iterator.{YieldsFirstRef, item_count};
 ghost use Rattle.definition.specs.Names.{listed, same_name, names_few, names_sized, names_ended};
-ghost use Rattle.names.specs.Listed.{name_of, Ends, starts, numbered, named};
+ghost use Rattle.names.specs.Listed.{name_of, first_size, starts, numbered, named};
 
 use ast::{limit, name};
 
@@ -24,144 +25,154 @@ const FIXED_STARTS: [u32; 25] = [
     153, 158, 168,
 ];
 
-// Are the bytes of two names the same? They are compared from the last back: names that differ often begin alike.
+// Are the bytes of two names the same?
 pub fn same_name(a: &[u8], b: &[u8]) -> bool
     ensures { result ≡ same_name a.now b.now }
 {
-    if a.len() != b.len() {
-        return false;
-    }
-    let mut i = a.len();
-    while 0 < i {
-        i -= 1;
-        if a[i] != b[i] {
-            return false;
-        }
-    }
-    true
+    a == b
 }
 
-// Where the name that starts at `at` ends: at its end byte, or with the list.
-pub fn name_end(names: &[u8], at: usize) -> usize
-    requires { at < length names.now }
-    ensures { Ends names.now at result }
+// How many bytes the first name of a list has: it ends before its end byte, or with the list.
+fn first_end(names: &[u8]) -> usize
+    ensures { result ≡ first_size names.now }
 {
-    let mut i = at;
-    while i < names.len() {
-        if names[i] == END {
-            return i;
+    names
+        .iter()
+        .position(|&byte| byte == END)
+        .unwrap_or(names.len())
+}
+
+// The names of a list one after another, each without its end. What stands after the last end is one too.
+#[derive(Clone, Copy)]
+pub struct Names<'a>(pub &'a [u8]);
+
+impl<'a> Iterator for Names<'a> {
+    type Item = &'a [u8];
+
+    ghost next_gives = { YieldsFirstRef (λ left. listed left.0.now) };
+
+    ghost remaining = { item_count (λ left. listed left.0.now) };
+
+    #[tactic(auto, using(crate::proofs::Laws::first_next, crate::proofs::Laws::first_size_lem))]
+    fn next(&mut self) -> Option<&'a [u8]> {
+        let bytes = self.0;
+        if bytes.is_empty() {
+            return None;
         }
-        i += 1;
+        let end = first_end(bytes);
+        self.0 = &bytes[bytes.len().min(end + 1)..];
+        Some(&bytes[..end])
     }
-    i
 }
 
 // How many names are listed. What stands after the last end is one too.
+#[tactic(auto, using(crate::proofs::Laws::listed_few))]
 pub fn count_names(names: &[u8]) -> usize
     ensures { result ≡ length (listed names.now) }
 {
-    let mut at = 0;
-    let mut count = 0;
-    while at < names.len() {
-        at = name_end(names, at) + 1;
-        count += 1;
-    }
-    count
+    Names(names).count()
 }
 
 // The listed name of a number, without its end, as a part of the list; an empty part where the number names nothing in it.
 pub fn name_bytes(names: &[u8], number: u32) -> &[u8]
     ensures { result.now ≡ name_of names.now number }
 {
-    if number < FIRST_LISTED {
-        return &names[..0];
-    }
-    let mut left = number - FIRST_LISTED;
-    let mut at = 0;
-    while at < names.len() {
-        let end = name_end(names, at);
-        let next = end + 1;
-        if left == 0 {
-            return &names[at..end];
-        }
-        left -= 1;
-        at = next;
-    }
-    &names[..0]
+    let Some(place) = number.checked_sub(FIRST_LISTED) else {
+        return &[];
+    };
+    Names(names).nth(place as usize).unwrap_or(&[])
 }
 
 // Are the names few enough, and each neither empty nor too long?
 pub fn sizes_fit(names: &[u8]) -> bool
     ensures { result ≡ (names_few names.now && names_sized names.now) }
 {
-    let mut at = 0;
-    let mut seen = 0;
-    while at < names.len() {
-        let end = name_end(names, at);
-        if seen == limit::NAMES {
-            return false;
-        }
-        if end == at {
-            return false;
-        }
-        if end - at > limit::NAME_BYTES {
-            return false;
-        }
-        at = end + 1;
-        seen += 1;
-    }
-    true
+    count_names(names) <= limit::NAMES
+        && Names(names).all(|name| (1..=limit::NAME_BYTES).contains(&name.len()))
 }
 
 // Has the last name its end?
 pub fn is_ended(names: &[u8]) -> bool
     ensures { result ≡ names_ended names.now }
 {
-    if names.len() == 0 {
-        return true;
+    names.last().copied().unwrap_or(END) == END
+}
+
+// Names, and where each of them starts with the place past the last.
+#[derive(Clone, Copy)]
+pub struct NameTable<'a> {
+    pub names: &'a [u8],
+    pub table: &'a [u32],
+    ghost of_names: { table.now ≡ starts names.now },
+}
+
+// The fixed names by their places.
+const FIXED_NAMES: NameTable<'static> = NameTable {
+    names: &FIXED,
+    table: &FIXED_STARTS,
+};
+
+impl<'a> NameTable<'a> {
+    // Writes the table of some names into lent words.
+    pub fn write(names: &'a [u8], words: &'a mut [u32]) -> NameTable<'a>
+        requires short { length names.now ≤ 32768 }
+        requires room { length (listed names.now) < length words.old }
+        ensures { result.names.now ≡ names.now }
+    {
+        let count = find_starts(names, words);
+        NameTable {
+            names,
+            table: &words[..count + 1],
+        }
     }
-    names[names.len() - 1] == END
+
+    // How many names there are.
+    pub fn count(self) -> usize
+        ensures { result + 1 ≡ length self.entry.table.now }
+    {
+        self.table.len() - 1
+    }
+
+    // The name at place `k`.
+    pub fn name_at(self, k: usize) -> &'a [u8]
+        requires { k + 1 < length self.table.now }
+        ensures { result.now ≡ get_or (listed self.entry.names.now) k [] }
+    {
+        let start = self.table[k] as usize;
+        let end = self.table[k + 1] as usize - 1;
+        &self.names[start..end]
+    }
+
+    // The name of a number, fixed or listed here; a number above them all has the empty name.
+    pub fn named(self, number: u32) -> &'a [u8]
+        requires { 0 < number }
+        ensures { result.now ≡ named (numbered self.entry.names.now) number }
+    {
+        if number < FIRST_LISTED {
+            return FIXED_NAMES.name_at(number as usize - 1);
+        }
+        let k = (number - FIRST_LISTED) as usize;
+        if k + 1 < self.table.len() {
+            return self.name_at(k);
+        }
+        &[]
+    }
 }
 
 // Writes where each name starts and then the place past the last, and answers how many names there are.
-pub fn find_starts(names: &[u8], table: &mut [u32]) -> usize
+#[tactic(auto, using(crate::proofs::Laws::listed_short))]
+fn find_starts(names: &[u8], table: &mut [u32]) -> usize
     requires { (length names.now ≤ 32768) × (length (listed names.now) < length table.old) }
     ensures { (result ≡ length (listed names.now)) × (result < length table.old)
         × (take (result + 1) table.new ≡ starts names.now) }
 {
     let mut at: usize = 0;
-    let mut k: usize = 0;
-    while at < names.len() {
-        table[k] = at as u32;
-        let end = name_end(names, at);
-        at = end + 1;
-        k += 1;
+    let mut count: usize = 0;
+    for name in Names(names) {
+        table[count] = at as u32;
+        at += name.len() + 1;
+        count += 1;
     }
-    table[k] = at as u32;
-    k
-}
-
-// The name at place `k` of a list whose starts are in `table`.
-pub fn name_at<'a>(names: &'a [u8], table: &[u32], k: usize) -> &'a [u8]
-    requires { (table.now ≡ starts names.now) × (k + 1 < length table.now) }
-    ensures { result.now ≡ get_or (listed names.now) k [] }
-{
-    let start = table[k] as usize;
-    let end = table[k + 1] as usize - 1;
-    &names[start..end]
-}
-
-// Are these bytes the name of a number? `table` has the starts of the listed names. A number above them all has the empty name.
-pub fn is_name_of(name: &[u8], names: &[u8], table: &[u32], number: u32) -> bool
-    requires { (table.now ≡ starts names.now) × (0 < number) }
-    ensures { result ≡ same_name name.now (named (numbered names.now) number) }
-{
-    if number < FIRST_LISTED {
-        return same_name(name, name_at(&FIXED, &FIXED_STARTS, number as usize - 1));
-    }
-    let k = (number - FIRST_LISTED) as usize;
-    if k + 1 < table.len() {
-        return same_name(name, name_at(names, table, k));
-    }
-    name.len() == 0
+    table[count] = at as u32;
+    count
 }

@@ -18,6 +18,7 @@ use columns::{Way, rearrange};
 use fresh_session::fresh;
 use name_index::find_name;
 use name_place::name_place;
+use name_text::Whose;
 use order_units::order_units;
 use preview::preview;
 use prompt::enter;
@@ -84,9 +85,9 @@ pub extern "C" fn plush_find_name(names: &[u8], name: &[u8], found: &mut [u32]) 
     ensures { NameFound names.now name.now (length found.old) result found.new }
 {
     let x = find_name(names, name);
-    let told = [x.number, x.places];
-    write_fitted(&told, found);
-    x.number
+    let number = x.number.unwrap_or(0);
+    write_fitted(&[number, x.places], found);
+    number
 }
 
 // Makes the session in the lent words and bytes a fresh one.
@@ -162,7 +163,7 @@ pub extern "C" fn plush_name_text<'a>(
     ensures { NameTold words.now bytes.now names.now (not (eqb whose 0)) number
         (length place.old) result place.new }
 {
-    let x = name_place(words, bytes, names, whose, number);
+    let x = name_place(words, bytes, names, Whose::from(whose), number);
     let told = [x.list, x.start, x.length];
     write_fitted(&told, place);
     x.length

@@ -17,6 +17,7 @@ use find_text::find_lent;
 use fresh_session::fresh;
 use input::{fill, read_body};
 use name_reply::name_lent;
+use name_text::Whose;
 use order_text::order_lent;
 use preview_text::preview_lent;
 use request::broken::Broken;
@@ -47,7 +48,7 @@ fn reply(
         Verb::Enter => enter_lent(words, bytes, sheet, names, lent, text),
         Verb::Preview => preview_lent(words, bytes, sheet, names, lent, text),
         Verb::Withdraw => withdraw_lent(words, bytes, text),
-        Verb::NameText => name_lent(words, bytes, names, x, request.y, text),
+        Verb::NameText => name_lent(words, bytes, names, Whose::from(x), request.y, text),
         Verb::FindName => find_lent(names, sheet, text),
         Verb::OrderUnits => order_lent(sheet, names, lent, text),
         Verb::ToColumns => columns_lent(sheet, Way::ToColumns, lent, text),

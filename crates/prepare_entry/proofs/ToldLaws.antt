@@ -46,29 +46,19 @@ module _ (w n : List ℕ) (fit : session_fits whole w n ≡ true) where
   pub list_inside : 168 + get_or w 4 0 ≤ length n
   list_inside = omega (arith, leb→le (get_or w 4 0) 32768 (limits whole w n runs 3), leb→le (168 + 32768) (length n) (limits whole w n runs 8))
 
-  -- the part of the bytes that the names are read in
-  pub list_is : (m : ℕ) → m ≡ get_or w 4 0 → take (168 + m - 168) (drop 168 n) ≡ name_bytes whole w n
-  list_is m e =
-      let same : 168 + m - 168 ≡ get_or w 4 0 = omega (arith, e) in
-      ap (λ (k : ℕ). take k (drop 168 n)) same
-
-  pub list_good : {k : List ℕ} → k ≡ name_bytes whole w n → names_fit k ≡ true
-  list_good e = ap names_fit e ∙ list_fits whole w n runs
-
   pub list_all : {k : List ℕ} → k ≡ name_bytes whole w n → all_names (session_in whole w n) ≡ numbered k
   list_all e = listed_all ∙ ap numbered (sym e)
 
-  -- how many starts there are, by the names
-  pub starts_many : {k : ℕ} {t : List ℕ} → t ≡ starts l → k ≡ length t → k ≡ length (listed l) + 1
-  starts_many {k} {t} e h = omega (arith, h, first_new l t e, length-append fixed (listed l))
+  module _ {k : ℕ} {ns : List ℕ} (same : ns ≡ name_bytes whole w n) (counted : k ≡ length (listed ns) + 1) where
+    many : length (listed ns) ≡ length (listed (name_bytes whole w n))
+    many = ap (λ (l : List ℕ). length (listed l)) same
 
-  module _ {k : ℕ} (counted : k ≡ length (listed (name_bytes whole w n)) + 1) where
     pub starts_few : k ≤ 1025
-    starts_few = omega (arith, counted, (fit_small l (list_fits whole w n runs)).0)
+    starts_few = omega (arith, counted, many, (fit_small l (list_fits whole w n runs)).0)
 
     -- the first new number
     pub first_is : 24 + k ≡ suc (length (all_names (session_in whole w n)))
-    first_is = omega (arith, counted, ap length listed_all, length-append fixed (listed l))
+    first_is = omega (arith, counted, many, ap length listed_all, length-append fixed (listed l))
 
   pub first_few : {k : ℕ} → k ≡ suc (length (all_names (session_in whole w n))) → k ≤ 1049
   first_few e = omega (arith, e, ap length listed_all, length-append fixed (listed l), (fit_small l (list_fits whole w n runs)).0)
@@ -120,11 +110,11 @@ module _ (w n : List ℕ) (s : Sheet) (ns : List ℕ) {x : Prepared} {numbers : 
 
   pub prepared_told : (fit : session_fits whole w n ≡ true) → entry_no (get_or w 0 0) s ns ≡ 0 → x.no ≡ 0
       → NamesTold (session_in whole w n) ns x.names x.new x.bytes numbers
-      → {k : ℕ} {t : List ℕ} → t ≡ starts (name_bytes whole w n) → k ≡ length t → x.first ≡ 24 + k → PreparedFor w n s ns x numbers
+      → {k : ℕ} {l : List ℕ} → l ≡ name_bytes whole w n → k ≡ length (listed l) + 1 → x.first ≡ 24 + k → PreparedFor w n s ns x numbers
   prepared_told fit none zero told e h first =
       record {
         no = zero ∙ sym (rw fit none);
         told = λ z. all_told w s n ns fit none told;
         few = λ z. count_few w s n ns fit none told;
-        first = λ z. first ∙ first_is w n fit (starts_many w n fit e h);
+        first = λ z. first ∙ first_is w n fit e h;
       }

@@ -4,20 +4,17 @@
 
 ghost use Rattle.std.specs.Prelude.{◌≡◌, true, List, ℕ, ◌≤◌, length, get_or};
 ghost use Rattle.definition.specs.Outcome.{rows_fit};
-ghost use Rattle.names.specs.Listed.{starts, numbered};
-ghost use Rattle.name_index.specs.Index.{index_of};
-ghost use Rattle.session.specs.Words.{whole, name_bytes, session_fits};
+ghost use Rattle.session.specs.Words.{whole, session_fits};
 ghost use Rattle.session_outside.specs.Readable.{outside_size};
 ghost use Rattle.entry_ready.specs.Asked.{entry_no};
 ghost use Rattle.prepare_entry.specs.Told.{PreparedFor, Written};
 
-use ast::{name, question};
+use ast::name;
+use ast::question::Question;
 use entry_names::{entry_sheet, number_names};
 use entry_ready::ask_entry;
-use session::layout;
 use session_check::check_session;
 use session_outside::outside_words;
-use words::word_at;
 
 // The words of what a small session is to an entry: what is entered or previewed chooses its scratch space by them, and by its sheet.
 pub const SMALL_OUTSIDE: usize = 2048;
@@ -46,41 +43,6 @@ fn refused(no: u32) -> Prepared
     }
 }
 
-// The same as `prepare` in a session past question 23, with the starts of its listed names and their index.
-fn prepare_checked(
-    words: &[u32],
-    bytes: &[u8],
-    table: &[u32],
-    index: &[u32],
-    sheet: &[u32],
-    names: &[u8],
-    numbers: &mut [u32],
-) -> Prepared
-    requires { (session_fits whole words.now bytes.now ≡ true) × (table.now ≡ starts (name_bytes whole words.now bytes.now))
-        × (index.now ≡ index_of (numbered (name_bytes whole words.now bytes.now))) × (1024 ≤ length numbers.old) }
-    ensures { PreparedFor words.now bytes.now sheet.now names.now result numbers.new }
-{
-    if let Err(no) = ask_entry(words, sheet, names) {
-        return refused(no.number());
-    }
-    let end = layout::FIXED_BYTES + word_at(words, layout::NAME_BYTES) as usize;
-    let told = number_names(
-        &bytes[layout::FIXED_BYTES..end],
-        table,
-        index,
-        names,
-        numbers,
-    );
-    // The table has one start more than names are listed.
-    Prepared {
-        no: 0,
-        names: told.count,
-        new: told.new,
-        bytes: told.bytes,
-        first: (name::LAST_FIXED + table.len()) as u32,
-    }
-}
-
 // Asks session and entry what is asked before the walk, in the order of document 02, and tells the entry's names by the session's numbers.
 pub fn prepare(
     words: &[u32],
@@ -94,11 +56,20 @@ pub fn prepare(
 {
     let mut table = [0u32; 1025];
     let mut index = [0u32; 2048];
-    let count = check_session(words, bytes, &mut table, &mut index);
-    if count == 0 {
-        return refused(question::SESSION);
+    let Some(list) = check_session(words, bytes, &mut table, &mut index) else {
+        return refused(Question::Session.number());
+    };
+    if let Err(no) = ask_entry(words, sheet, names) {
+        return refused(no.number());
     }
-    prepare_checked(words, bytes, &table[..count], &index, sheet, names, numbers)
+    let told = number_names(list, names, numbers);
+    Prepared {
+        no: 0,
+        names: told.count,
+        new: told.new,
+        bytes: told.bytes,
+        first: (name::LAST_FIXED + 1 + list.listed.count()) as u32,
+    }
 }
 
 // Writes what the walk of an entry reads: what the session is to it, and its sheet with the session's name numbers.

@@ -14,6 +14,7 @@ ghost use Rattle.session_check.specs.Clauses.{means_right, is_fresh, Under, name
 ghost use Rattle.session_check.specs.Clauses.{class_right, classes_right, entry_right, entries_right, numbers_right};
 
 use ast::{code, name};
+use name_index::NameIndex;
 use session::layout;
 use session_rows::{
     class_number, count, count_at, count_before, is_function_of, is_function_up_to, is_name,
@@ -348,22 +349,24 @@ fn numbers_fit(words: &[u32], starts: &[u32]) -> bool
     entries_fit(words)
 }
 
-// All of question 23 but the names on show. Answers how many starts there are, one for each listed name and the place past the last; 0 if it gets a no.
-fn check_runs(words: &[u32], bytes: &[u8], starts: &mut [u32], index: &mut [u32]) -> usize
+// All of question 23 but the names on show. The listed names with their index, if it gets a yes.
+fn check_runs<'a>(
+    words: &[u32],
+    bytes: &'a [u8],
+    starts: &'a mut [u32],
+    index: &'a mut [u32],
+) -> Option<NameIndex<'a>>
     requires { (length starts.old ≡ 1025) × (index.old ≡ replicate 2048 0) }
-    ensures { RunsChecked words.now bytes.now result starts.new index.new }
+    ensures { RunsChecked words.now bytes.now result }
 {
     if !session_rows::counts_fit(words, bytes.len()) {
-        return 0;
+        return None;
     }
-    let count = session_names::read_names(words, bytes, starts, index);
-    if count == 0 {
-        return 0;
+    let list = session_names::read_names(words, bytes, starts, index)?;
+    if !numbers_fit(words, list.listed.table) {
+        return None;
     }
-    if !numbers_fit(words, starts) {
-        return 0;
-    }
-    count
+    Some(list)
 }
 
 // Is the number of names on show that of a full recount?
@@ -374,17 +377,19 @@ fn shown_fits(words: &[u32]) -> bool
     words::word_at(words, layout::SHOWN) == names_shown::count_shown(words)
 }
 
-// Question 23 of a session. Answers how many starts there are; 0 if the session is refused.
-pub fn check_session(words: &[u32], bytes: &[u8], starts: &mut [u32], index: &mut [u32]) -> usize
+// Question 23 of a session. Its listed names with their index, if it gets a yes.
+pub fn check_session<'a>(
+    words: &[u32],
+    bytes: &'a [u8],
+    starts: &'a mut [u32],
+    index: &'a mut [u32],
+) -> Option<NameIndex<'a>>
     requires { (length starts.old ≡ 1025) × (index.old ≡ replicate 2048 0) }
-    ensures { Checked words.now bytes.now result starts.new index.new }
+    ensures { Checked words.now bytes.now result }
 {
-    let count = check_runs(words, bytes, starts, index);
-    if count == 0 {
-        return 0;
-    }
+    let list = check_runs(words, bytes, starts, index)?;
     if !shown_fits(words) {
-        return 0;
+        return None;
     }
-    count
+    Some(list)
 }

@@ -1,24 +1,21 @@
 -- Rows written one after another.
 use mathlib.Core.Path.{◌≡◌, refl, sym, ap, ◌∙◌}
-use mathlib.Core.List.{List, [], ◌∷◌, ◌++◌}
-use Prim.Native.Nat.{ℕ, suc, ◌+◌, ◌*◌, ◌/◌, ◌<◌, ◌≤◌}
+use mathlib.Core.List.{List, [], ◌∷◌, ◌++◌, append_assoc}
+use Prim.Native.Nat.{ℕ, suc, ◌+◌, ◌-◌, ◌*◌, ◌/◌, ◌<◌, ◌≤◌}
 use native.Mathlib.Omega.{arith}
-use native.Mathlib.Numerals.{towards_suc}
-use lib.ListN.{length, set}
-use lib.Seq.{sets}
+use lib.ListN.{length, take, drop}
+use lib.Seq.{sets-eq, drop-drop}
 use borrow.Author.Tests.{lt-ltb, le-ltb}
 use Rattle.sink.specs.Sink.{Sink, sink, emit, emit_all}
 
-eight_stores : (w : List ℕ) (i a b c d e f : ℕ)
-    → set (set (set (set (set (set (set (set w i a) (i + 1) b) (i + 2) c) (i + 3) d) (i + 4) e) (i + 5) f) (i + 6) 0) (i + 7) 0 ≡ sets w i (a ∷ b ∷ c ∷ d ∷ e ∷ f ∷ 0 ∷ 0 ∷ [])
-eight_stores w i a b c d e f = simp towards_suc
-
 -- a row that fits, and one that does not
-pub emit_fits : (n : ℕ) (w : List ℕ) (a b c d e f : ℕ) → n < length w / 8
-    → sink (n + 1) (set (set (set (set (set (set (set (set w (8 * n) a) (8 * n + 1) b) (8 * n + 2) c) (8 * n + 3) d) (8 * n + 4) e) (8 * n + 5) f) (8 * n + 6) 0) (8 * n + 7) 0)
-    ≡ emit (a ∷ b ∷ c ∷ d ∷ e ∷ f ∷ 0 ∷ 0 ∷ []) (sink n w)
+pub emit_fits : (n : ℕ) (w v r : List ℕ) → n < length w / 8 → v ≡ r → length r ≡ 8
+    → sink (n + 1) (take (8 * n) w ++ (v ++ drop (8 * n + 8 - 8 * n) (drop (8 * n) w))) ≡ emit r (sink n w)
 unfolding emit
-emit_fits n w a b c d e f l = let z : n + 1 ≡ suc n = omega arith in rw (lt-ltb n (length w / 8) l, eight_stores w (8 * n) a b c d e f, z)
+emit_fits n w v r l same size =
+    let z : n + 1 ≡ suc n = omega arith in
+    let past : 8 * n + (8 * n + 8 - 8 * n) ≡ 8 * n + length r = omega (arith, size) in
+    rw (lt-ltb n (length w / 8) l, z, sets-eq r w (8 * n) (omega (arith, size)), same, drop-drop, past) (ap (sink (suc n)) (sym (append_assoc (take (8 * n) w) r (drop (8 * n + length r) w))))
 
 pub emit_full : (n : ℕ) (w : List ℕ) (r : List ℕ) → length w / 8 ≤ n → sink (length w / 8 + 1) w ≡ emit r (sink n w)
 unfolding emit

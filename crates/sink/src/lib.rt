@@ -5,7 +5,7 @@ ghost use Rattle.std.specs.Prelude.{◌≡◌, [], ◌∷◌};
 ghost use Rattle.sink.specs.Sink.{sink, emit as emitted};
 
 // An answer row: its sheet row, its code and up to four values.
-#[derive(Clone, Copy)]
+#[derive(Clone, Copy, Debug, PartialEq, Eq)]
 pub struct AnswerRow {
     pub row: u32,
     pub code: u32,
@@ -15,6 +15,15 @@ pub struct AnswerRow {
     pub four: u32,
 }
 
+// A row as it is stored.
+impl From<AnswerRow> for [u32; 8] {
+    ghost from_gives = { λ x words. words ≡ x.row ∷ x.code ∷ x.one ∷ x.two ∷ x.three ∷ x.four ∷ 0 ∷ 0 ∷ [] };
+
+    fn from(x: AnswerRow) -> [u32; 8] {
+        [x.row, x.code, x.one, x.two, x.three, x.four, 0, 0]
+    }
+}
+
 // One row more after `n` rows; the number of rows then, or one more than fit.
 pub fn emit(out: &mut [u32], n: usize, x: AnswerRow) -> usize
     ensures { sink result out.new
@@ -22,14 +31,7 @@ pub fn emit(out: &mut [u32], n: usize, x: AnswerRow) -> usize
 {
     let room = out.len() / 8;
     if n < room {
-        out[8 * n] = x.row;
-        out[8 * n + 1] = x.code;
-        out[8 * n + 2] = x.one;
-        out[8 * n + 3] = x.two;
-        out[8 * n + 4] = x.three;
-        out[8 * n + 5] = x.four;
-        out[8 * n + 6] = 0;
-        out[8 * n + 7] = 0;
+        out[8 * n..8 * n + 8].copy_from_slice(&<[u32; 8]>::from(x));
         return n + 1;
     }
     room + 1

@@ -22,7 +22,7 @@ fn ask_withdrawal(words: &[u32], bytes: &[u8]) -> u32
 {
     let mut table = [0u32; 1025];
     let mut index = [0u32; 2048];
-    if check_session(words, bytes, &mut table, &mut index) == 0 {
+    if check_session(words, bytes, &mut table, &mut index).is_none() {
         return question::SESSION;
     }
     if word_at(words, layout::ENTRIES) == 0 {

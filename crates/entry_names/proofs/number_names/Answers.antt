@@ -1,79 +1,48 @@
--- `number_names` meets its contract. Invariant: the names before `at` are numbered and counted. Assumes nothing.
-use mathlib.Core.Path.{ap, ◌∙◌}
-use Prim.Native.Nat.{◌+◌}
-use native.Mathlib.Omega.{arith}
-use lib.ListN.{length-set}
+-- `number_names` meets its contract. Invariant: the names before those that are left are numbered and counted. Assumes nothing.
+use Rattle.std.proofs.Common.{refl, ap, ◌∙◌, ◌≡◌, ◌+◌, arith, ℕ, suc, length, eqb, length-set}
+use Rattle.definition.specs.Names.{listed}
+use Rattle.names.specs.declared.Names.{Names}
+use Rattle.names.specs.Listed.{numbered}
 use Rattle.names.proofs.Laws.{table_size}
 use Rattle.names.proofs.Question.{fit_small}
-use Rattle.entry_names.proofs.NumberLaws.{first_new, passed_none, passed_few, passed_next, passed_all}
+use Rattle.name_index.specs.Index.{found_number}
+use Rattle.entry_names.specs.Told.{number_in, found_or}
+use Rattle.entry_names.proofs.NumberLaws.{first_new, find_number, found_next, found_none, passed_none, passed_few, passed_next, passed_all}
 use Rattle.entry_names.proofs.number_names.Goals as goal
 
-pub overflow_add-first_new : goal.overflow_add-first_new
-overflow_add-first_new c =
-    omega (arith, table_size c.args.list.now c.requires.1, (fit_small c.args.list.now c.requires.0).0)
-
-pub loop-at-init : goal.loop-at-init
-loop-at-init c = (omega arith, passed_none _ _ _)
-
-pub slice_bounds-number_of-count : goal.slice_bounds-number_of-count
-slice_bounds-number_of-count c = omega arith
-
-pub slice_bounds-number_of-start : goal.slice_bounds-number_of-start
-slice_bounds-number_of-start c = omega arith
-
-pub slice_bounds-number_of-end : goal.slice_bounds-number_of-end
-slice_bounds-number_of-end c = omega arith
-
-pub number_of-found-requires : goal.number_of-found-requires
-number_of-found-requires c = (c.requires.0, c.requires.1, c.requires.2)
-
-pub overflow_add-first_new-in-loop-at : goal.overflow_add-first_new-in-loop-at
-overflow_add-first_new-in-loop-at c =
-    let few = passed_few c.loop-at.invariant.1 c.name_end-end.ensures c.requires.3 in
-    omega (arith, table_size c.args.list.now c.requires.1, (fit_small c.args.list.now c.requires.0).0, few.1)
+pub loop-name-init : goal.loop-name-init
+loop-name-init c = record {
+  can = tt;
+  finite = tt;
+  size = refl;
+  passed = passed_none _ c.args.names.now _ c.args.numbers.now (ap (λ (it : Names). listed it.0.now) c.into_iter-name-iterator.ensures.into_iter_gives);
+}
 
 pub overflow_cast-first_new : goal.overflow_cast-first_new
 overflow_cast-first_new c =
-    let few = passed_few c.loop-at.invariant.1 c.name_end-end.ensures c.requires.3 in
-    omega (arith, table_size c.args.list.now c.requires.1, (fit_small c.args.list.now c.requires.0).0, few.1)
+    let few = passed_few c.loop-name.invariant.passed c.in-Some.name.now _ c.in-Some.ensures.steps c.requires.0 in
+    let list = c.args.list.listed in
+    omega (arith, c.count.ensures, table_size list.names.now list.of_names, (fit_small list.names.now c.args.list.fit).0, few.1)
 
-pub found_or-requires : goal.found_or-requires
-found_or-requires c = tt
-
-pub offset_bounds-numbers-k : goal.offset_bounds-numbers-k
-offset_bounds-numbers-k c =
-    omega (arith, (passed_few c.loop-at.invariant.1 c.name_end-end.ensures c.requires.3).0)
-
-pub bounds-numbers-k : goal.bounds-numbers-k
-bounds-numbers-k c =
-    omega (arith, (passed_few c.loop-at.invariant.1 c.name_end-end.ensures c.requires.3).0, c.loop-at.invariant.0, c.requires.4)
-
-pub overflow_sub-end : goal.overflow_sub-end
-overflow_sub-end c = omega arith
-
-pub counted-tally-requires : goal.counted-tally-requires
-counted-tally-requires c =
-    let few = passed_few c.loop-at.invariant.1 c.name_end-end.ensures c.requires.3 in
-    (omega (arith, few.0), few.1, few.2, few.3)
-
-pub overflow_add-at : goal.overflow_add-at
-overflow_add-at c = omega arith
-
-pub loop-at-smaller : goal.loop-at-smaller
-loop-at-smaller c = omega arith
-
-pub loop-at-preserved : goal.loop-at-preserved
-loop-at-preserved c =
+pub loop-name-preserved : goal.loop-name-preserved
+loop-name-preserved c =
+    let x = c.in-Some.name.now in
+    let ns = c.args.list.listed.names.now in
+    let few = passed_few c.loop-name.invariant.passed x _ c.in-Some.ensures.steps c.requires.0 in
     let counted = c.counted-tally.ensures in
-    let few = passed_few c.loop-at.invariant.1 c.name_end-end.ensures c.requires.3 in (
-      length-set c.loop-at.numbers c.loop-at.tally.count c.found_or.result ∙ c.loop-at.invariant.0,
-      passed_next c.loop-at.invariant.1 c.name_end-end.ensures c.number_of-found.ensures
-          (ap (λ k. k + c.loop-at.tally.new) (first_new c.args.list.now c.args.table.now c.requires.1))
-          c.found_or.ensures (omega (arith, few.0, c.loop-at.invariant.0, c.requires.4)) counted.0 counted.1 counted.2,
-    )
-
-pub shape_of-numbers : goal.shape_of-numbers
-shape_of-numbers c = c.loop-at.invariant.0
+    let same : c.find-found.result.number ≡ found_number (number_in (numbered ns) x) = c.find-found.ensures.0 ∙ ap found_number (find_number ns x c.args.list.fit) in
+    let first : 25 + c.count.result + c.loop-name.tally.new ≡ suc (length (numbered ns)) + c.loop-name.tally.new =
+    omega (arith, c.count.ensures, first_new ns c.args.list.listed.table.now c.args.list.listed.of_names) in
+    record {
+      can = tt;
+      finite = tt;
+      size = length-set c.loop-name.numbers c.loop-name.tally.count c.unwrap_or.result ∙ c.loop-name.invariant.size;
+      passed = passed_next c.loop-name.invariant.passed x _ c.in-Some.ensures.steps (found_none _ _ _ same c.is_none.ensures)
+          (c.unwrap_or.ensures ∙ found_next _ _ _ same ∙ ap (λ (k : ℕ). found_or k (number_in (numbered ns) x)) first)
+          (omega (arith, few.0, c.loop-name.invariant.size, c.requires.1)) counted.0 counted.1 counted.2;
+    }
 
 pub returns : goal.returns
-returns c = passed_all c.loop-at.invariant.1 c.loop-at-test.false c.requires.3
+returns c =
+    let left = c.in-None.ensures.steps in
+    passed_all c.loop-name.invariant.passed left.0 c.requires.0

@@ -1,35 +1,13 @@
--- `place_of` meets its contract. Invariant: the number is not among the first k. Assumes nothing.
-use mathlib.Core.Path.{ap}
-use native.Mathlib.Omega.{arith}
-use lib.Dec.{eqb}
-use lib.ListN.{drop_of_length-le}
-use Rattle.definition.specs.Basics.{place}
-use Rattle.entry_names.proofs.BackLaws.{place_here, place_on}
+-- `place_of` meets its contract. Assumes nothing.
+use Rattle.std.proofs.Common.{◌∙◌, ap, ℕ, eqb, length, rules, tests}
+use Rattle.std.specs.Option.{unwrap_or}
+use Rattle.std.specs.Prelude.{Option}
+use Rattle.std.proofs.lemmas.Iterator.{YieldsList-from_slice}
+use Rattle.std.proofs.lemmas.Iterator.Search.{position_from_yields_List}
+use Rattle.names.proofs.Laws.{place_found}
 use Rattle.entry_names.proofs.place_of.Goals as goal
-
-pub loop-k-init : goal.loop-k-init
-loop-k-init c = (omega arith, omega arith)
-
-pub offset_bounds-numbers-k : goal.offset_bounds-numbers-k
-offset_bounds-numbers-k c = omega arith
-
-pub bounds-numbers-k : goal.bounds-numbers-k
-bounds-numbers-k c = omega arith
-
-pub returns-then-numbers-k : goal.returns-then-numbers-k
-returns-then-numbers-k c =
-    omega (arith, c.loop-k.invariant.1, place_here c.args.numbers.now c.args.n c.loop-k.k c.loop-k-test.true c.if-numbers-k.true)
-
-pub overflow_add-k : goal.overflow_add-k
-overflow_add-k c = omega arith
-
-pub loop-k-smaller : goal.loop-k-smaller
-loop-k-smaller c = omega arith
-
-pub loop-k-preserved : goal.loop-k-preserved
-loop-k-preserved c =
-    (omega arith, omega (arith, c.loop-k.invariant.1, place_on c.args.numbers.now c.args.n c.loop-k.k c.loop-k-test.true c.if-numbers-k.false))
 
 pub returns : goal.returns
 returns c =
-    omega (arith, c.loop-k.invariant.1, ap (place (λ x. eqb x c.args.n)) (drop_of_length-le c.args.numbers.now c.loop-k-test.false))
+    let found = position_from_yields_List (λ x. eqb x c.args.n) c.position.new.self _ c.position.result c.position.ensures.ran (YieldsList-from_slice c.args.numbers.now cc) (λ x b q k. search (rules, tests)) in
+    c.unwrap_or.ensures ∙ ap (λ (o : Option ℕ). unwrap_or o (length c.args.numbers.now)) found ∙ place_found (λ x. eqb x c.args.n) c.args.numbers.now

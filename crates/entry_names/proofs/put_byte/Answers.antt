@@ -1,6 +1,6 @@
 -- `put_byte` meets its contract. Assumes nothing.
-use mathlib.Core.Path.{sym}
-use lib.Seq.{set_out}
+use Rattle.std.proofs.Common.{sym}
+use Rattle.std.proofs.Math.Seq.{set_out}
 use Rattle.entry_names.proofs.put_byte.Goals as goal
 
 pub returns-else-place-bytes : goal.returns-else-place-bytes

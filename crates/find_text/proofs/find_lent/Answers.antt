@@ -3,7 +3,7 @@ use mathlib.Core.Path.{sym, ap, ◌∙◌}
 use native.Mathlib.Omega.{arith}
 use lib.ListN.{length}
 use Rattle.report.proofs.Laws.{replied, replied_short}
-use Rattle.find_text.proofs.ReplyLaws.{row_length, printed_find_lem, replied_names}
+use Rattle.find_text.proofs.ReplyLaws.{printed_find_lem, replied_names}
 use Rattle.find_text.proofs.find_lent.Goals as goal
 
 pub returns-then-text-lt-LONGEST : goal.returns-then-text-lt-LONGEST
@@ -12,11 +12,11 @@ returns-then-text-lt-LONGEST c =
 
 pub slice_bounds-print_answer-end : goal.slice_bounds-print_answer-end
 slice_bounds-print_answer-end c =
-    sym (ap length c.found_words-words.ensures ∙ row_length _)
+    sym (ap length c.found_words-words.ensures)
 
 pub print_answer-requires : goal.print_answer-requires
 print_answer-requires c =
-    (omega (arith, ap length c.found_words-words.ensures ∙ row_length _), omega (arith, c.if-text-lt-LONGEST.false))
+    (omega (arith, ap length c.found_words-words.ensures), omega (arith, c.if-text-lt-LONGEST.false))
 
 pub returns : goal.returns
 returns c =

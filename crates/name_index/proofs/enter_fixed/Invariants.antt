@@ -1,13 +1,8 @@
 -- `name_index::enter_fixed` meets its contract. Invariant: the index is that of the first `k` fixed names. Assumes nothing.
-use mathlib.Core.Path.{◌≡◌}
-use Prim.Native.Nat.{◌-◌, ◌≤◌}
-use lib.ListN.{length, take}
+use Rattle.std.proofs.Common.{◌≡◌, length, take}
 use Rattle.definition.specs.Names.{fixed}
 use Rattle.name_index.specs.Index.{index_of}
 use Rattle.name_index.proofs.enter_fixed.Given as goal
 
 abbrev pub invariant-loop-k : goal.invariant-loop-k
-invariant-loop-k l = (l.k ≤ 24) × (length l.index ≡ 2048) × (l.index ≡ index_of (take l.k fixed))
-
-abbrev pub decreases-loop-k : goal.decreases-loop-k
-decreases-loop-k l = 24 - l.k
+invariant-loop-k l = (length l.index ≡ 2048) × (l.index ≡ index_of (take l.k fixed))

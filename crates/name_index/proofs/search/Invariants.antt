@@ -1,13 +1,8 @@
 -- `name_index::search` meets its contract. Invariant: the walk has passed the places read. Assumes nothing.
-use Prim.Native.Nat.{◌-◌, ◌≤◌}
 use Rattle.names.specs.Listed.{numbered}
 use Rattle.name_index.specs.Index.{turned}
 use Rattle.name_index.proofs.WalkLaws.{Passed}
 use Rattle.name_index.proofs.search.Given as goal
 
 abbrev pub invariant-loop-read : goal.invariant-loop-read
-invariant-loop-read l =
-    (l.read ≤ 2048) × Passed (numbered l.names) l.name (turned l.first l.index) l.read
-
-abbrev pub decreases-loop-read : goal.decreases-loop-read
-decreases-loop-read l = 2048 - l.read
+invariant-loop-read l = Passed (numbered l.listed.names.now) l.name (turned l.first l.index) l.read

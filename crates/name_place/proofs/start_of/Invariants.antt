@@ -1,11 +1,6 @@
--- `start_of` meets its contract. Invariant: the bytes passed and those before the names left are all. The measure is how many bytes are left. Assumes nothing.
-use Prim.Native.Nat.{◌-◌}
-use lib.ListN.{length}
+-- `start_of` meets its contract. Invariant: the bytes passed and those before the names left are all. Assumes nothing.
 use Rattle.name_place.proofs.PlaceLaws.{Seeking}
 use Rattle.name_place.proofs.start_of.Given as goal
 
 abbrev pub invariant-loop-at : goal.invariant-loop-at
 invariant-loop-at l = Seeking l.list l.k l.left l.at
-
-abbrev pub decreases-loop-at : goal.decreases-loop-at
-decreases-loop-at l = length l.list - l.at

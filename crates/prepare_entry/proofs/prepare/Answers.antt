@@ -1,20 +1,28 @@
-use mathlib.Core.Path.{sym}
-use native.Mathlib.Omega.{arith}
-use lib.Seq.{length-take-le}
-use Rattle.session_names.proofs.NameLaws.{listing_some, listing_none}
-use Rattle.prepare_entry.proofs.ToldLaws.{prepared_unfit}
+-- `prepare` meets its contract. Assumes nothing.
+use Rattle.std.proofs.Common.{refl, sym, ◌∙◌, ◌≡◌, ◌+◌, arith, length}
+use Rattle.definition.specs.Names.{listed}
+use Rattle.entry_ready.proofs.PastLaws.{passed}
+use Rattle.session.specs.Words.{whole, session_in}
+use Rattle.names.proofs.Laws.{table_size}
+use Rattle.prepare_entry.proofs.ToldLaws.{list_all, starts_few, prepared_told}
 use Rattle.prepare_entry.proofs.prepare.Goals as goal
 
-pub returns-then-count-eq0 : goal.returns-then-count-eq0
-returns-then-count-eq0 c =
-    prepared_unfit c.args.words.now c.args.bytes.now c.args.sheet.now c.args.names.now
-    (listing_none c.check_session-count.ensures c.if-count-eq0.true) c.refused.ensures
+pub number_names-told-requires : goal.number_names-told-requires
+number_names-told-requires c =
+    ((passed _ c.args.sheet.now c.args.names.now (sym c.in_default.ensures)).names_fit_lem, c.requires)
 
-pub slice_bounds-prepare_checked-end : goal.slice_bounds-prepare_checked-end
-slice_bounds-prepare_checked-end c =
-    sym (length-take-le c.check_session-count.result c.check_session-count.new.starts (omega (arith, c.check_session-count.ensures.few, c.check_session-count.auto.starts)))
+pub overflow_cast-result : goal.overflow_cast-result
+overflow_cast-result c =
+    let list = c.in-Some.list.listed in
+    let held = c.in-Some.ensures in
+    let counted : c.count.result + 1 ≡ length (listed list.names.now) + 1 = omega (arith, c.count.ensures, table_size list.names.now list.of_names) in
+    omega (arith, starts_few c.args.words.now c.args.bytes.now held.0 held.1 counted)
 
-pub prepare_checked-requires : goal.prepare_checked-requires
-prepare_checked-requires c =
-    let fit = listing_some c.check_session-count.ensures c.if-count-eq0.false in
-    (fit, c.check_session-count.ensures.started fit, c.check_session-count.ensures.held fit, c.requires)
+pub returns : goal.returns
+returns c =
+    let list = c.in-Some.list.listed in
+    let held = c.in-Some.ensures in
+    let counted : c.count.result + 1 ≡ length (listed list.names.now) + 1 = omega (arith, c.count.ensures, table_size list.names.now list.of_names) in
+    prepared_told c.args.words.now c.args.bytes.now c.args.sheet.now c.args.names.now held.0 (sym c.in_default.ensures) refl
+    (c.number_names-told.ensures (session_in whole c.args.words.now c.args.bytes.now) (list_all c.args.words.now c.args.bytes.now held.0 held.1))
+    held.1 counted (omega arith)

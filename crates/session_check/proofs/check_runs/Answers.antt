@@ -1,33 +1,22 @@
-use mathlib.Core.Path.{refl, sym, ◌∙◌}
+-- `check_runs` meets its contract. Assumes nothing.
+use Rattle.std.proofs.Common.{refl, sym, ap, not, ◌∙◌}
 use Rattle.session_check.proofs.WholeLaws.{counts_refuse, names_refuse, numbers_decide, limited, room}
-use Rattle.session_names.proofs.NameLaws.{listing_no, listing_some, listing_none, listing_also, start_bytes}
-use mathlib.Core.Path.{ap}
-use mathlib.Core.Bool.{not}
-use mathlib.Core.Path.{ap}
-use mathlib.Core.Bool.{not}
-use mathlib.Core.Path.{ap}
-use mathlib.Core.Bool.{not}
-use mathlib.Core.Path.{ap}
-use mathlib.Core.Bool.{not}
-use mathlib.Core.Path.{ap}
-use mathlib.Core.Bool.{not}
-use mathlib.Core.Path.{ap}
-use mathlib.Core.Bool.{not}
+use Rattle.session_names.proofs.NameLaws.{listing_no, start_bytes}
 use Rattle.session_check.proofs.check_runs.Goals as goal
 
 pub returns-then-not-counts_fit : goal.returns-then-not-counts_fit
 returns-then-not-counts_fit c =
-    listing_no (counts_refuse c.args.words.now c.args.bytes.now (c.counts_fit.ensures c.args.bytes.now refl) (ap not c.if-not-counts_fit.true))
+    counts_refuse c.args.words.now c.args.bytes.now (c.counts_fit.ensures c.args.bytes.now refl) (ap not c.if-not-counts_fit.true)
 
-pub read_names-count-requires : goal.read_names-count-requires
-read_names-count-requires c =
+pub read_names-requires : goal.read_names-requires
+read_names-requires c =
     let sizes = room c.args.words.now c.args.bytes.now (c.counts_fit.ensures c.args.bytes.now refl) (ap not c.if-not-counts_fit.false) in
     (sizes.0, sizes.1, c.requires.0, c.requires.1)
 
-pub returns-then-count-eq0 : goal.returns-then-count-eq0
-returns-then-count-eq0 c =
-    listing_no (names_refuse c.args.words.now c.args.bytes.now (c.counts_fit.ensures c.args.bytes.now refl) (ap not c.if-not-counts_fit.false)
-    (listing_none c.read_names-count.ensures c.if-count-eq0.true))
+pub returns-in_err-list : goal.returns-in_err-list
+returns-in_err-list c =
+    listing_no _ _ c.from_residual.ensures
+    (names_refuse c.args.words.now c.args.bytes.now (c.counts_fit.ensures c.args.bytes.now refl) (ap not c.if-not-counts_fit.false) c.in_err-list.ensures)
 
 pub numbers_fit-requires : goal.numbers_fit-requires
 numbers_fit-requires c =
@@ -35,15 +24,16 @@ numbers_fit-requires c =
 
 pub returns-then-not-numbers_fit : goal.returns-then-not-numbers_fit
 returns-then-not-numbers_fit c =
-    let fits = listing_some c.read_names-count.ensures c.if-count-eq0.false in
-    listing_no (numbers_decide c.args.words.now c.args.bytes.now (c.counts_fit.ensures c.args.bytes.now refl)
-    (ap not c.if-not-counts_fit.false) fits _ (start_bytes c.args.words.now c.args.bytes.now c.read_names-count.ensures fits)
-    ∙ sym c.numbers_fit.ensures ∙ c.if-not-numbers_fit.true)
+    let list = c.in_ok-list.ensures in
+    numbers_decide c.args.words.now c.args.bytes.now (c.counts_fit.ensures c.args.bytes.now refl)
+    (ap not c.if-not-counts_fit.false) list.0 _ (start_bytes c.args.words.now c.args.bytes.now list.1 c.in_ok-list.list.listed.of_names list.0)
+    ∙ sym c.numbers_fit.ensures ∙ c.if-not-numbers_fit.true
 
 pub returns : goal.returns
 returns c =
-    let fits = listing_some c.read_names-count.ensures c.if-count-eq0.false in
-    listing_also c.read_names-count.ensures fits
-    (numbers_decide c.args.words.now c.args.bytes.now (c.counts_fit.ensures c.args.bytes.now refl) (ap not c.if-not-counts_fit.false) fits _
-    (start_bytes c.args.words.now c.args.bytes.now c.read_names-count.ensures fits)
-    ∙ sym c.numbers_fit.ensures ∙ c.if-not-numbers_fit.false)
+    let list = c.in_ok-list.ensures in (
+      numbers_decide c.args.words.now c.args.bytes.now (c.counts_fit.ensures c.args.bytes.now refl)
+          (ap not c.if-not-counts_fit.false) list.0 _ (start_bytes c.args.words.now c.args.bytes.now list.1 c.in_ok-list.list.listed.of_names list.0)
+          ∙ sym c.numbers_fit.ensures ∙ c.if-not-numbers_fit.false,
+      list.1,
+    )

@@ -1,4 +1,4 @@
--- Of the three returns the first has a file out of range, the second a column to clamp.
+-- A file out of range gives nothing; any other is packed with its line and its clamped column.
 use Rattle.std.proofs.Common.{◌<◌, ◌≤◌, arith}
 use Rattle.lexer.proofs.Laws.{packed_in, packed_out}
 use Rattle.lexer.proofs.SrcPos.new.Goals as goal
@@ -6,8 +6,5 @@ use Rattle.lexer.proofs.SrcPos.new.Goals as goal
 pub returns-then-file_id-ge-MAX_FILES : goal.returns-then-file_id-ge-MAX_FILES
 returns-then-file_id-ge-MAX_FILES c = let h : 262144 ≤ c.args.file_id = omega arith in rw (packed_out _ _ _ h)
 
-pub returns-then-col_no-gt-MAX_COL_NO : goal.returns-then-col_no-gt-MAX_COL_NO
-returns-then-col_no-gt-MAX_COL_NO c = let h : c.args.file_id < 262144 = omega arith in rw (packed_in _ _ _ h) (omega arith)
-
 pub returns : goal.returns
-returns c = let h : c.args.file_id < 262144 = omega arith in rw (packed_in _ _ _ h) (omega arith)
+returns c = let h : c.args.file_id < 262144 = omega arith in rw (packed_in _ _ _ h) (omega (arith, c.min-column.ensures))
