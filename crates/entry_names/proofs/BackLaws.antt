@@ -4,12 +4,11 @@ use mathlib.Core.Bool.{Bool, true, false, not, ◌&&◌, ◌||◌, true≢false}
 use mathlib.Core.List.{List, [], ◌∷◌, ◌++◌}
 use Prim.Native.Nat.{ℕ, zero, suc, ◌+◌, ◌-◌, ◌<◌, ◌≤◌}
 use native.Mathlib.Omega.{arith}
-use lib.ListN.{length, get_or, drop, length-append}
+use lib.ListN.{length, get_or, length-append}
 use lib.Dec.{eqb}
 use borrow.Author.Tests.{eq-eqb, ne_eqb, not-true}
 use Rattle.definition.specs.Basics.{when◌then◌else◌, filter, any, unlike, place, concat_map}
 use Rattle.definition.specs.Names.{Name, fixed, listed, same_name, names_fit}
-use Rattle.names.proofs.Laws.{drop_step}
 use Rattle.session.specs.Session.{Session, all_names}
 use Rattle.session.specs.Entry.{own_names, new_names, names_with, to_entry}
 use Rattle.session.proofs.NameLaws.{same_turned, none_here, none_in, apart_here, place_own, names_apart_lem}

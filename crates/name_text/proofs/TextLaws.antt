@@ -9,7 +9,7 @@ use native.Mathlib.Numerals.{sub-one}
 use lib.ListN.{length, get_or, take, drop, length-append, length-take, length-drop, get_or-eq_default}
 use lib.Seq.{take_all, take-nil}
 use lib.Dec.{eqb, leb, T, leb→le}
-use borrow.Author.Tests.{ne_eqb, eqb-true, eqb-false, le-leb, lt-leb}
+use borrow.Author.Tests.{ne_eqb, eqb-true, eqb-false, le-leb}
 use Rattle.definition.specs.Basics.{when◌then◌else◌, all}
 use Rattle.definition.specs.Names.{Name, fixed, lead, listed, same_name, names_few, names_short, names_sized, names_ended, names_unlike, names_fit}
 use Rattle.definition.proofs.Lists.Tests.{T_true, true_of, and_left, and_right}

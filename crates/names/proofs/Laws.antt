@@ -9,14 +9,14 @@ use native.Mathlib.Numerals.{add-one}
 use lib.Dec.{eqb, leb, ltb}
 use lib.ListN.{length, get_or, take, drop, set, length-drop, drop_of_length-le}
 use lib.Seq.{drop-cons, drop-drop, take_all, length-take-le, take-suc-set, append_snoc}
-use borrow.Author.Tests.{ltb-true, ltb-false, eq-eqb, ne_eqb, le-leb, lt-leb}
+use borrow.Author.Tests.{ltb-true, ltb-false, le-leb}
 use Rattle.std.specs.List.{position_or_len, list_all, slice_get}
 use Rattle.std.specs.Option.{unwrap_or, option_map}
 use Rattle.std.specs.Borrow.{Bor}
 use Rattle.std.proofs.lemmas.Option.{unwrap_or-slice_get}
 use Rattle.std.specs.Prelude.{min, Option, Some, None}
 use Rattle.definition.specs.Basics.{when◌then◌else◌, all, place, total}
-use Rattle.definition.specs.Names.{Name, listed, lead, names_ended}
+use Rattle.definition.specs.Names.{Name, listed, lead}
 use Rattle.names.specs.Listed.{name_of, first_size, Ends, starts_from, starts}
 
 -- Lists and tests.
@@ -140,24 +140,8 @@ listed_short (x ∷ xs) = go (eqb x 10) (listed xs) (listed_short xs)
 
 -- from place i on, byte by byte
 module _ (w : List ℕ) (i : ℕ) where
-  size_step : i < length w → first_size (drop i w) ≡ (when eqb (get_or w i 0) 10 then 0 else suc (first_size (drop (i + 1) w)))
-  size_step h = rw (drop_step w i 0 h)
-
-  pub size_end : i < length w → get_or w i 0 ≡ 10 → first_size (drop i w) ≡ 0
-  size_end h e = size_step h ∙ ap (λ (t : Bool). when t then 0 else suc (first_size (drop (i + 1) w))) (eq-eqb _ _ e)
-
-  pub size_more : i < length w → (get_or w i 0 ≡ 10 → ⊥) → first_size (drop i w) ≡ suc (first_size (drop (i + 1) w))
-  size_more h f = size_step h ∙ ap (λ (t : Bool). when t then 0 else suc (first_size (drop (i + 1) w))) (ne_eqb _ _ f)
-
-  pub size_out : length w ≤ i → first_size (drop i w) ≡ 0
-  size_out l = ap first_size (drop_of_length-le w l)
-
   pub past_end : length w ≤ i → listed (drop i w) ≡ []
   past_end l = ap listed (drop_of_length-le w l)
-
-pub ended_none : (w : List ℕ) → length w ≡ 0 → names_ended w ≡ true
-ended_none [] e = refl
-ended_none (x ∷ w) e = absurd (omega arith)
 
 -- question 2's test of one name
 abbrev pub sized : Name → Bool
@@ -181,29 +165,6 @@ module _ {w : List ℕ} {at e : ℕ} (n : Ends w at e) where
   next_start =
       let q : at + length (take (e - at) (drop at w)) + 1 ≡ e + 1 = omega (arith, next_size) in
       ap (starts_from at) next_name ∙ ap (λ (p : ℕ). at ∷ starts_from p (listed (drop (e + 1) w))) q
-
-  -- by place, counted from this name
-  pub name_here : (k : ℕ) → k ≡ 0 → get_or (listed (drop at w)) k [] ≡ take (e - at) (drop at w)
-  name_here k z = ap (λ (j : ℕ). get_or (listed (drop at w)) j []) z ∙ ap (λ (l : List Name). get_or l 0 []) next_name
-
-  pub name_later : (k : ℕ) → (k ≡ 0 → ⊥) → get_or (listed (drop at w)) k [] ≡ get_or (listed (drop (e + 1) w)) (k - 1) []
-  name_later k f = ap (λ (l : List Name). get_or l k []) next_name ∙ get_or_past [] (take (e - at) (drop at w)) (listed (drop (e + 1) w)) k f
-
-  -- by size
-  sized_name : all sized (listed (drop at w)) ≡ (leb 1 (e - at) && leb (e - at) 255 && all sized (listed (drop (e + 1) w)))
-  sized_name = ap (all sized) next_name ∙ rw next_size
-
-  pub size_none : e ≡ at → all sized (listed (drop at w)) ≡ false
-  size_none h = let z : e - at ≡ 0 = omega arith in sized_name ∙ rw z
-
-  pub size_long : 255 < e - at → all sized (listed (drop at w)) ≡ false
-  size_long h =
-      sized_name ∙ ap (λ (t : Bool). t && all sized (listed (drop (e + 1) w))) (and_false (leb 1 (e - at)) (lt-leb (e - at) 255 h))
-
-  pub size_fits : (e ≡ at → ⊥) → e - at ≤ 255 → all sized (listed (drop at w)) ≡ all sized (listed (drop (e + 1) w))
-  size_fits f h =
-      let l : leb 1 (e - at) ≡ true = le-leb 1 (e - at) (omega arith) in
-      sized_name ∙ rw (l, le-leb (e - at) 255 h)
 
 pub name_of_lem : (w : List ℕ) (n : ℕ) → 25 ≤ n → get_or (listed w) (n - 25) [] ≡ name_of w n
 name_of_lem w n h = rw (le-leb 25 n h)

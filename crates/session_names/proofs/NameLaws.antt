@@ -11,7 +11,7 @@ use Rattle.std.specs.Prelude.{Option, Some, None}
 use Rattle.std.specs.Option.{is_some}
 use Rattle.name_index.specs.declared.NameIndex.{NameIndex}
 use Rattle.session_names.specs.Listing.{Listing}
-use Rattle.definition.specs.Basics.{when◌then◌else◌, concat_map}
+use Rattle.definition.specs.Basics.{concat_map}
 use Rattle.definition.specs.Names.{Name, listed, same_name, names_fit}
 use Rattle.definition.proofs.Lists.Tests.{T_true}
 use Rattle.names.specs.Listed.{starts_from, starts}

@@ -1,9 +1,9 @@
 -- `append_names` meets its contract. Invariant: of the names before those that are left the new ones are written; the rest follow from `to` on. Assumes nothing.
-use Rattle.std.proofs.Common.{refl, sym, ap, ◌∙◌, ◌≡◌, ◌+◌, ◌∷◌, arith, ℕ, [], List, length}
+use Rattle.std.proofs.Common.{refl, sym, ap, ◌∙◌, ◌≡◌, ◌+◌, ◌∷◌, arith, List, length}
 use Rattle.std.proofs.lemmas.List.Edits.{sets}
 use Rattle.definition.specs.Basics.{total}
 use Rattle.definition.specs.Names.{Name, listed}
-use Rattle.names.proofs.Laws.{listed_short, listed_few}
+use Rattle.names.proofs.Laws.{listed_short}
 use Rattle.names.proofs.Question.{fit_small}
 use Rattle.names.specs.declared.Names.{Names}
 use Rattle.entry_names.specs.Told.{new_bytes}

@@ -1,5 +1,5 @@
 -- `number_names` meets its contract. Invariant: the names before those that are left are numbered and counted. Assumes nothing.
-use Rattle.std.proofs.Common.{refl, ap, ◌∙◌, ◌≡◌, ◌+◌, arith, ℕ, suc, length, eqb, length-set}
+use Rattle.std.proofs.Common.{refl, ap, ◌∙◌, ◌≡◌, ◌+◌, arith, ℕ, suc, length, length-set}
 use Rattle.definition.specs.Names.{listed}
 use Rattle.names.specs.declared.Names.{Names}
 use Rattle.names.specs.Listed.{numbered}

@@ -1,5 +1,5 @@
 -- `start_of` meets its contract. Invariant: the bytes passed and those before the names left are all. Assumes nothing.
-use Rattle.std.proofs.Common.{arith, sym, ◌∙◌}
+use Rattle.std.proofs.Common.{arith}
 use Rattle.name_place.proofs.PlaceLaws.{seeking_start, seeking_more, seeking_found, seeking_end}
 use Rattle.name_place.proofs.start_of.Goals as goal
 

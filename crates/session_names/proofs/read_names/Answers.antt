@@ -1,5 +1,5 @@
 -- `read_names` meets its contract. Assumes nothing.
-use Rattle.std.proofs.Common.{ap, sym, not, arith, refl}
+use Rattle.std.proofs.Common.{ap, not, arith}
 use Rattle.names.proofs.Laws.{table_size}
 use Rattle.session_names.proofs.NameLaws.{listing_no, fixed_no, list_no, names_no, names_yes}
 use Rattle.session_names.proofs.read_names.Goals as goal
