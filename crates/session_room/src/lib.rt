@@ -44,7 +44,12 @@ pub fn has_room(words: &[u32], added: Added) -> bool
 {
     is_within(words, layout::NAMES, added.names, limit::NAMES)
         && is_within(words, layout::NAME_BYTES, added.bytes, limit::LIST_BYTES)
-        && is_within(words, layout::DECLARATIONS, added.laid, layout::MOST_DECLARATIONS)
+        && is_within(
+            words,
+            layout::DECLARATIONS,
+            added.laid,
+            layout::MOST_DECLARATIONS,
+        )
         && is_within(words, layout::CLASSES, added.classes, layout::MOST_CLASSES)
         && is_within(words, layout::MEMBERS, added.members, layout::MOST_MEMBERS)
         && is_within(words, layout::ENTRIES, 1, layout::MOST_ENTRIES)
