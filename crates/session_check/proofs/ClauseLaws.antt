@@ -51,10 +51,6 @@ module _ (w : List ℕ) (e i : ℕ) where
   name_is : {a l : ℕ} {t : Bool} → a ≡ get_or w p 0 → l ≡ last_name w e → t ≡ (leb 1 a && leb a l) → t ≡ is_name_up_to whole w [] e (get_or w p 0)
   name_is {a} q r s = s ∙ ap (λ (x : ℕ). leb 1 a && leb a x) r ∙ ap (λ (x : ℕ). leb 1 x && leb x (last_name w e)) q
 
-  pub laid_no : {a l : ℕ} {t : Bool} → a ≡ get_or w p 0 → l ≡ last_name w e → t ≡ (leb 1 a && leb a l) → not t ≡ true → false ≡ laid_fits whole w [] e i
-  laid_no {t = t} q r s n =
-      ap (λ (x : Bool). x && means_right w e (get_or w (p + 1) 0) (get_or w (p + 2) 0) (get_or w (p + 3) 0)) (sym (not-true t n) ∙ name_is q r s) ∙ sym laid_means
-
   pub laid_yes : {a l k x m : ℕ} {t u : Bool} → a ≡ get_or w p 0 → l ≡ last_name w e → t ≡ (leb 1 a && leb a l) → not t ≡ false
       → k ≡ get_or w (p + 1) 0 → x ≡ get_or w (p + 2) 0 → m ≡ get_or w (p + 3) 0 → u ≡ means_right w e k x m → u ≡ laid_fits whole w [] e i
   laid_yes {k = k} {x = x} {m = m} {t = t} q r s n a b c d =
