@@ -217,9 +217,7 @@ fn class_fits(words: &[u32], e: usize, i: usize, first: usize, marks: &mut [u32]
         layout::CLASS_ROWS + layout::CLASS_WORDS * i + layout::CLASS_NAME,
     );
     let last = last_name(words, e);
-    is_name(name, last)
-        && parent_fits(words, e, i)
-        && members_fit(words, e, last, i, first, marks)
+    is_name(name, last) && parent_fits(words, e, i) && members_fit(words, e, last, i, first, marks)
 }
 
 // How many members class i has.
