@@ -19,7 +19,8 @@ ghost use Rattle.session.specs.Enter.{classes_by};
 ghost use Rattle.session.specs.Words.{class_words, member_words};
 ghost use Rattle.entry_classes.specs.Told.{class_of, member_of, row_fits, tells_class, tells_member, method_told, told_member, told_class, member_in, class_in};
 
-use ast::{ClassId, FIRST_CLASS, code, column};
+use ast::code::Code;
+use ast::{ClassId, FIRST_CLASS, column};
 use inherit::{find_method, parent_of};
 use raise::{raised_class, raised_function};
 use session::layout;
@@ -28,7 +29,7 @@ use walk::state::Walk;
 use words::{put_words, word};
 
 // A class: its number and name, its parent's number or 0, how many fields and methods it has.
-#[derive(Clone, Copy)]
+#[derive(Clone, Copy, Debug, PartialEq, Eq)]
 pub struct Class {
     pub number: u32,
     pub name: u32,
@@ -38,7 +39,7 @@ pub struct Class {
 }
 
 // A field or a method: its name, and a method's function and parameters; 0 and 0 of a field.
-#[derive(Clone, Copy)]
+#[derive(Clone, Copy, Debug, PartialEq, Eq)]
 pub struct Member {
     pub name: u32,
     pub fun: u32,
@@ -60,24 +61,17 @@ const FIELDS: usize = 4;
 const METHODS: usize = 5;
 
 // How many classes, and how many fields and methods of theirs.
-#[derive(Clone, Copy)]
+#[derive(Clone, Copy, Debug, PartialEq, Eq)]
 pub struct Counted {
     pub classes: usize,
     pub members: usize,
-}
-
-// 1 if a test passes.
-fn one_if(test: bool) -> usize
-    ensures { result ≡ bit test }
-{
-    if test { 1 } else { 0 }
 }
 
 // Does an answer row of this code tell a field or a method?
 fn is_member(c: u32) -> bool
     ensures { result ≡ (eqb c 23 || eqb c 24) }
 {
-    c == code::FIELD || c == code::METHOD
+    c == Code::Field as u32 || c == Code::Method as u32
 }
 
 // Counts the classes of an entry and their members in its answer rows.
@@ -88,12 +82,10 @@ pub fn count_classes(out: &[u32], rows: usize) -> Counted
 {
     let mut classes: usize = 0;
     let mut members: usize = 0;
-    let mut i: usize = 0;
-    while i < rows {
+    for i in 0..rows {
         let c = out[8 * i + CODE];
-        classes += one_if(c == code::CLASS_COUNTS);
-        members += one_if(is_member(c));
-        i += 1;
+        classes += (c == Code::ClassCounts as u32) as usize;
+        members += is_member(c) as usize;
     }
     Counted {
         classes: classes,
@@ -130,7 +122,7 @@ fn member_of(sheet: &[u32], outside: &[u32], results: &[u32], row: &[u32], base:
     ensures { (o : Store) (nodes : List ℕ) → member_of result
         ≡ told_member (over outside.now) sheet.now (store_of o results.now nodes) base row.now }
 {
-    if row[CODE] == code::FIELD {
+    if row[CODE] == Code::Field as u32 {
         return Member {
             name: row[SECOND],
             fun: 0,
@@ -214,7 +206,7 @@ fn append_class(
         × ((o : Store) (nodes : List ℕ) → words.new ≡ sets words.old place
         (class_in sheet.now (store_of o results.now nodes) base row.now)) }
 {
-    if row[CODE] != code::CLASS_COUNTS {
+    if row[CODE] != Code::ClassCounts as u32 {
         return 0;
     }
     put_class(words, place, class_of(sheet, results, row, base));
@@ -237,9 +229,8 @@ fn append_members(
     ensures { (o : Store) (nodes : List ℕ) → words.new ≡ sets words.old place
         (concat_map (member_in (over outside.now) sheet.now (store_of o results.now nodes) base) (rows_of_words rows out.now)) }
 {
-    let mut i: usize = 0;
     let mut p = place;
-    while i < rows {
+    for i in 0..rows {
         p += append_member(
             words,
             p,
@@ -249,7 +240,6 @@ fn append_members(
             &out[8 * i..8 * i + 8],
             base,
         );
-        i += 1;
     }
 }
 
@@ -267,11 +257,9 @@ fn append_heads(
     ensures { (o : Store) (nodes : List ℕ) → words.new ≡ sets words.old place
         (concat_map (class_in sheet.now (store_of o results.now nodes) base) (rows_of_words rows out.now)) }
 {
-    let mut i: usize = 0;
     let mut p = place;
-    while i < rows {
+    for i in 0..rows {
         p += append_class(words, p, sheet, results, &out[8 * i..8 * i + 8], base);
-        i += 1;
     }
 }
 

@@ -6,8 +6,8 @@ use Prim.Native.Nat.{ℕ, suc, ◌+◌, ◌-◌, ◌*◌, ◌<◌, ◌≤◌}
 use native.Mathlib.Omega.{arith}
 use lib.ListN.{length, length-append}
 use lib.Seq.{sets, length-sets}
-use lib.Dec.{eqb, leb}
-use borrow.Author.Tests.{eq-eqb, ne_eqb, le-leb, lt-leb}
+use lib.Dec.{eqb, leb, ltb}
+use borrow.Author.Tests.{ne_eqb, le-leb, lt-leb, ltb-true, ltb-false}
 use Rattle.definition.specs.Basics.{when◌then◌else◌, bit, concat_map}
 use Rattle.definition.specs.Sheet.{Sheet, b}
 use Rattle.definition.specs.Meaning.{Meaning, Named, named, nothing, function, class, global, toplevel, variable}
@@ -53,6 +53,13 @@ mark_left s n v i h = rw (le-leb (entry_word v i 0) 1 h)
 pub name_left : (s : Sheet) (n : ℕ) (v : List ℕ) (i : ℕ) → 1 < entry_word v i 0
     → left_in s n v i ≡ named (entry_word v i 1) (left_by s n (entry_word v i 0) (entry_word v i 2) (entry_word v i 3)) ∷ []
 name_left s n v i h = rw (lt-leb (entry_word v i 0) 1 h)
+
+pub count_left : (s : Sheet) (n : ℕ) (v : List ℕ) (i : ℕ) {t : ℕ} → t ≡ entry_word v i 0 → bit (ltb 1 t) ≡ length (left_in s n v i)
+count_left s n v i {t} e = ap (λ (x : ℕ). bit (ltb 1 x)) e ∙ go (ltb 1 (entry_word v i 0)) refl
+  where
+    go : (a : Bool) → ltb 1 (entry_word v i 0) ≡ a → bit (ltb 1 (entry_word v i 0)) ≡ length (left_in s n v i)
+    go true e = ap bit e ∙ sym (ap length (name_left s n v i (ltb-true 1 (entry_word v i 0) e)))
+    go false e = ap bit e ∙ sym (ap length (mark_left s n v i (ltb-false 1 (entry_word v i 0) e)))
 
 module _ (s : Sheet) (n : ℕ) (v : List ℕ) (i e : ℕ) where
   -- from open entry i on, up to entry e
@@ -151,13 +158,6 @@ module _ {v : List ℕ} {first end : ℕ} where
 
     pub counting_end : end ≤ i → (s : Sheet) (n : ℕ) → c ≡ length (left_from s n v first (end - first))
     counting_end l s n = omega (arith, ap length (left_end s n v i end l), h.counts s n)
-
--- a test as a number, by its outcome
-pub bit_one : {n k : ℕ} → n ≡ k → 1 ≡ bit (eqb n k)
-bit_one {n} {k} e = rw (eq-eqb n k e)
-
-pub bit_none : {n k : ℕ} → (n ≡ k → ⊥) → 0 ≡ bit (eqb n k)
-bit_none {n} {k} f = rw (ne_eqb n k f)
 
 -- what is written of open entry i, and how many words
 module _ (s : Sheet) (n : ℕ) (v : List ℕ) (i : ℕ) (w : List ℕ) (p : ℕ) where

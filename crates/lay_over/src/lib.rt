@@ -11,14 +11,15 @@ ghost use Rattle.session.specs.Words.{laid_words};
 ghost use Rattle.entry_walk.specs.Laid.{left_by, left_in, left_from};
 ghost use Rattle.lay_over.specs.LaidWords.{laid_of};
 
-use ast::{code, column, flag};
+use ast::code::Code;
+use ast::{column, flag};
 use raise::{raised_class, raised_function};
 use symbols::env::entry_word;
 use symbols::{entry, tag};
 use words::{put_words, word};
 
 // A declaration laid over: its name, the code of what it means, the number of that, 1 if it is mutable.
-#[derive(Clone, Copy)]
+#[derive(Clone, Copy, Debug, PartialEq, Eq)]
 pub struct Laid {
     pub name: u32,
     pub code: u32,
@@ -30,11 +31,7 @@ pub struct Laid {
 fn mutable_let(sheet: &[u32], row: u32) -> u32
     ensures { result ≡ bit (eqb (b sheet.now row) 1) }
 {
-    if word(sheet, row, column::B) == flag::MUTABLE {
-        1
-    } else {
-        0
-    }
+    (word(sheet, row, column::B) == flag::MUTABLE) as u32
 }
 
 // What open entry `i`, which is no mark, means to later entries.
@@ -49,31 +46,31 @@ fn left_at(sheet: &[u32], entries: &[u32], i: u32, base: u32) -> Laid
     match entry_word(entries, i, entry::TAG) {
         tag::FUN => Laid {
             name: name,
-            code: code::FUN,
+            code: Code::Fun as u32,
             number: raised_function(base, first),
             mutable: 0,
         },
         tag::CLASS => Laid {
             name: name,
-            code: code::CLASS,
+            code: Code::Class as u32,
             number: raised_class(base, first),
             mutable: 0,
         },
         tag::GLOBAL => Laid {
             name: name,
-            code: code::GLOBAL,
+            code: Code::Global as u32,
             number: first,
             mutable: second,
         },
         tag::TOPLEVEL => Laid {
             name: name,
-            code: code::GLOBAL,
+            code: Code::Global as u32,
             number: second,
             mutable: mutable_let(sheet, first),
         },
         _ => Laid {
             name: name,
-            code: 0,
+            code: Code::Nothing as u32,
             number: 0,
             mutable: 0,
         },
@@ -92,21 +89,16 @@ fn put_laid(words: &mut [u32], place: usize, d: Laid)
 fn count_left(entries: &[u32], i: u32) -> u32
     ensures { (s : Sheet) (n : ℕ) → result ≡ length (left_in s n entries.now i) }
 {
-    if entry_word(entries, i, entry::TAG) <= tag::SCOPE {
-        return 0;
-    }
-    1
+    (tag::SCOPE < entry_word(entries, i, entry::TAG)) as u32
 }
 
 // How many declarations the open entries from `first` to `end` leave.
 pub fn count_laid(entries: &[u32], first: u32, end: u32) -> u32
     ensures { (s : Sheet) (n : ℕ) → result ≡ length (left_from s n entries.now first (end - first)) }
 {
-    let mut i = first;
     let mut count: u32 = 0;
-    while i < end {
+    for i in first..end {
         count += count_left(entries, i);
-        i += 1;
     }
     count
 }
@@ -145,10 +137,8 @@ pub fn append_laid(
     ensures { words.new
         ≡ sets words.old place (concat_map laid_words (left_from sheet.now base entries.now first (end - first))) }
 {
-    let mut i = first;
     let mut p = place;
-    while i < end {
+    for i in first..end {
         p += put_left(words, p, sheet, entries, i, base);
-        i += 1;
     }
 }

@@ -35,10 +35,8 @@ fn count_declared(session: &[u32], marks: &mut [u32]) -> u32
         ≡ length (firsts marks.old (names_below session.now (get_or session.now 5 0)))) }
 {
     let mut count: u32 = 0;
-    let mut left = word_at(session, layout::DECLARATIONS) as usize;
-    while 0 < left {
-        left -= 1;
-        let place = layout::DECLARATION_ROWS + layout::DECLARATION_WORDS * left;
+    for i in (0..word_at(session, layout::DECLARATIONS) as usize).rev() {
+        let place = layout::DECLARATION_ROWS + layout::DECLARATION_WORDS * i;
         count += mark_name(word_at(session, place), marks);
     }
     count
@@ -49,9 +47,7 @@ fn count_core(marks: &mut [u32]) -> u32
     ensures { (result ≤ 9) × (result ≡ length (firsts marks.old core.names)) }
 {
     let mut count: u32 = 0;
-    let mut name: u32 = 0;
-    while name < LAST_CORE {
-        name += 1;
+    for name in 1..=LAST_CORE {
         count += mark_name(name, marks);
     }
     count

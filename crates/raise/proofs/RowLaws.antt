@@ -1,61 +1,40 @@
 -- One row raised in place, by its code; then the rows of words, one after another.
 use mathlib.Core.Path.{◌≡◌, refl, sym, ap, ◌∙◌, subst}
 use mathlib.Core.Logic.{◌⊎◌, inl, inr}
-use mathlib.Core.Bool.{Bool, true, false, ◌||◌}
+use mathlib.Core.Bool.{◌||◌}
 use mathlib.Core.List.{List, ◌++◌, map, append_assoc}
 use Prim.Native.Nat.{ℕ, zero, suc, ◌+◌, ◌-◌, ◌*◌, ◌<◌, ◌≤◌}
 use native.Mathlib.Omega.{arith}
-use borrow.Author.Tests.{eqb-true, eqb-false, ne_eqb, ltb-true}
+use borrow.Author.Tests.{ne_eqb, ltb-true}
 use borrow.Rule.Slice.PartMut.{put_mid, post_of, drop_put}
 use lib.Dec.{eqb, ltb, T}
-use lib.ListN.{length, get_or, set, take, drop, take-append-drop, length-append, length-drop}
+use lib.ListN.{length, get_or, take, drop, take-append-drop, length-append, length-drop}
 use lib.Seq.{take_at, drop-drop, length-take-le}
 use Rattle.definition.specs.Basics.{◌⇒◌, all, concat_map}
-use Rattle.definition.specs.Answer.{raised_function, raised_class, raised_row}
+use Rattle.definition.specs.Answer.{raised_row}
 use Rattle.definition.proofs.Lists.Tests.{true_of, T_and}
+use Rattle.ast.specs.Code.{code_number}
+use Rattle.ast.specs.declared.code.Code.{Code}
+use Rattle.ast.specs.declared.code.Code.TheVariants.{Fun, Class, Arg, Local, ClassCounts, Method}
 use Rattle.definition.specs.Outcome.{rows_of_words}
 use Rattle.raise.specs.RaisedWords.{owner_fits, raised_words}
 
--- the codes of an argument and of a local
-between : (c : ℕ) → 4 ≤ c → c < 6 → (c ≡ 4) ⊎ (c ≡ 5)
-between c l g = go (eqb c 4) refl
-  where
-    go : (t : Bool) → eqb c 4 ≡ t → (c ≡ 4) ⊎ (c ≡ 5)
-    go true e = inl (eqb-true c 4 e)
-    go false e = let f = eqb-false c 4 e in inr (omega arith)
-
--- Row x over base n, by its code.
+-- Row x over base n.
 module _ (n : ℕ) (x : List ℕ) where
   abbrev c : ℕ
   c = get_or x 1 0
 
-  pub row_function : {v : ℕ} → c ≡ 1 → v ≡ raised_function n (get_or x 2 0) → set x 2 v ≡ raised_row n x
-  row_function e h = rw (e, h)
+  pub row_no_code : ((y : Code) → c ≡ code_number y → ⊥) → x ≡ raised_row n x
+  row_no_code f = rw (ne_eqb c 1 (f Fun), ne_eqb c 2 (f Class), ne_eqb c 22 (f ClassCounts), ne_eqb c 4 (f Arg), ne_eqb c 5 (f Local), ne_eqb c 24 (f Method))
 
-  pub row_class : {v : ℕ} → (c ≡ 2) ⊎ (c ≡ 22) → v ≡ raised_class n (get_or x 2 0) → set x 2 v ≡ raised_row n x
-  row_class (inl e) h = rw (e, h)
-  row_class (inr e) h = rw (e, h)
-
-  pub row_method : {v : ℕ} → c ≡ 24 → v ≡ raised_function n (get_or x 3 0) → set x 3 v ≡ raised_row n x
-  row_method e h = rw (e, h)
-
-  pub row_owner : 4 ≤ c → c < 6 → set x 3 (get_or x 3 0 + n) ≡ raised_row n x
-  row_owner l g = go (between c l g)
-    where
-      go : (c ≡ 4) ⊎ (c ≡ 5) → set x 3 (get_or x 3 0 + n) ≡ raised_row n x
-      go (inl e) = rw e
-      go (inr e) = rw e
-
-  pub row_other : (c ≡ 1 → ⊥) → ((c ≡ 2) ⊎ (c ≡ 22) → ⊥) → (c ≡ 24 → ⊥) → (4 ≤ c → c < 6 → ⊥) → x ≡ raised_row n x
-  row_other f g k p =
-      let four : c ≡ 4 → ⊥ = λ e. p (omega arith) (omega arith) in
-      let five : c ≡ 5 → ⊥ = λ e. p (omega arith) (omega arith) in
-      rw (ne_eqb c 1 f, ne_eqb c 2 (λ e. g (inl e)), ne_eqb c 22 (λ e. g (inr e)), ne_eqb c 4 four, ne_eqb c 5 five, ne_eqb c 24 k)
-
-  pub owner_below : T (owner_fits x) → 4 ≤ c → c < 6 → get_or x 3 0 < 2048
+  pub owner_below : T (owner_fits x) → {y : Code} → c ≡ code_number y → (y ≡ Arg) ⊎ (y ≡ Local) → get_or x 3 0 < 2048
   unfolding owner_fits
-  owner_below h l g = ltb-true (get_or x 3 0) 2048 (true_of (ltb (get_or x 3 0) 2048) (go (between c l g)))
+  owner_below h {y} e₀ l = ltb-true (get_or x 3 0) 2048 (true_of (ltb (get_or x 3 0) 2048) (go (one_of l)))
     where
+      one_of : (y ≡ Arg) ⊎ (y ≡ Local) → (c ≡ 4) ⊎ (c ≡ 5)
+      one_of (inl e) = inl (e₀ ∙ ap code_number e)
+      one_of (inr e) = inr (e₀ ∙ ap code_number e)
+
       go : (c ≡ 4) ⊎ (c ≡ 5) → T (ltb (get_or x 3 0) 2048)
       go (inl e) = subst (λ (i : ℕ). T ((eqb i 4 || eqb i 5) ⇒ ltb (get_or x 3 0) 2048)) e h
       go (inr e) = subst (λ (i : ℕ). T ((eqb i 4 || eqb i 5) ⇒ ltb (get_or x 3 0) 2048)) e h

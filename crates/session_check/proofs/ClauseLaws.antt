@@ -1,4 +1,7 @@
 -- The clauses of question 23 by the parts that the routines ask.
+use Rattle.ast.specs.Code.{code_number}
+use Rattle.ast.specs.declared.code.Code.{Code}
+use Rattle.ast.specs.declared.code.Code.TheVariants.{Fun, Class, Global}
 use mathlib.Core.Path.{◌≡◌, refl, sym, ap, ◌∙◌}
 use mathlib.Core.Bool.{Bool, true, false, not, ◌&&◌, ◌||◌}
 use mathlib.Core.List.{List, []}
@@ -6,7 +9,7 @@ use Prim.Native.Nat.{ℕ, zero, suc, ◌+◌, ◌/◌, ◌≤◌}
 use native.Mathlib.Omega.{arith}
 use lib.Dec.{eqb, leb, ltb, eqb→eq}
 use lib.ListN.{get_or}
-use borrow.Author.Tests.{eqb-true, not-true, not-false}
+use borrow.Author.Tests.{eqb-true, ne_eqb, not-true, not-false}
 use Rattle.definition.specs.Basics.{when◌then◌else◌, all, any, from, total}
 use Rattle.definition.proofs.Lists.Tests.{T_true, and_right}
 use Rattle.session.specs.Words.{whole, laid_place, part_of, fields_in, methods_in, members_before, is_function_up_to, is_name_up_to, laid_fits}
@@ -47,10 +50,6 @@ module _ (w : List ℕ) (e i : ℕ) where
 
   name_is : {a l : ℕ} {t : Bool} → a ≡ get_or w p 0 → l ≡ last_name w e → t ≡ (leb 1 a && leb a l) → t ≡ is_name_up_to whole w [] e (get_or w p 0)
   name_is {a} q r s = s ∙ ap (λ (x : ℕ). leb 1 a && leb a x) r ∙ ap (λ (x : ℕ). leb 1 x && leb x (last_name w e)) q
-
-  pub laid_no : {a l : ℕ} {t : Bool} → a ≡ get_or w p 0 → l ≡ last_name w e → t ≡ (leb 1 a && leb a l) → not t ≡ true → false ≡ laid_fits whole w [] e i
-  laid_no {t = t} q r s n =
-      ap (λ (x : Bool). x && means_right w e (get_or w (p + 1) 0) (get_or w (p + 2) 0) (get_or w (p + 3) 0)) (sym (not-true t n) ∙ name_is q r s) ∙ sym laid_means
 
   pub laid_yes : {a l k x m : ℕ} {t u : Bool} → a ≡ get_or w p 0 → l ≡ last_name w e → t ≡ (leb 1 a && leb a l) → not t ≡ false
       → k ≡ get_or w (p + 1) 0 → x ≡ get_or w (p + 2) 0 → m ≡ get_or w (p + 3) 0 → u ≡ means_right w e k x m → u ≡ laid_fits whole w [] e i
@@ -94,3 +93,8 @@ entry_members w e a b =
     let c = and_right (all (laid_fits whole w [] e) (part_of whole w [] e 2)) (classes_right w e) t in
     let m = and_right (all (class_right w e) (part_of whole w [] e 3)) (eqb (members_before whole w [] (after w (suc e) 3)) (after w (suc e) 4)) c in
     ap (members_before whole w []) (after_next w e 3) ∙ eqb→eq (members_before whole w [] (after w (suc e) 3)) (after w (suc e) 4) m ∙ sym (after_next w e 4)
+
+-- a number that is no code means nothing
+pub means_nothing : (w : List ℕ) (e : ℕ) {c : ℕ} (x m : ℕ) → ((y : Code) → c ≡ code_number y → ⊥) → false ≡ means_right w e c x m
+unfolding means_right
+means_nothing w e {c} x m f = rw (ne_eqb c 1 (f Fun), ne_eqb c 2 (f Class), ne_eqb c 3 (f Global))

@@ -13,7 +13,8 @@ ghost use Rattle.session_check.specs.Checked.{RunsChecked, Checked};
 ghost use Rattle.session_check.specs.Clauses.{means_right, is_fresh, Under, names_apart, method_right, methods_right, last_name, members_right, parent_right};
 ghost use Rattle.session_check.specs.Clauses.{class_right, classes_right, entry_right, entries_right, numbers_right};
 
-use ast::{code, name};
+use ast::code::Code;
+use ast::name;
 use name_index::NameIndex;
 use session::layout;
 use session_rows::{
@@ -44,31 +45,24 @@ fn has_class(words: &[u32], first: usize, end: usize, number: usize) -> bool
 }
 
 // Is what a declaration of entry e means there: a function or class of the entry, or a global below the count?
+#[tactic(auto, unfolding(crate::specs::Clauses::means_right), using(crate::proofs::ClauseLaws::means_nothing))]
 fn means_fit(words: &[u32], e: usize, code: u32, x: usize, mutable: usize) -> bool
     requires { Ordered words.now × (e < get_or words.now 1 0) }
     ensures { result ≡ means_right words.now e code x mutable }
 {
-    if code == code::FUN {
-        if !is_function_of(e, x) {
-            return false;
-        }
-        return mutable == 0;
-    }
-    if code == code::CLASS {
-        let first = count_before(words, e, count::CLASSES);
-        let end = count_at(words, e, count::CLASSES);
-        if !has_class(words, first, end, x) {
-            return false;
-        }
-        return mutable == 0;
-    }
-    if code != code::GLOBAL {
+    let Ok(code) = Code::try_from(code) else {
         return false;
+    };
+    match code {
+        Code::Fun => is_function_of(e, x) && mutable == 0,
+        Code::Class => {
+            let first = count_before(words, e, count::CLASSES);
+            let end = count_at(words, e, count::CLASSES);
+            has_class(words, first, end, x) && mutable == 0
+        }
+        Code::Global => x < number_at(words, layout::GLOBALS) && mutable <= 1,
+        _ => false,
     }
-    if number_at(words, layout::GLOBALS) <= x {
-        return false;
-    }
-    mutable <= 1
 }
 
 // The number of the last name of the entries up to e.
@@ -85,17 +79,14 @@ fn declaration_fits(words: &[u32], e: usize, i: usize) -> bool
     ensures { result ≡ laid_fits whole words.now [] e i }
 {
     let at = layout::DECLARATION_ROWS + layout::DECLARATION_WORDS * i;
-    let last = last_name(words, e);
-    if !is_name(number_at(words, at), last) {
-        return false;
-    }
-    means_fit(
-        words,
-        e,
-        words::word_at(words, at + layout::CODE),
-        number_at(words, at + layout::NUMBER),
-        number_at(words, at + layout::MUTABLE),
-    )
+    is_name(number_at(words, at), last_name(words, e))
+        && means_fit(
+            words,
+            e,
+            words::word_at(words, at + layout::CODE),
+            number_at(words, at + layout::NUMBER),
+            number_at(words, at + layout::MUTABLE),
+        )
 }
 
 // Are all declarations of entry e?
@@ -103,27 +94,19 @@ fn declarations_fit(words: &[u32], e: usize) -> bool
     requires { Ordered words.now × (e < get_or words.now 1 0) }
     ensures { result ≡ all (laid_fits whole words.now [] e) (part_of whole words.now [] e 2) }
 {
+    let first = count_before(words, e, count::DECLARATIONS);
     let end = count_at(words, e, count::DECLARATIONS);
-    let mut i = count_before(words, e, count::DECLARATIONS);
-    while i < end {
-        if !declaration_fits(words, e, i) {
-            return false;
-        }
-        i += 1;
-    }
-    true
+    (first..end).all(|i| declaration_fits(words, e, i))
 }
 
 // Is x a name up to `last` without the mark? It gets it then.
+#[tactic(auto, unfolding(crate::specs::Clauses::is_fresh))]
 fn mark_name(x: usize, last: usize, mark: u32, marks: &mut [u32]) -> bool
     requires { last < length marks.old }
     ensures { (result ≡ is_fresh last mark marks.old x)
         × (marks.new ≡ (when result then set marks.old x mark else marks.old)) }
 {
-    if !is_name(x, last) {
-        return false;
-    }
-    if marks[x] == mark {
+    if !is_name(x, last) || marks[x] == mark {
         return false;
     }
     marks[x] = mark;
@@ -142,27 +125,24 @@ fn names_apart(
     requires { (first ≤ end) × (end < 2 ^ 62) × (last < length marks.old) × Under marks.old mark }
     ensures { (result ≡ names_apart words.now last first end) × Under marks.new (suc mark) }
 {
-    let mut j = first;
-    while j < end {
+    for j in first..end {
         let name = number_at(words, layout::MEMBER_ROWS + layout::MEMBER_WORDS * j);
         if !mark_name(name, last, mark, marks) {
             return false;
         }
-        j += 1;
     }
     true
 }
 
 // Is member j a function up to entry e, of few enough parameters?
+#[tactic(auto, unfolding(crate::specs::Clauses::method_right))]
 fn method_fits(words: &[u32], e: usize, j: usize) -> bool
     requires { j < 2 ^ 62 }
     ensures { result ≡ method_right words.now e j }
 {
     let at = layout::MEMBER_ROWS + layout::MEMBER_WORDS * j;
-    if !is_function_up_to(e, number_at(words, at + layout::FUNCTION)) {
-        return false;
-    }
-    is_within(words, at + layout::PARAMETERS, layout::MOST_PARAMETERS)
+    is_function_up_to(e, number_at(words, at + layout::FUNCTION))
+        && is_within(words, at + layout::PARAMETERS, layout::MOST_PARAMETERS)
 }
 
 // The same of those from `first` on and below `end`.
@@ -170,17 +150,11 @@ fn methods_fit(words: &[u32], e: usize, first: usize, end: usize) -> bool
     requires { (first ≤ end) × (end < 2 ^ 62) }
     ensures { result ≡ methods_right words.now e first end }
 {
-    let mut j = first;
-    while j < end {
-        if !method_fits(words, e, j) {
-            return false;
-        }
-        j += 1;
-    }
-    true
+    (first..end).all(|j| method_fits(words, e, j))
 }
 
 // Are the members of class i as they should be, the first of them `first`? Fields get one mark, methods another.
+#[tactic(auto, unfolding(crate::specs::Clauses::members_right), using(crate::proofs::MarkLaws::under_le))]
 fn members_fit(
     words: &[u32],
     e: usize,
@@ -196,29 +170,18 @@ fn members_fit(
     let methods = first + number_at(words, at + layout::FIELDS);
     let end = methods + number_at(words, at + layout::METHODS);
     let mark = 2 * (i as u32) + 1;
-    if !names_apart(words, first, methods, last, mark, marks) {
-        return false;
-    }
-    if !names_apart(words, methods, end, last, mark + 1, marks) {
-        return false;
-    }
-    methods_fit(words, e, methods, end)
+    names_apart(words, first, methods, last, mark, marks)
+        && names_apart(words, methods, end, last, mark + 1, marks)
+        && methods_fit(words, e, methods, end)
 }
 
 // Is a class of the core one that has a record?
 fn is_core_class(number: usize) -> bool
     ensures { result ≡ is_recorded core number }
 {
-    if number == ast::UIEVENT_ID.0 as usize {
-        return true;
-    }
-    if number == ast::AUDIO_NEEDED_ID.0 as usize {
-        return true;
-    }
-    if number == ast::AUDIO_DATA_ID.0 as usize {
-        return true;
-    }
-    false
+    number == ast::UIEVENT_ID.0 as usize
+        || number == ast::AUDIO_NEEDED_ID.0 as usize
+        || number == ast::AUDIO_DATA_ID.0 as usize
 }
 
 // Is it a class with a record in the session up to entry e, or one of the core's with a record?
@@ -226,13 +189,11 @@ fn is_class(words: &[u32], e: usize, number: usize) -> bool
     requires { Ordered words.now × (e < get_or words.now 1 0) }
     ensures { result ≡ is_class_up_to whole words.now [] e number }
 {
-    if has_class(words, 0, count_at(words, e, count::CLASSES), number) {
-        return true;
-    }
-    is_core_class(number)
+    has_class(words, 0, count_at(words, e, count::CLASSES), number) || is_core_class(number)
 }
 
 // Is the parent of class i none, or another class of the entries up to e?
+#[tactic(auto, unfolding(crate::specs::Clauses::parent_right))]
 fn parent_fits(words: &[u32], e: usize, i: usize) -> bool
     requires { Ordered words.now × (e < get_or words.now 1 0) × (i < 1024) }
     ensures { result ≡ parent_right words.now e i }
@@ -241,16 +202,11 @@ fn parent_fits(words: &[u32], e: usize, i: usize) -> bool
         words,
         layout::CLASS_ROWS + layout::CLASS_WORDS * i + layout::PARENT,
     );
-    if parent == 0 {
-        return true;
-    }
-    if !is_class(words, e, parent) {
-        return false;
-    }
-    parent != class_number(words, i)
+    parent == 0 || is_class(words, e, parent) && parent != class_number(words, i)
 }
 
 // Is class i of entry e, but for its number, as it should be? `first` is the first of its members.
+#[tactic(auto, unfolding(crate::specs::Clauses::class_right), using(crate::proofs::MarkLaws::under_le))]
 fn class_fits(words: &[u32], e: usize, i: usize, first: usize, marks: &mut [u32]) -> bool
     requires { Ordered words.now × (e < get_or words.now 1 0) × (i < 1024) × (first < 2 ^ 60) × (first ≡ members_before whole words.now [] i)
         × (1048 < length marks.old) × Under marks.old (2 * i + 1) }
@@ -261,13 +217,7 @@ fn class_fits(words: &[u32], e: usize, i: usize, first: usize, marks: &mut [u32]
         layout::CLASS_ROWS + layout::CLASS_WORDS * i + layout::CLASS_NAME,
     );
     let last = last_name(words, e);
-    if !is_name(name, last) {
-        return false;
-    }
-    if !parent_fits(words, e, i) {
-        return false;
-    }
-    members_fit(words, e, last, i, first, marks)
+    is_name(name, last) && parent_fits(words, e, i) && members_fit(words, e, last, i, first, marks)
 }
 
 // How many members class i has.
@@ -286,30 +236,27 @@ fn classes_fit(words: &[u32], e: usize, marks: &mut [u32]) -> bool
     ensures { (result ≡ classes_right words.now e)
         × (result ≡ true → Under marks.new (2 * after words.now (suc e) 3 + 1)) }
 {
+    let first = count_before(words, e, count::CLASSES);
     let end = count_at(words, e, count::CLASSES);
-    let mut i = count_before(words, e, count::CLASSES);
     let mut member = count_before(words, e, count::MEMBERS);
-    while i < end {
+    for i in first..end {
         if !class_fits(words, e, i, member, marks) {
             return false;
         }
         member += member_count(words, i);
-        i += 1;
     }
     member == count_at(words, e, count::MEMBERS)
 }
 
 // Are all declarations and classes of entry e?
+#[tactic(auto, unfolding(crate::specs::Clauses::entry_right))]
 fn entry_fits(words: &[u32], e: usize, marks: &mut [u32]) -> bool
     requires { Ordered words.now × (e < get_or words.now 1 0) × (members_before whole words.now [] (after words.now e 3) ≡ after words.now e 4)
         × (1048 < length marks.old) × Under marks.old (2 * after words.now e 3 + 1) }
     ensures { (result ≡ entry_right words.now e)
         × (result ≡ true → Under marks.new (2 * after words.now (suc e) 3 + 1)) }
 {
-    if !declarations_fit(words, e) {
-        return false;
-    }
-    classes_fit(words, e, marks)
+    declarations_fit(words, e) && classes_fit(words, e, marks)
 }
 
 // Are all entries? `marks` has a place for each number of a name, all 0.
@@ -318,12 +265,10 @@ fn entries_marked(words: &[u32], marks: &mut [u32]) -> bool
     ensures { result ≡ entries_right words.now }
 {
     let entries = number_at(words, layout::ENTRIES);
-    let mut e: usize = 0;
-    while e < entries {
+    for e in 0..entries {
         if !entry_fits(words, e, marks) {
             return false;
         }
-        e += 1;
     }
     true
 }
@@ -339,14 +284,12 @@ fn entries_fit(words: &[u32]) -> bool
 }
 
 // Are all numbers of the session as they should be?
+#[tactic(auto, unfolding(crate::specs::Clauses::numbers_right))]
 fn numbers_fit(words: &[u32], starts: &[u32]) -> bool
     requires { Limited words.now }
     ensures { result ≡ numbers_right words.now starts.now }
 {
-    if !session_rows::order_fits(words, starts) {
-        return false;
-    }
-    entries_fit(words)
+    session_rows::order_fits(words, starts) && entries_fit(words)
 }
 
 // All of question 23 but the names on show. The listed names with their index, if it gets a yes.

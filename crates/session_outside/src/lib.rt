@@ -36,7 +36,7 @@ pub fn outside_size(session: &[u32]) -> usize
     ensures { result ≡ outside_size session.now }
 {
     let laid = entry_at(session, layout::LAID_COUNT) as usize + CORE_NAMES;
-    let names = if laid < NAMES { laid } else { NAMES };
+    let names = laid.min(NAMES);
     let records = entry_at(session, layout::CLASS_COUNT) as usize + CORE_RECORDS as usize;
     8 * (1 + names + records) + 3 * (entry_at(session, layout::MEMBER_COUNT) as usize) + CORE_FIELDS
 }

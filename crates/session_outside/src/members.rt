@@ -8,7 +8,7 @@ ghost use Rattle.session_outside.specs.Written.{method_words, member_run, record
 ghost use Rattle.session_outside.specs.Readable.{Readable};
 
 use crate::layout;
-use words::{entry_at, put_entry};
+use words::{entry_at, put_entry, put_words};
 
 // The fields of the core's records, by name number.
 const CORE_FIELDS: [u32; 14] = [
@@ -25,11 +25,9 @@ fn copy_fields(session: &[u32], first: u32, count: u32, at: u32, out: &mut [u32]
     requires { (first + count ≤ 8192) × (at ≤ 131072) }
     ensures { out.new ≡ sets out.old at (map (λ j. get_or session.now (member_place whole j) 0) (from first count)) }
 {
-    let mut i: u32 = 0;
-    while i < count {
+    for i in 0..count {
         let p = layout::MEMBERS + layout::MEMBER_WORDS * (first + i);
         put_entry(out, at + i, entry_at(session, p));
-        i += 1;
     }
 }
 
@@ -40,8 +38,7 @@ fn copy_methods(session: &[u32], first: u32, count: u32, at: u32, out: &mut [u32
     ensures { out.new
         ≡ sets out.old at (concat_map method_words (map (earlier_method_in session.now) (from first count))) }
 {
-    let mut i: u32 = 0;
-    while i < count {
+    for i in 0..count {
         let p = layout::MEMBERS + layout::MEMBER_WORDS * (first + i);
         let q = at + 3 * i;
         put_entry(out, q, entry_at(session, p));
@@ -51,7 +48,6 @@ fn copy_methods(session: &[u32], first: u32, count: u32, at: u32, out: &mut [u32
             entry_at(session, p + layout::FUNCTION) + layout::PAST_ROWS,
         );
         put_entry(out, q + 2, entry_at(session, p + layout::PARAMETERS));
-        i += 1;
     }
 }
 
@@ -64,8 +60,7 @@ fn class_members(session: &[u32], start: u32, out: &mut [u32]) -> u32
     let classes = entry_at(session, layout::CLASS_COUNT);
     let mut at = start;
     let mut member: u32 = 0;
-    let mut i: u32 = 0;
-    while i < classes {
+    for i in 0..classes {
         let p = layout::CLASSES + layout::CLASS_WORDS * i;
         let fields = entry_at(session, p + layout::FIELDS);
         let methods = entry_at(session, p + layout::METHODS);
@@ -73,7 +68,6 @@ fn class_members(session: &[u32], start: u32, out: &mut [u32]) -> u32
         copy_methods(session, member + fields, methods, at + fields, out);
         member += fields + methods;
         at += fields + 3 * methods;
-        i += 1;
     }
     at
 }
@@ -83,11 +77,7 @@ fn core_fields(at: u32, out: &mut [u32])
     requires { at ≤ 131072 }
     ensures { out.new ≡ sets out.old at (concat_map member_run core.records) }
 {
-    let mut i: u32 = 0;
-    while i < 14 {
-        put_entry(out, at + i, CORE_FIELDS[i as usize]);
-        i += 1;
-    }
+    put_words(out, at as usize, &CORE_FIELDS);
 }
 
 // Writes the members of all records from `start` on.

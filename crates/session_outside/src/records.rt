@@ -45,10 +45,8 @@ fn class_rows(session: &[u32], first: u32, start: u32, out: &mut [u32]) -> u32
 {
     let classes = entry_at(session, layout::CLASS_COUNT);
     let mut place = start;
-    let mut i: u32 = 0;
-    while i < classes {
+    for i in 0..classes {
         place = class_row(session, i, first + i, place, out);
-        i += 1;
     }
     place
 }

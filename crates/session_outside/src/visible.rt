@@ -12,9 +12,10 @@ ghost use Rattle.session_outside.specs.Told.{told};
 
 use crate::layout;
 use crate::rows::put_row;
+use ast::code::Code;
 use ast::{
     ARRAY_ID, AUDIO_DATA_ID, AUDIO_NEEDED_ID, BYTEARRAY_ID, DICT_ID, FIRST_CLASS, FLOAT64_ID,
-    INT64_ID, STRING_ID, UIEVENT_ID, code,
+    INT64_ID, STRING_ID, UIEVENT_ID,
 };
 use words::{entry_at, put_entry};
 
@@ -35,7 +36,7 @@ const CORE_CLASSES: [u32; 9] = [
 ];
 
 // A name with what it means in an entry's walk.
-#[derive(Clone, Copy)]
+#[derive(Clone, Copy, Debug, PartialEq, Eq)]
 struct SeenName {
     name: u32,
     code: u32,
@@ -62,29 +63,30 @@ fn declared_name(session: &[u32], i: u32) -> SeenName
 {
     let p = layout::LAID + layout::LAID_WORDS * i;
     let name = entry_at(session, p);
-    let code = entry_at(session, p + layout::CODE);
     let number = entry_at(session, p + layout::NUMBER);
-    if code == code::FUN {
-        return SeenName {
+    let code = entry_at(session, p + layout::CODE);
+    // By number: any other code is a global's, and one that is no code too.
+    if code == Code::Fun as u32 {
+        SeenName {
             name: name,
-            code: code::FUN,
+            code: Code::Fun as u32,
             number: number + layout::PAST_ROWS,
             mutable: 0,
-        };
-    }
-    if code == code::CLASS {
-        return SeenName {
+        }
+    } else if code == Code::Class as u32 {
+        SeenName {
             name: name,
-            code: code::CLASS,
+            code: Code::Class as u32,
             number: earlier_class(number),
             mutable: 0,
-        };
-    }
-    SeenName {
-        name: name,
-        code: code::GLOBAL,
-        number: number,
-        mutable: entry_at(session, p + layout::MUTABLE),
+        }
+    } else {
+        SeenName {
+            name: name,
+            code: Code::Global as u32,
+            number: number,
+            mutable: entry_at(session, p + layout::MUTABLE),
+        }
     }
 }
 
@@ -95,7 +97,7 @@ fn core_name(i: u32) -> SeenName
 {
     SeenName {
         name: i + 1,
-        code: code::CLASS,
+        code: Code::Class as u32,
         number: CORE_CLASSES[i as usize],
         mutable: 0,
     }
@@ -122,10 +124,8 @@ fn lay_declared(session: &[u32], marks: &mut [u32], out: &mut [u32]) -> u32
         ≡ name_rows 1 marks.old out.old (names_below session.now (get_or session.now 5 0))) }
 {
     let mut row: u32 = 1;
-    let mut left = entry_at(session, layout::LAID_COUNT);
-    while 0 < left {
-        left -= 1;
-        row = lay_name(declared_name(session, left), row, marks, out);
+    for i in (0..entry_at(session, layout::LAID_COUNT)).rev() {
+        row = lay_name(declared_name(session, i), row, marks, out);
     }
     row
 }
@@ -136,10 +136,8 @@ fn lay_core(first: u32, marks: &mut [u32], out: &mut [u32]) -> u32
     ensures { name_rows result marks.new out.new [] ≡ name_rows first marks.old out.old core.names }
 {
     let mut row = first;
-    let mut i: u32 = 0;
-    while i < 9 {
+    for i in 0..9 {
         row = lay_name(core_name(i), row, marks, out);
-        i += 1;
     }
     row
 }

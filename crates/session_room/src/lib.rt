@@ -11,7 +11,7 @@ use session::layout;
 use words::{put_words, word_at};
 
 // What an entry adds: names and their bytes with ends, declarations laid over, classes, fields and methods.
-#[derive(Clone, Copy)]
+#[derive(Clone, Copy, Debug, PartialEq, Eq)]
 pub struct Added {
     pub names: usize,
     pub bytes: usize,
@@ -21,7 +21,7 @@ pub struct Added {
 }
 
 // The five counts of a session or of the row of an entry.
-#[derive(Clone, Copy)]
+#[derive(Clone, Copy, Debug, PartialEq, Eq)]
 pub struct Counts {
     pub names: u32,
     pub bytes: u32,
@@ -35,38 +35,24 @@ fn is_within(words: &[u32], place: usize, more: usize, most: usize) -> bool
     requires { most ≤ 4294967295 }
     ensures { result ≡ leb (get_or words.now place 0 + more) most }
 {
-    let count = word_at(words, place) as usize;
-    if most < more {
-        return false;
-    }
-    count + more <= most
+    more <= most && word_at(words, place) as usize + more <= most
 }
 
 // Question 24: would no count be over its limit?
 pub fn has_room(words: &[u32], added: Added) -> bool
     ensures { result ≡ room_for words.now added }
 {
-    if !is_within(words, layout::NAMES, added.names, limit::NAMES) {
-        return false;
-    }
-    if !is_within(words, layout::NAME_BYTES, added.bytes, limit::LIST_BYTES) {
-        return false;
-    }
-    if !is_within(
-        words,
-        layout::DECLARATIONS,
-        added.laid,
-        layout::MOST_DECLARATIONS,
-    ) {
-        return false;
-    }
-    if !is_within(words, layout::CLASSES, added.classes, layout::MOST_CLASSES) {
-        return false;
-    }
-    if !is_within(words, layout::MEMBERS, added.members, layout::MOST_MEMBERS) {
-        return false;
-    }
-    is_within(words, layout::ENTRIES, 1, layout::MOST_ENTRIES)
+    is_within(words, layout::NAMES, added.names, limit::NAMES)
+        && is_within(words, layout::NAME_BYTES, added.bytes, limit::LIST_BYTES)
+        && is_within(
+            words,
+            layout::DECLARATIONS,
+            added.laid,
+            layout::MOST_DECLARATIONS,
+        )
+        && is_within(words, layout::CLASSES, added.classes, layout::MOST_CLASSES)
+        && is_within(words, layout::MEMBERS, added.members, layout::MOST_MEMBERS)
+        && is_within(words, layout::ENTRIES, 1, layout::MOST_ENTRIES)
 }
 
 // The five counts with what an entry adds.

@@ -8,7 +8,7 @@ use native.Mathlib.Omega.{arith}
 use lib.Dec.{eqb, leb, ltb, T, T_not, eqb→eq, leb→le, ltb→lt}
 use lib.ListN.{length, get_or}
 use borrow.Author.Tests.{eq-eqb, ne_eqb}
-use Rattle.definition.specs.Basics.{when◌then◌else◌, all, from}
+use Rattle.definition.specs.Basics.{all, from}
 use Rattle.definition.proofs.Lists.Counts.{all_below}
 use Rattle.definition.proofs.Lists.Tests.{T_and, T_true, true_of, or_cases, ℕ-trichotomy}
 use Rattle.session.specs.Words.{whole, counts_fit, is_function_up_to}
@@ -34,19 +34,6 @@ module _ (w n : List ℕ) where
   counts_split =
       counts_by (leb (get_or w 0 0) 1002048) (leb (get_or w 1 0) 1000) (leb (get_or w 3 0) 1024) (leb (get_or w 4 0) 32768) (leb (get_or w 5 0) 4096) (leb (get_or w 6 0) 1024)
       (leb (get_or w 7 0) 8192) (leb 51088 (length w)) (leb 32936 (length n))
-
--- the words of an entry's row
-pub after_suc : (w : List ℕ) (e c : ℕ) → after w (suc e) c ≡ get_or w (8 + 5 * e + c) 0
-after_suc w e c =
-    let k : suc e - 1 ≡ e = omega arith in
-    ap (λ (t : Bool). when t then 0 else get_or w (8 + 5 * (suc e - 1) + c) 0) (ne_eqb (suc e) 0 (λ z. omega arith)) ∙ ap (λ (i : ℕ). get_or w (8 + 5 * i + c) 0) k
-
-pub after_before : (w : List ℕ) (e c : ℕ) → (e ≡ 0 → ⊥) → after w (suc (e - 1)) c ≡ after w e c
-after_before w e c f = ap (λ (i : ℕ). after w i c) (back e f)
-  where
-    back : (e : ℕ) → (e ≡ 0 → ⊥) → suc (e - 1) ≡ e
-    back zero f = absurd (f refl)
-    back (suc e) f = omega arith
 
 -- Halving: class m has a number below the one that is looked for, or above it.
 module _ (w : List ℕ) (o : Ordered w) (m x : ℕ) {h : ℕ} (l : m < get_or w 6 0) (e : h ≡ number_of w m) where
@@ -76,13 +63,6 @@ number_small w e k i q l =
     no : (t : Bool) → ((t && false && eqb 0 e) && (eqb i k || ltb (number_of w (i - 1)) (number_of w i))) ≡ false
     no true = refl
     no false = refl
-
--- a count that is not the session's, or is
-pub last_no : (w : List ℕ) (c : ℕ) {e x y : ℕ} → e ≡ get_or w 1 0 → x ≡ after w e c → y ≡ get_or w (3 + c) 0 → (x ≡ y → ⊥) → eqb (after w (get_or w 1 0) c) (get_or w (3 + c) 0) ≡ false
-last_no w c {e} q a b f = ne_eqb (after w (get_or w 1 0) c) (get_or w (3 + c) 0) (λ z. f (a ∙ ap (λ (i : ℕ). after w i c) q ∙ z ∙ sym b))
-
-pub last_yes : (w : List ℕ) (c : ℕ) {e x y : ℕ} → e ≡ get_or w 1 0 → x ≡ after w e c → y ≡ get_or w (3 + c) 0 → x ≡ y → eqb (after w (get_or w 1 0) c) (get_or w (3 + c) 0) ≡ true
-last_yes w c {e} q a b z = eq-eqb (after w (get_or w 1 0) c) (get_or w (3 + c) 0) (sym (a ∙ ap (λ (i : ℕ). after w i c) q) ∙ z ∙ b)
 
 all_at : (p : ℕ → Bool) (a k : ℕ) → T (all p (from a k)) → (i : ℕ) → a ≤ i → i < a + k → T (p i)
 all_at p a zero h i l m = absurd (omega arith)

@@ -5,6 +5,16 @@ use mathlib.Core.List.{List, [], ◌∷◌, ◌++◌, map}
 use Prim.Native.Nat.{ℕ, zero, suc, ◌+◌, ◌-◌, ◌<◌, ◌≤◌}
 use native.Mathlib.Omega.{arith}
 use borrow.Author.Tests.{not-true, not-false}
+use denote.Param.Members.{Mut}
+use Rattle.std.proofs.lemmas.Iterator.{YieldsList-from_range}
+use Rattle.std.proofs.lemmas.Iterator.Search.{all_from_yields_List}
+use Rattle.std.specs.Prelude.{Option, MatchOption}
+use Rattle.std.specs.declared.ops.Range.{Range}
+use Rattle.std.specs.Fn.{Called}
+use Rattle.std.specs.List.{FoldsTo, list_all}
+use Rattle.std.specs.Iterator.{YieldsThen}
+use Rattle.std.proofs.iter.Yields.{nat_range_steps}
+use Rattle.definition.proofs.Lists.Library.{range_same, list_all_same}
 use Rattle.definition.specs.Basics.{all, any, from, total}
 
 pub and_true : (x : Bool) → (x && true) ≡ x
@@ -57,6 +67,19 @@ module _ (p : ℕ → Bool) where
   pub all_start : (n : ℕ) {m : ℕ} → n ≡ m → all p (from 0 (n - 0)) ≡ all p (from 0 m)
   all_start n {m} q = let e : n - 0 ≡ m = omega arith in ap (λ (k : ℕ). all p (from 0 k)) e
 
+-- What `all` answers of the numbers from a on and below b.
+module _ {F : Type 0} {g : Mut F (ℕ × Unit {0}) Bool} (p : ℕ → Bool) {s u : Range ℕ} {f : F} {r : Bool}
+    (ran : (xs : List ℕ) × (o : Option ℕ) × (j : F) × YieldsThen nat_range_steps s xs o u × FoldsTo (λ p x q. Called g p (x, tt) true q) f xs j
+    × MatchOption o (r ≡ true) (λ x. (r ≡ false) × ((h : F) × Called g j (x, tt) false h))) where
+  by_count : (a b n : ℕ) → s ≡ record { start = a; end = b } → b - a ≡ n → ((x : ℕ) (t : Bool) (q : F) → Called g f (x, tt) t q → (q ≡ f) × (t ≡ p x)) → r ≡ all p (from a n)
+  by_count a b n e l k = all_from_yields_List p u f r ran (YieldsList-from_range a b n e l) k ∙ ap (list_all p) (range_same a n) ∙ list_all_same p (from a n)
+
+  pub all_between : (a b : ℕ) → s ≡ record { start = a; end = b } → ((x : ℕ) (t : Bool) (q : F) → Called g f (x, tt) t q → (q ≡ f) × (t ≡ p x)) → r ≡ all p (from a (b - a))
+  all_between a b e k = by_count a b (b - a) e refl k
+
+  pub all_below : (n : ℕ) → s ≡ record { start = 0; end = n } → ((x : ℕ) (t : Bool) (q : F) → Called g f (x, tt) t q → (q ≡ f) × (t ≡ p x)) → r ≡ all p (from 0 n)
+  all_below n e k = by_count 0 n n e (omega arith) k
+
 -- Tests of some.
 module _ (p : ℕ → Bool) where
   any_append : (xs ys : List ℕ) → any p (xs ++ ys) ≡ (any p xs || any p ys)
@@ -99,9 +122,6 @@ module _ (p : ℕ → Bool) where
 
   pub any_end : (a b : ℕ) {w : Bool} → b ≤ a → any p (from a (b - a)) ≡ w → false ≡ w
   any_end a b l e = sym (ap (any p) (from_end a b l)) ∙ e
-
-  pub any_start : (n : ℕ) {m : ℕ} → n ≡ m → any p (from 0 (n - 0)) ≡ any p (from 0 m)
-  any_start n {m} q = let e : n - 0 ≡ m = omega arith in ap (λ (k : ℕ). any p (from 0 k)) e
 
 -- a sum of one more
 pub total_more : (f : ℕ → ℕ) (a k : ℕ) → total f (from a (suc k)) ≡ total f (from a k) + f (a + k)

@@ -33,33 +33,19 @@ pub fn is_within(words: &[u32], place: usize, most: usize) -> bool
 fn five_fit(words: &[u32]) -> bool
     ensures { result ≡ five_right words.now }
 {
-    let mut c: usize = 0;
-    while c < layout::ENTRY_WORDS {
-        if !is_within(words, layout::COUNTS + c, layout::MOST[c]) {
-            return false;
-        }
-        c += 1;
-    }
-    true
+    (0..layout::ENTRY_WORDS).all(|c| is_within(words, layout::COUNTS + c, layout::MOST[c]))
 }
 
 // Is no count over its limit, and is there room for all? `bytes` is how many bytes are lent.
+#[tactic(auto, using(crate::proofs::OrderLaws::counts_split))]
 pub fn counts_fit(words: &[u32], bytes: usize) -> bool
     ensures { (n : List ℕ) → length n ≡ bytes → result ≡ counts_fit whole words.now n }
 {
-    if !is_within(words, layout::GLOBALS, layout::MOST_GLOBALS) {
-        return false;
-    }
-    if !is_within(words, layout::ENTRIES, layout::MOST_ENTRIES) {
-        return false;
-    }
-    if !five_fit(words) {
-        return false;
-    }
-    if words.len() < layout::WORDS {
-        return false;
-    }
-    layout::BYTES <= bytes
+    is_within(words, layout::GLOBALS, layout::MOST_GLOBALS)
+        && is_within(words, layout::ENTRIES, layout::MOST_ENTRIES)
+        && five_fit(words)
+        && layout::WORDS <= words.len()
+        && layout::BYTES <= bytes
 }
 
 // Count c in the row of entry e.
@@ -75,10 +61,7 @@ pub fn count_before(words: &[u32], e: usize, c: usize) -> usize
     requires { (e ≤ 1000) × (c < 5) }
     ensures { (result ≡ after words.now e c) × (result < 2 ^ 32) }
 {
-    if e == 0 {
-        return 0;
-    }
-    count_at(words, e - 1, c)
+    if e == 0 { 0 } else { count_at(words, e - 1, c) }
 }
 
 // Does count c not fall in entry e, and is it not past the session's?
@@ -87,10 +70,7 @@ fn count_fits(words: &[u32], e: usize, c: usize) -> bool
     ensures { result ≡ count_rises words.now e c }
 {
     let count = count_at(words, e, c);
-    if count < count_before(words, e, c) {
-        return false;
-    }
-    count <= number_at(words, layout::COUNTS + c)
+    count_before(words, e, c) <= count && count <= number_at(words, layout::COUNTS + c)
 }
 
 // The same of all five.
@@ -98,26 +78,18 @@ fn counts_rise(words: &[u32], e: usize) -> bool
     requires { e < 1000 }
     ensures { result ≡ counts_rise words.now e }
 {
-    let mut c: usize = 0;
-    while c < layout::ENTRY_WORDS {
-        if !count_fits(words, e, c) {
-            return false;
-        }
-        c += 1;
-    }
-    true
+    (0..layout::ENTRY_WORDS).all(|c| count_fits(words, e, c))
 }
 
 // Is the row of entry e as it should be? `starts` has the places of the listed names.
+#[tactic(auto, unfolding(crate::specs::Rows::row_right))]
 fn row_fits(words: &[u32], starts: &[u32], e: usize) -> bool
     requires { e < 1000 }
     ensures { result ≡ row_right words.now starts.now e }
 {
-    if !counts_rise(words, e) {
-        return false;
-    }
-    let names = count_at(words, e, count::NAMES);
-    count_at(words, e, count::NAME_BYTES) == number_at(starts, names)
+    counts_rise(words, e)
+        && count_at(words, e, count::NAME_BYTES)
+            == number_at(starts, count_at(words, e, count::NAMES))
 }
 
 // Are all of them?
@@ -125,15 +97,7 @@ fn rows_fit(words: &[u32], starts: &[u32]) -> bool
     requires { get_or words.now 1 0 ≤ 1000 }
     ensures { result ≡ rows_right words.now starts.now }
 {
-    let entries = number_at(words, layout::ENTRIES);
-    let mut e: usize = 0;
-    while e < entries {
-        if !row_fits(words, starts, e) {
-            return false;
-        }
-        e += 1;
-    }
-    true
+    (0..number_at(words, layout::ENTRIES)).all(|e| row_fits(words, starts, e))
 }
 
 // Has the last row the session's counts?
@@ -142,14 +106,8 @@ fn last_fits(words: &[u32]) -> bool
     ensures { result ≡ last_right words.now }
 {
     let entries = number_at(words, layout::ENTRIES);
-    let mut c: usize = 0;
-    while c < layout::ENTRY_WORDS {
-        if count_before(words, entries, c) != number_at(words, layout::COUNTS + c) {
-            return false;
-        }
-        c += 1;
-    }
-    true
+    (0..layout::ENTRY_WORDS).all(|c| count_before(words, entries, c)
+        == number_at(words, layout::COUNTS + c))
 }
 
 // Is f the number of a function of an entry up to e? Row 0 of a sheet is none.
@@ -157,30 +115,21 @@ pub fn is_function_up_to(e: usize, f: usize) -> bool
     ensures { result ≡ is_function_up_to whole [] [] e f }
 {
     let entry = f / limit::ROWS;
-    if e < entry {
-        return false;
-    }
-    f != limit::ROWS * entry
+    entry <= e && f != limit::ROWS * entry
 }
 
 // Is f the number of a function of entry e?
 pub fn is_function_of(e: usize, f: usize) -> bool
     ensures { result ≡ (is_function_up_to whole [] [] e f && eqb (f / 2048) e) }
 {
-    if !is_function_up_to(e, f) {
-        return false;
-    }
-    f / limit::ROWS == e
+    is_function_up_to(e, f) && f / limit::ROWS == e
 }
 
 // Is x the number of a name, up to the last one?
 pub fn is_name(x: usize, last: usize) -> bool
     ensures { result ≡ (leb 1 x && leb x last) }
 {
-    if x < 1 {
-        return false;
-    }
-    x <= last
+    (1..=last).contains(&x)
 }
 
 // The number of class i.
@@ -192,21 +141,15 @@ pub fn class_number(words: &[u32], i: usize) -> usize
 }
 
 // Has class i of entry e, whose first class is `first`, a number of the entry, above that of the class before it?
+#[tactic(auto, unfolding(crate::specs::Rows::number_rises), using(crate::proofs::OrderLaws::number_small))]
 fn number_fits(words: &[u32], e: usize, first: usize, i: usize) -> bool
     requires { (first ≤ i) × (i < 2 ^ 32) }
     ensures { result ≡ number_rises words.now e first i }
 {
     let number = class_number(words, i);
-    if number < FIRST_CLASS {
-        return false;
-    }
-    if !is_function_of(e, number - FIRST_CLASS) {
-        return false;
-    }
-    if i == first {
-        return true;
-    }
-    class_number(words, i - 1) < number
+    FIRST_CLASS <= number
+        && is_function_of(e, number - FIRST_CLASS)
+        && (i == first || class_number(words, i - 1) < number)
 }
 
 // The same of all classes of entry e.
@@ -216,14 +159,7 @@ fn numbers_rise(words: &[u32], e: usize) -> bool
 {
     let first = count_before(words, e, count::CLASSES);
     let end = count_at(words, e, count::CLASSES);
-    let mut i = first;
-    while i < end {
-        if !number_fits(words, e, first, i) {
-            return false;
-        }
-        i += 1;
-    }
-    true
+    (first..end).all(|i| number_fits(words, e, first, i))
 }
 
 // The same of all entries.
@@ -231,27 +167,14 @@ fn all_rise(words: &[u32]) -> bool
     requires { get_or words.now 1 0 ≤ 1000 }
     ensures { result ≡ all_rise words.now }
 {
-    let entries = number_at(words, layout::ENTRIES);
-    let mut e: usize = 0;
-    while e < entries {
-        if !numbers_rise(words, e) {
-            return false;
-        }
-        e += 1;
-    }
-    true
+    (0..number_at(words, layout::ENTRIES)).all(|e| numbers_rise(words, e))
 }
 
 // Are the rows of entries and the numbers of classes as they should be, and has the last row the session's counts?
+#[tactic(auto, unfolding(crate::specs::Rows::order_right))]
 pub fn order_fits(words: &[u32], starts: &[u32]) -> bool
     requires { get_or words.now 1 0 ≤ 1000 }
     ensures { result ≡ order_right words.now starts.now }
 {
-    if !rows_fit(words, starts) {
-        return false;
-    }
-    if !last_fits(words) {
-        return false;
-    }
-    all_rise(words)
+    rows_fit(words, starts) && last_fits(words) && all_rise(words)
 }

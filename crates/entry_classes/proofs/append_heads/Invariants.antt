@@ -9,6 +9,3 @@ use Rattle.entry_classes.proofs.append_heads.Given as goal
 abbrev pub invariant-loop-i : goal.invariant-loop-i
 invariant-loop-i l =
     Writing (λ (x : Store × List ℕ). class_in l.sheet (store_of x.0 l.results x.1) l.base) 5 l.initial.words l.place l.out l.rows l.words l.i l.p
-
-abbrev pub decreases-loop-i : goal.decreases-loop-i
-decreases-loop-i l = l.rows - l.i

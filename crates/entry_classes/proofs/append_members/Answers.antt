@@ -21,10 +21,6 @@ pub overflow_mul-i-in-loop-i : goal.overflow_mul-i-in-loop-i
 overflow_mul-i-in-loop-i c =
     omega (arith, c.loop-i-test.true, c.requires.2)
 
-pub overflow_add-i : goal.overflow_add-i
-overflow_add-i c =
-    omega (arith, c.loop-i-test.true, c.requires.2)
-
 pub offset_bounds-out-i : goal.offset_bounds-out-i
 offset_bounds-out-i c =
     omega (arith, c.loop-i-test.true, c.requires.2)
@@ -53,14 +49,6 @@ append_member-p-requires c = (
 pub overflow_add-p : goal.overflow_add-p
 overflow_add-p c =
     omega (arith, c.append_member-p.ensures.0, bit_le (tells_member (row_at c.args.out.now c.loop-i.i)), c.loop-i.invariant.near, c.loop-i-test.true, c.requires.0)
-
-pub overflow_add-i-in-loop-i : goal.overflow_add-i-in-loop-i
-overflow_add-i-in-loop-i c =
-    omega (arith, c.loop-i-test.true, c.requires.2)
-
-pub loop-i-smaller : goal.loop-i-smaller
-loop-i-smaller c =
-    omega (arith, c.loop-i-test.true)
 
 pub loop-i-preserved : goal.loop-i-preserved
 loop-i-preserved c =

@@ -10,6 +10,3 @@ use Rattle.entry_classes.proofs.append_members.Given as goal
 abbrev pub invariant-loop-i : goal.invariant-loop-i
 invariant-loop-i l =
     Writing (λ (x : Store × List ℕ). member_in (over l.outside) l.sheet (store_of x.0 l.results x.1) l.base) 3 l.initial.words l.place l.out l.rows l.words l.i l.p
-
-abbrev pub decreases-loop-i : goal.decreases-loop-i
-decreases-loop-i l = l.rows - l.i

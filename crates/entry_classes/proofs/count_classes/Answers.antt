@@ -27,23 +27,15 @@ bounds-out-i c = omega arith
 
 pub overflow_add-classes : goal.overflow_add-classes
 overflow_add-classes c =
-    omega (arith, c.loop-i.invariant.near.0, c.one_if-classes.ensures, bit_le (eqb (get_or c.args.out.now (8 * c.loop-i.i + 1) 0) 22), c.loop-i-test.true, c.requires)
+    omega (arith, c.loop-i.invariant.near.0, bit_le (eqb (get_or c.args.out.now (8 * c.loop-i.i + 1) 0) 22), c.loop-i-test.true, c.requires)
 
 pub overflow_add-members : goal.overflow_add-members
 overflow_add-members c =
-    omega (arith, c.loop-i.invariant.near.1, c.one_if-members.ensures, bit_le c.is_member.result, c.loop-i-test.true, c.requires)
-
-pub overflow_add-i : goal.overflow_add-i
-overflow_add-i c =
-    omega (arith, c.loop-i-test.true, c.requires)
-
-pub loop-i-smaller : goal.loop-i-smaller
-loop-i-smaller c =
-    omega (arith, c.loop-i-test.true)
+    omega (arith, c.loop-i.invariant.near.1, bit_le c.is_member.result, c.loop-i-test.true, c.requires)
 
 pub loop-i-preserved : goal.loop-i-preserved
 loop-i-preserved c =
-    counting_more c.loop-i.invariant {c = get_or c.args.out.now (8 * c.loop-i.i + 1) 0} c.loop-i-test.true refl c.one_if-classes.ensures (c.one_if-members.ensures ∙ ap bit c.is_member.ensures)
+    counting_more c.loop-i.invariant {c = get_or c.args.out.now (8 * c.loop-i.i + 1) 0} c.loop-i-test.true refl refl (ap bit c.is_member.ensures)
 
 pub returns : goal.returns
 returns c =

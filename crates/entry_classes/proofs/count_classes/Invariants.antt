@@ -4,6 +4,3 @@ use Rattle.entry_classes.proofs.count_classes.Given as goal
 
 abbrev pub invariant-loop-i : goal.invariant-loop-i
 invariant-loop-i l = Counting l.out l.rows l.i l.classes l.members
-
-abbrev pub decreases-loop-i : goal.decreases-loop-i
-decreases-loop-i l = l.rows - l.i

@@ -4,9 +4,9 @@ use Rattle.outside.specs.Words.{over}
 use Rattle.entry_classes.proofs.RowLaws.{row_below, field_told, method_told_lem}
 use Rattle.entry_classes.proofs.member_of.Goals as goal
 
-pub returns-then-row-eq-FIELD : goal.returns-then-row-eq-FIELD
-returns-then-row-eq-FIELD c =
-    λ o q. field_told c.args.sheet.now (store_of o c.args.results.now q) c.args.base c.args.row.now (over c.args.outside.now) c.if-row-eq-FIELD.true
+pub returns-then-row : goal.returns-then-row
+returns-then-row c =
+    λ o q. field_told c.args.sheet.now (store_of o c.args.results.now q) c.args.base c.args.row.now (over c.args.outside.now) c.if-row.true
 
 pub method_of-requires : goal.method_of-requires
 method_of-requires c =
@@ -15,4 +15,4 @@ method_of-requires c =
 pub returns : goal.returns
 returns c =
     λ o q. c.method_of.ensures o q
-    ∙ method_told_lem c.args.sheet.now (store_of o c.args.results.now q) c.args.base c.args.row.now (over c.args.outside.now) c.if-row-eq-FIELD.false
+    ∙ method_told_lem c.args.sheet.now (store_of o c.args.results.now q) c.args.base c.args.row.now (over c.args.outside.now) c.if-row.false

@@ -20,14 +20,6 @@ overflow_add-p c =
       c.requires.1,
     )
 
-pub overflow_add-i : goal.overflow_add-i
-overflow_add-i c =
-    omega (arith, c.loop-i-test.true)
-
-pub loop-i-smaller : goal.loop-i-smaller
-loop-i-smaller c =
-    omega (arith, c.loop-i-test.true)
-
 pub loop-i-preserved : goal.loop-i-preserved
 loop-i-preserved c =
     laying_more c.loop-i.invariant c.loop-i-test.true c.put_left-p.ensures.0 c.put_left-p.ensures.1

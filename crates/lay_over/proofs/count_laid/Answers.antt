@@ -9,14 +9,6 @@ pub overflow_add-count : goal.overflow_add-count
 overflow_add-count c =
     omega (arith, (counting_more c.loop-i.invariant c.loop-i-test.true c.count_left-count.ensures).near, c.loop-i-test.true)
 
-pub overflow_add-i : goal.overflow_add-i
-overflow_add-i c =
-    omega (arith, c.loop-i-test.true)
-
-pub loop-i-smaller : goal.loop-i-smaller
-loop-i-smaller c =
-    omega (arith, c.loop-i-test.true)
-
 pub loop-i-preserved : goal.loop-i-preserved
 loop-i-preserved c =
     counting_more c.loop-i.invariant c.loop-i-test.true c.count_left-count.ensures

@@ -8,8 +8,5 @@ use Rattle.names_shown.proofs.count_core.Given as goal
 
 abbrev pub invariant-loop-name : goal.invariant-loop-name
 invariant-loop-name l =
-    (l.name ≤ 9) × (l.count ≤ l.name) × (length l.marks ≡ length l.initial.marks)
-    × (l.count + length (firsts l.marks (drop l.name core.names)) ≡ length (firsts l.initial.marks core.names))
-
-abbrev pub decreases-loop-name : goal.decreases-loop-name
-decreases-loop-name l = 9 - l.name
+    (1 ≤ l.name) × (l.name ≤ 10) × (l.count + 1 ≤ l.name) × (length l.marks ≡ length l.initial.marks)
+    × (l.count + length (firsts l.marks (drop (l.name - 1) core.names)) ≡ length (firsts l.initial.marks core.names))

@@ -5,10 +5,7 @@ use lib.ListN.{length, get_or}
 use Rattle.session_outside.specs.Written.{firsts, names_below}
 use Rattle.names_shown.proofs.count_declared.Given as goal
 
-abbrev pub invariant-loop-left : goal.invariant-loop-left
-invariant-loop-left l =
-    (l.left ≤ get_or l.session 5 0) × (l.count + l.left ≤ get_or l.session 5 0) × (length l.marks ≡ length l.initial.marks)
-    × (l.count + length (firsts l.marks (names_below l.session l.left)) ≡ length (firsts l.initial.marks (names_below l.session (get_or l.session 5 0))))
-
-abbrev pub decreases-loop-left : goal.decreases-loop-left
-decreases-loop-left l = l.left
+abbrev pub invariant-loop-i : goal.invariant-loop-i
+invariant-loop-i l =
+    (l.i ≤ get_or l.session 5 0) × (l.count + l.i ≤ get_or l.session 5 0) × (length l.marks ≡ length l.initial.marks)
+    × (l.count + length (firsts l.marks (names_below l.session l.i)) ≡ length (firsts l.initial.marks (names_below l.session (get_or l.session 5 0))))

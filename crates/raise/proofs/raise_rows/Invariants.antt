@@ -1,11 +1,6 @@
--- `raise_rows` meets its contract. The loop's invariant: the rows passed are raised, those ahead are as they were.
-use Prim.Native.Nat.{◌-◌}
 use Rattle.definition.specs.Answer.{raised_row}
 use Rattle.raise.proofs.RowLaws.{Done}
 use Rattle.raise.proofs.raise_rows.Given as goal
 
 abbrev pub invariant-loop-r : goal.invariant-loop-r
 invariant-loop-r l = Done (raised_row l.base) l.rows l.initial.out l.r l.out
-
-abbrev pub decreases-loop-r : goal.decreases-loop-r
-decreases-loop-r l = l.rows - l.r

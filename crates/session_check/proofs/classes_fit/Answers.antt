@@ -13,26 +13,14 @@ use mathlib.Core.Path.{ap}
 use mathlib.Core.Bool.{not}
 use Rattle.session_check.proofs.classes_fit.Goals as goal
 
-pub count_at-end-requires : goal.count_at-end-requires
-count_at-end-requires c =
-    (omega (arith, c.requires.0.limited.entries, c.requires.1), omega arith)
-
-pub count_before-i-requires : goal.count_before-i-requires
-count_before-i-requires c =
-    (omega (arith, c.requires.0.limited.entries, c.requires.1), omega arith)
-
-pub count_before-member-requires : goal.count_before-member-requires
-count_before-member-requires c =
-    (omega (arith, c.requires.0.limited.entries, c.requires.1), omega arith)
-
 pub loop-i-init : goal.loop-i-init
 loop-i-init c = (
-  omega (arith, c.count_at-end.ensures.0, c.count_before-i.ensures.0, c.requires.0.risen c.args.e 3 c.requires.1 (omega arith)),
+  omega (arith, c.count_at-end.ensures.0, c.count_before-first.ensures.0, c.requires.0.risen c.args.e 3 c.requires.1 (omega arith)),
   refl,
-  under_le c.requires.4 (omega (arith, c.count_before-i.ensures.0)),
-  c.count_before-member.ensures.0 ∙ sym c.requires.2 ∙ ap (members_before whole c.args.words.now []) (sym c.count_before-i.ensures.0),
+  under_le c.requires.4 (omega (arith, c.count_before-first.ensures.0)),
+  c.count_before-member.ensures.0 ∙ sym c.requires.2 ∙ ap (members_before whole c.args.words.now []) (sym c.count_before-first.ensures.0),
   omega (arith, c.count_before-member.ensures.1),
-  rw (c.count_at-end.ensures.0, c.count_before-i.ensures.0),
+  rw (c.count_at-end.ensures.0, c.count_before-first.ensures.0),
 )
 
 pub class_fits-requires : goal.class_fits-requires
@@ -75,13 +63,6 @@ overflow_add-member c =
       c.requires.0.below c.args.e 3 c.requires.1 (omega arith),
     )
 
-pub overflow_add-i : goal.overflow_add-i
-overflow_add-i c =
-    omega (arith, c.loop-i-test.true, c.count_at-end.ensures.1)
-
-pub loop-i-smaller : goal.loop-i-smaller
-loop-i-smaller c = omega arith
-
 pub loop-i-preserved : goal.loop-i-preserved
 loop-i-preserved c = (
   omega (arith, c.loop-i-test.true),
@@ -91,10 +72,6 @@ loop-i-preserved c = (
   omega (arith, c.loop-i.invariant.4, c.member_count-member.ensures.1),
   all_next (class_right c.args.words.now c.args.e) _ _ c.loop-i-test.true c.class_fits.ensures.0 (ap not c.if-not-class_fits.false) c.loop-i.invariant.5,
 )
-
-pub count_at-requires : goal.count_at-requires
-count_at-requires c =
-    (omega (arith, c.requires.0.limited.entries, c.requires.1), omega arith)
 
 pub shape_of-marks : goal.shape_of-marks
 shape_of-marks c = c.loop-i.invariant.1

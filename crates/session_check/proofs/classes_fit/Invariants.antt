@@ -11,6 +11,3 @@ abbrev pub invariant-loop-i : goal.invariant-loop-i
 invariant-loop-i l =
     (l.i ≤ l.end) × (length l.marks ≡ length l.initial.marks) × Under l.marks (2 * l.i + 1) × (l.member ≡ members_before whole l.words [] l.i) × (l.member < 4294967296 + 8589934592 * l.i)
     × (all (class_right l.words l.e) (from l.i (l.end - l.i)) ≡ all (class_right l.words l.e) (part_of whole l.words [] l.e 3))
-
-abbrev pub decreases-loop-i : goal.decreases-loop-i
-decreases-loop-i l = l.end - l.i

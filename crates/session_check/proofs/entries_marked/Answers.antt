@@ -27,13 +27,6 @@ pub returns-then-not-entry_fits : goal.returns-then-not-entry_fits
 returns-then-not-entry_fits c =
     all_refused (entry_right c.args.words.now) _ _ c.loop-e-test.true c.entry_fits.ensures.0 (ap not c.if-not-entry_fits.true) c.loop-e.invariant.4
 
-pub overflow_add-e : goal.overflow_add-e
-overflow_add-e c =
-    omega (arith, c.loop-e-test.true, c.number_at-entries.ensures.1)
-
-pub loop-e-smaller : goal.loop-e-smaller
-loop-e-smaller c = omega arith
-
 pub loop-e-preserved : goal.loop-e-preserved
 loop-e-preserved c =
     let yes = c.if-not-entry_fits.false in (

@@ -12,6 +12,3 @@ abbrev pub invariant-loop-e : goal.invariant-loop-e
 invariant-loop-e l =
     (l.e ≤ l.entries) × (length l.marks ≡ length l.initial.marks) × Under l.marks (2 * after l.words l.e 3 + 1) × (members_before whole l.words [] (after l.words l.e 3) ≡ after l.words l.e 4)
     × (all (entry_right l.words) (from l.e (l.entries - l.e)) ≡ entries_right l.words)
-
-abbrev pub decreases-loop-e : goal.decreases-loop-e
-decreases-loop-e l = l.entries - l.e

@@ -11,12 +11,6 @@ loop-j-init c = (
   left_start c.args.words.now _ _ c.args.marks.now _ _ c.requires.2 c.requires.3,
 )
 
-pub overflow_mul-j : goal.overflow_mul-j
-overflow_mul-j c = omega arith
-
-pub overflow_add-j : goal.overflow_add-j
-overflow_add-j c = omega arith
-
 pub mark_name-requires : goal.mark_name-requires
 mark_name-requires c = omega (arith, c.loop-j.invariant.1)
 
@@ -31,12 +25,6 @@ returns-then-not-mark_name c =
       left_refused c.args.words.now _ _ m _ _ c.loop-j-test.true c.number_at-name.ensures.0 c.mark_name.ensures.0 no c.loop-j.invariant.3,
       rw (unmarked_if m _ _ _ c.mark_name.ensures.1 no) c.loop-j.invariant.2,
     )
-
-pub overflow_add-j-in-loop-j : goal.overflow_add-j-in-loop-j
-overflow_add-j-in-loop-j c = omega arith
-
-pub loop-j-smaller : goal.loop-j-smaller
-loop-j-smaller c = omega arith
 
 pub loop-j-preserved : goal.loop-j-preserved
 loop-j-preserved c =

@@ -1,5 +1,5 @@
 use mathlib.Core.Path.{◌≡◌}
-use Prim.Native.Nat.{suc, ◌-◌, ◌≤◌}
+use Prim.Native.Nat.{suc, ◌≤◌}
 use lib.ListN.{length}
 use Rattle.session_check.proofs.MarkLaws.{left}
 use Rattle.session_check.specs.Clauses.{Under, names_apart}
@@ -9,6 +9,3 @@ abbrev pub invariant-loop-j : goal.invariant-loop-j
 invariant-loop-j l =
     (l.j ≤ l.end) × (length l.marks ≡ length l.initial.marks) × Under l.marks (suc l.mark)
     × (left l.words l.last l.mark l.marks l.j l.end ≡ names_apart l.words l.last l.first l.end)
-
-abbrev pub decreases-loop-j : goal.decreases-loop-j
-decreases-loop-j l = l.end - l.j

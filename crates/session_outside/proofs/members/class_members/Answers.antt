@@ -65,14 +65,6 @@ overflow_add-at-in-loop-i c = omega (arith, members_few c.args.session.now c.loo
 pub overflow_add-at-in-loop-i-2 : goal.overflow_add-at-in-loop-i-2
 overflow_add-at-in-loop-i-2 c = omega (arith, members_few c.args.session.now c.loop-i.i c.requires.0 (omega arith))
 
-pub overflow_add-i : goal.overflow_add-i
-overflow_add-i c =
-    omega (arith, c.requires.0.few_classes)
-
-pub loop-i-smaller : goal.loop-i-smaller
-loop-i-smaller c =
-    omega (arith, c.entry_at-classes.ensures)
-
 pub loop-i-preserved : goal.loop-i-preserved
 loop-i-preserved c =
     let f = c.entry_at-fields.ensures in

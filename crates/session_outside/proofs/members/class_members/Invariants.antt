@@ -1,7 +1,7 @@
 -- `class_members` meets its contract. Invariant: with the members that are left the words are what they are to be, and `member` members are passed. Assumes nothing.
 use mathlib.Core.List.{[]}
 use mathlib.Core.Path.{◌≡◌}
-use Prim.Native.Nat.{◌+◌, ◌-◌, ◌*◌, ◌≤◌}
+use Prim.Native.Nat.{◌+◌, ◌*◌, ◌≤◌}
 use lib.Seq.{sets}
 use lib.ListN.{length, get_or}
 use Rattle.definition.specs.Basics.{concat_map}
@@ -13,6 +13,3 @@ abbrev pub invariant-loop-i : goal.invariant-loop-i
 invariant-loop-i l =
     (l.i ≤ get_or l.session 6 0) × (l.member ≡ members_before whole l.session [] l.i) × (l.at ≤ l.start + 3 * l.member) × (length l.out ≡ length l.initial.out)
     × (sets l.out l.at (concat_map member_run (records_from l.session l.i)) ≡ sets l.initial.out l.start (concat_map member_run (records_from l.session 0)))
-
-abbrev pub decreases-loop-i : goal.decreases-loop-i
-decreases-loop-i l = get_or l.session 6 0 - l.i

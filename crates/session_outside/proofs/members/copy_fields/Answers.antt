@@ -32,12 +32,6 @@ overflow_add-p-in-loop-i c = omega arith
 pub overflow_add-at : goal.overflow_add-at
 overflow_add-at c = omega arith
 
-pub overflow_add-i : goal.overflow_add-i
-overflow_add-i c = omega arith
-
-pub loop-i-smaller : goal.loop-i-smaller
-loop-i-smaller c = omega arith
-
 pub loop-i-preserved : goal.loop-i-preserved
 loop-i-preserved c =
     let f : ℕ → ℕ = λ j. get_or c.args.session.now (member_place whole j) 0 in (

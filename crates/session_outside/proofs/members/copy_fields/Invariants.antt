@@ -13,6 +13,3 @@ invariant-loop-i l =
     (l.i ≤ l.count) × (length l.out ≡ length l.initial.out)
     × (sets l.out (l.at + l.i) (map (λ j. get_or l.session (member_place whole j) 0) (from (l.first + l.i) (l.count - l.i)))
     ≡ sets l.initial.out l.at (map (λ j. get_or l.session (member_place whole j) 0) (from l.first l.count)))
-
-abbrev pub decreases-loop-i : goal.decreases-loop-i
-decreases-loop-i l = l.count - l.i

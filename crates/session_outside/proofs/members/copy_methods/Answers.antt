@@ -51,12 +51,6 @@ overflow_add-q-in-loop-i-2 c = omega arith
 pub overflow_add-p-in-loop-i-3 : goal.overflow_add-p-in-loop-i-3
 overflow_add-p-in-loop-i-3 c = omega arith
 
-pub overflow_add-i : goal.overflow_add-i
-overflow_add-i c = omega arith
-
-pub loop-i-smaller : goal.loop-i-smaller
-loop-i-smaller c = omega arith
-
 pub loop-i-preserved : goal.loop-i-preserved
 loop-i-preserved c = (
   omega arith,

@@ -13,6 +13,3 @@ invariant-loop-i l =
     (l.i ≤ l.count) × (length l.out ≡ length l.initial.out)
     × (sets l.out (l.at + 3 * l.i) (concat_map method_words (map (earlier_method_in l.session) (from (l.first + l.i) (l.count - l.i))))
     ≡ sets l.initial.out l.at (concat_map method_words (map (earlier_method_in l.session) (from l.first l.count))))
-
-abbrev pub decreases-loop-i : goal.decreases-loop-i
-decreases-loop-i l = l.count - l.i

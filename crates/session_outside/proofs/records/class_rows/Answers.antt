@@ -25,12 +25,6 @@ class_row-place-requires c =
     let l : c.loop-i.i < get_or c.args.session.now 6 0 = omega (arith, c.entry_at-classes.ensures) in
     (r, l, omega (arith, members_few c.args.session.now c.loop-i.i r l))
 
-pub overflow_add-i : goal.overflow_add-i
-overflow_add-i c = omega (arith, c.requires.0.few_classes)
-
-pub loop-i-smaller : goal.loop-i-smaller
-loop-i-smaller c = omega (arith, c.entry_at-classes.ensures)
-
 pub loop-i-preserved : goal.loop-i-preserved
 loop-i-preserved c =
     let l : c.loop-i.i < get_or c.args.session.now 6 0 = omega (arith, c.entry_at-classes.ensures) in

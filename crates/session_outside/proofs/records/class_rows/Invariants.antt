@@ -1,7 +1,7 @@
 -- `class_rows` meets its contract. Invariant: with the rows of the records that are left the words are what they are to be, and the place is that of the next record's members. Assumes nothing.
 use mathlib.Core.List.{[]}
 use mathlib.Core.Path.{◌≡◌}
-use Prim.Native.Nat.{◌+◌, ◌-◌, ◌*◌, ◌≤◌}
+use Prim.Native.Nat.{◌+◌, ◌*◌, ◌≤◌}
 use lib.Seq.{sets}
 use lib.ListN.{length, get_or}
 use Rattle.session.specs.Words.{whole, members_before}
@@ -12,6 +12,3 @@ abbrev pub invariant-loop-i : goal.invariant-loop-i
 invariant-loop-i l =
     (l.i ≤ get_or l.session 6 0) × (l.place ≤ l.start + 3 * members_before whole l.session [] l.i) × (length l.out ≡ length l.initial.out)
     × (sets l.out (8 * (l.first + l.i)) (record_rows l.place (records_from l.session l.i)) ≡ sets l.initial.out (8 * l.first) (record_rows l.start (records_from l.session 0)))
-
-abbrev pub decreases-loop-i : goal.decreases-loop-i
-decreases-loop-i l = get_or l.session 6 0 - l.i

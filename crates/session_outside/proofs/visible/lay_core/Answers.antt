@@ -17,12 +17,6 @@ core_name-requires c = c.loop-i-test.true
 pub lay_name-row-requires : goal.lay_name-row-requires
 lay_name-row-requires c = omega arith
 
-pub overflow_add-i : goal.overflow_add-i
-overflow_add-i c = omega arith
-
-pub loop-i-smaller : goal.loop-i-smaller
-loop-i-smaller c = omega arith
-
 pub loop-i-preserved : goal.loop-i-preserved
 loop-i-preserved c = (
   omega arith,

@@ -8,47 +8,41 @@ use Rattle.session_outside.specs.Written.{name_rows, names_below}
 use Rattle.session_outside.proofs.NameLaws.{below_more, below_none}
 use Rattle.session_outside.proofs.visible.lay_declared.Goals as goal
 
-pub loop-left-init : goal.loop-left-init
-loop-left-init c =
-    let e = c.entry_at-left.ensures in
+pub loop-i-init : goal.loop-i-init
+loop-i-init c =
+    let e = c.entry_at-i.ensures in
     (omega (arith, e), omega (arith, e), refl, refl, ap (λ (k : ℕ). name_rows 1 c.args.marks.now c.args.out.now (names_below c.args.session.now k)) e)
-
-pub overflow_sub-left : goal.overflow_sub-left
-overflow_sub-left c = omega arith
 
 pub declared_name-requires : goal.declared_name-requires
 declared_name-requires c =
-    let l = c.loop-left.left in
+    let l = c.loop-i.i in
     (omega (arith, c.requires.few_laid), c.requires.laid_low (l - 1) (omega arith))
 
 pub lay_name-row-requires : goal.lay_name-row-requires
 lay_name-row-requires c = omega (arith, c.requires.few_laid)
 
-pub loop-left-smaller : goal.loop-left-smaller
-loop-left-smaller c = omega arith
-
-pub loop-left-preserved : goal.loop-left-preserved
-loop-left-preserved c =
-    let z : c.loop-left.left - 1 + 1 ≡ c.loop-left.left = omega arith in (
+pub loop-i-preserved : goal.loop-i-preserved
+loop-i-preserved c =
+    let z : c.loop-i.i - 1 + 1 ≡ c.loop-i.i = omega arith in (
       omega arith,
       omega (arith, c.lay_name-row.ensures.0),
-      omega (arith, c.lay_name-row.auto.marks, c.loop-left.invariant.2),
-      omega (arith, c.lay_name-row.auto.out, c.loop-left.invariant.3),
-      c.lay_name-row.ensures.1 (laid_in whole c.args.session.now [] (c.loop-left.left - 1)) (names_below c.args.session.now (c.loop-left.left - 1)) c.declared_name.ensures
-          ∙ ap (name_rows c.loop-left.row c.loop-left.marks c.loop-left.out)
-          (sym (below_more c.args.session.now (c.loop-left.left - 1)) ∙ ap (names_below c.args.session.now) z) ∙ c.loop-left.invariant.4,
+      omega (arith, c.lay_name-row.auto.marks, c.loop-i.invariant.2),
+      omega (arith, c.lay_name-row.auto.out, c.loop-i.invariant.3),
+      c.lay_name-row.ensures.1 (laid_in whole c.args.session.now [] (c.loop-i.i - 1)) (names_below c.args.session.now (c.loop-i.i - 1)) c.declared_name.ensures
+          ∙ ap (name_rows c.loop-i.row c.loop-i.marks c.loop-i.out)
+          (sym (below_more c.args.session.now (c.loop-i.i - 1)) ∙ ap (names_below c.args.session.now) z) ∙ c.loop-i.invariant.4,
     )
 
 pub shape_of-marks : goal.shape_of-marks
-shape_of-marks c = c.loop-left.invariant.2
+shape_of-marks c = c.loop-i.invariant.2
 
 pub shape_of-out : goal.shape_of-out
-shape_of-out c = c.loop-left.invariant.3
+shape_of-out c = c.loop-i.invariant.3
 
 pub returns : goal.returns
 returns c =
-    let z : c.loop-left.left ≡ 0 = omega arith in (
+    let z : c.loop-i.i ≡ 0 = omega arith in (
       omega (arith, c.requires.few_laid),
-      ap (name_rows c.loop-left.row c.loop-left.marks c.loop-left.out)
-          (sym (ap (names_below c.args.session.now) z ∙ below_none c.args.session.now)) ∙ c.loop-left.invariant.4,
+      ap (name_rows c.loop-i.row c.loop-i.marks c.loop-i.out)
+          (sym (ap (names_below c.args.session.now) z ∙ below_none c.args.session.now)) ∙ c.loop-i.invariant.4,
     )

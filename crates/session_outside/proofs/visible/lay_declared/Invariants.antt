@@ -5,10 +5,7 @@ use lib.ListN.{length, get_or}
 use Rattle.session_outside.specs.Written.{name_rows, names_below}
 use Rattle.session_outside.proofs.visible.lay_declared.Given as goal
 
-abbrev pub invariant-loop-left : goal.invariant-loop-left
-invariant-loop-left l =
-    (l.left ≤ get_or l.session 5 0) × (l.row + l.left ≤ get_or l.session 5 0 + 1) × (length l.marks ≡ length l.initial.marks) × (length l.out ≡ length l.initial.out)
-    × (name_rows l.row l.marks l.out (names_below l.session l.left) ≡ name_rows 1 l.initial.marks l.initial.out (names_below l.session (get_or l.session 5 0)))
-
-abbrev pub decreases-loop-left : goal.decreases-loop-left
-decreases-loop-left l = l.left
+abbrev pub invariant-loop-i : goal.invariant-loop-i
+invariant-loop-i l =
+    (l.i ≤ get_or l.session 5 0) × (l.row + l.i ≤ get_or l.session 5 0 + 1) × (length l.marks ≡ length l.initial.marks) × (length l.out ≡ length l.initial.out)
+    × (name_rows l.row l.marks l.out (names_below l.session l.i) ≡ name_rows 1 l.initial.marks l.initial.out (names_below l.session (get_or l.session 5 0)))
