@@ -12,11 +12,13 @@ ghost use Rattle.sink.specs.Sink.{sink, emit as emitted, emit_all};
 ghost use Rattle.class_rows.specs.Places.{Placed};
 ghost use Rattle.answer_rows.specs.Ready.{FewFields, RowsReady, Scratch};
 ghost use Rattle.outside.specs.Words.{over};
+ghost use Rattle.class_names.specs.Read.{outside_in, store_in};
 
 use ast::{FunId, code, column, kind};
 use class_names::marks::mark_parents;
+use class_names::tables::Tables;
 use class_rows::emit_class;
-use fun_rows::literals::link_literals;
+use fun_rows::literals::{Literals, link_literals};
 use fun_rows::{emit_function, emit_literal};
 use sink::{AnswerRow, emit};
 use store::nodes::Store;
@@ -87,116 +89,80 @@ pub struct Turn {
     pub count: usize,
 }
 
+// What links the rows: the literals of each function, and the marks of the classes that have children.
+#[derive(Clone, Copy)]
+pub struct Links<'a> {
+    pub literals: Literals<'a>,
+    pub subclassed: &'a [u32],
+}
+
 // The answer rows of a sheet row, by its kind. `starts` tells where the rows of earlier classes stand.
-fn emit_of(
-    sheet: &[u32],
-    outside: &[u32],
-    results: &[u32],
-    nodes: &[u32],
-    literals: &[u32],
-    siblings: &[u32],
-    subclassed: &[u32],
-    starts: &mut [usize],
-    turn: Turn,
-    out: &mut [u32],
-) -> usize
-    requires { (RowsReady (over outside.now) sheet.now results.now nodes.now literals.now siblings.now subclassed.now)
-        × (turn.row < rows sheet.now)
-        × (Placed (over outside.now) sheet.now results.now nodes.now starts.old out.old turn.row turn.count) }
+fn emit_of(tables: Tables, links: Links, starts: &mut [usize], turn: Turn, out: &mut [u32]) -> usize
+    requires { (RowsReady (outside_in tables) tables.sheet.now tables.results.now tables.nodes.now links.literals.first.now links.literals.after.now links.subclassed.now)
+        × (turn.row < rows tables.sheet.now)
+        × (Placed (outside_in tables) tables.sheet.now tables.results.now tables.nodes.now starts.old out.old turn.row turn.count) }
     ensures { ((o : Store) → sink result out.new
-        ≡ emit_all (rows_in (over outside.now) sheet.now
-        (store_of o results.now nodes.now) turn.row) (sink turn.count out.old))
-        × (Placed (over outside.now) sheet.now results.now nodes.now starts.new
+        ≡ emit_all (rows_in (outside_in tables.entry) tables.entry.sheet.now
+        (store_in tables.entry o) turn.row) (sink turn.count out.old))
+        × (Placed (outside_in tables.entry) tables.entry.sheet.now tables.entry.results.now tables.entry.nodes.now starts.new
         out.new (turn.row + 1) result) }
 {
-    let kind = word(sheet, turn.row, column::KIND);
+    let kind = word(tables.sheet, turn.row, column::KIND);
     match kind {
-        kind::LET => emit_row(results, turn.row, turn.count, out),
-        kind::HOST_CONSTANT => emit_row(results, turn.row, turn.count, out),
-        kind::INSTANCEOF => emit_row(results, turn.row, turn.count, out),
-        kind::IDENTIFIER => emit_shown(results, turn.row, turn.count, out),
-        kind::MEMBER => emit_member(results, turn.row, turn.count, out),
-        kind::LITERAL => emit_literal(sheet, results, nodes, turn.row, turn.count, out),
-        kind::FUNCTION => emit_function(
-            sheet,
-            results,
-            nodes,
-            literals,
-            siblings,
-            FunId(turn.row),
-            turn.count,
-            out,
-        ),
-        kind::CLASS => emit_class(
-            sheet, outside, results, nodes, subclassed, starts, turn.row, turn.count, out,
-        ),
+        kind::LET => emit_row(tables.results, turn.row, turn.count, out),
+        kind::HOST_CONSTANT => emit_row(tables.results, turn.row, turn.count, out),
+        kind::INSTANCEOF => emit_row(tables.results, turn.row, turn.count, out),
+        kind::IDENTIFIER => emit_shown(tables.results, turn.row, turn.count, out),
+        kind::MEMBER => emit_member(tables.results, turn.row, turn.count, out),
+        kind::LITERAL => emit_literal(tables, turn.row, turn.count, out),
+        kind::FUNCTION => emit_function(tables, links.literals, FunId(turn.row), turn.count, out),
+        kind::CLASS => emit_class(tables, links.subclassed, starts, turn.row, turn.count, out),
         _ => turn.count,
     }
 }
 
 // The answer rows of all sheet rows; their number, or one more than fit.
-fn emit_each(
-    sheet: &[u32],
-    outside: &[u32],
-    results: &[u32],
-    nodes: &[u32],
-    literals: &[u32],
-    siblings: &[u32],
-    subclassed: &[u32],
-    starts: &mut [usize],
-    out: &mut [u32],
-) -> usize
-    requires { (RowsReady (over outside.now) sheet.now results.now nodes.now literals.now siblings.now subclassed.now)
+fn emit_each(tables: Tables, links: Links, starts: &mut [usize], out: &mut [u32]) -> usize
+    requires { (RowsReady (outside_in tables) tables.sheet.now tables.results.now tables.nodes.now links.literals.first.now links.literals.after.now links.subclassed.now)
         × (starts.old ≡ replicate 2048 0) }
     ensures { (o : Store) → sink result out.new
-        ≡ emit_all (answers_in (over outside.now) sheet.now (store_of o results.now nodes.now))
+        ≡ emit_all (answers_in (outside_in tables.entry) tables.entry.sheet.now (store_in tables.entry o))
         (sink 0 out.old) }
 {
     let mut k: usize = 0;
     let mut row: usize = 0;
-    while row < sheet.len() / 8 {
+    while row < tables.sheet.len() / 8 {
         let r = row as u32;
-        k = emit_of(
-            sheet,
-            outside,
-            results,
-            nodes,
-            literals,
-            siblings,
-            subclassed,
-            starts,
-            Turn { row: r, count: k },
-            out,
-        );
+        k = emit_of(tables, links, starts, Turn { row: r, count: k }, out);
         row += 1;
     }
     k
 }
 
 // The same in lent scratch space: literals are chained by function and parents marked once, and not looked for at each row.
-fn emit_linked(
-    sheet: &[u32],
-    outside: &[u32],
-    results: &[u32],
-    nodes: &[u32],
-    literals: &mut [u32],
-    siblings: &mut [u32],
-    subclassed: &mut [u32],
+fn emit_linked<'a>(
+    tables: Tables,
+    first: &'a mut [u32],
+    after: &'a mut [u32],
+    subclassed: &'a mut [u32],
     starts: &mut [usize],
     out: &mut [u32],
 ) -> usize
-    requires { (PastFour (over outside.now) sheet.now)
-        × (FewFields (over outside.now) sheet.now results.now nodes.now)
-        × (Scratch sheet.now literals.old siblings.old subclassed.old) × (starts.old ≡ replicate 2048 0) }
+    requires { (PastFour (outside_in tables) tables.sheet.now)
+        × (FewFields (outside_in tables) tables.sheet.now tables.results.now tables.nodes.now)
+        × (Scratch tables.sheet.now first.old after.old subclassed.old) × (starts.old ≡ replicate 2048 0) }
     ensures { (o : Store) → sink result out.new
-        ≡ emit_all (answers_in (over outside.now) sheet.now (store_of o results.now nodes.now))
+        ≡ emit_all (answers_in (outside_in tables.entry) tables.entry.sheet.now (store_in tables.entry o))
         (sink 0 out.old) }
 {
-    link_literals(sheet, results, literals, siblings);
-    mark_parents(sheet, results, subclassed);
-    emit_each(
-        sheet, outside, results, nodes, literals, siblings, subclassed, starts, out,
-    )
+    link_literals(tables.sheet, tables.results, first, after);
+    mark_parents(tables.sheet, tables.results, subclassed);
+    let literals = Literals { first, after };
+    let links = Links {
+        literals,
+        subclassed,
+    };
+    emit_each(tables, links, starts, out)
 }
 
 // The answer rows of what the walk stored, with scratch space for 2,048 rows; their number, or one more than fit.
@@ -214,17 +180,20 @@ pub fn emit_rows(
         ≡ emit_all (answers_in (over outside.now) sheet.now (store_of store results.now nodes.now))
         (sink 0 out.old) }
 {
-    let mut literals = [0u32; 2048];
-    let mut siblings = [0u32; 2048];
-    let mut subclassed = [0u32; 2048];
-    let mut starts = [0usize; 2048];
-    emit_linked(
+    let tables = Tables {
         sheet,
         outside,
         results,
         nodes,
-        &mut literals,
-        &mut siblings,
+    };
+    let mut first = [0u32; 2048];
+    let mut after = [0u32; 2048];
+    let mut subclassed = [0u32; 2048];
+    let mut starts = [0usize; 2048];
+    emit_linked(
+        tables,
+        &mut first,
+        &mut after,
         &mut subclassed,
         &mut starts,
         out,

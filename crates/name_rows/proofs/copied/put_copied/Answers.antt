@@ -17,18 +17,17 @@ pub loop-at-preserved : goal.loop-at-preserved
 loop-at-preserved c =
     let left = c.args.i + c.args.n - c.loop-at.at in
     let e : c.args.i + c.args.n - (c.loop-at.at + 1) ≡ left - 1 = omega arith in
-    let f = copied_row (over c.args.outside.now) c.args.sheet.now c.args.wanted c.args.out.now in
-    (
+    let f = copied_row (over c.args.tables.outside.now) c.args.tables.sheet.now c.args.wanted c.args.out.now in (
       ap (λ (m : ℕ). put_all f (from (c.loop-at.at + 1) m) (filled c.put_copy-done.result c.put_copy-done.new.out)) e
-          ∙ copied_next (over c.args.outside.now) c.args.sheet.now c.args.wanted c.args.out.now c.loop-at.at left (filled c.loop-at.done c.loop-at.out)
+          ∙ copied_next (over c.args.tables.outside.now) c.args.tables.sheet.now c.args.wanted c.args.out.now c.loop-at.at left (filled c.loop-at.done c.loop-at.out)
           (omega (arith, c.loop-at-test.true)) (omega (arith, c.loop-at-test.true)) c.loop-at.invariant.1 c.put_copy-done.ensures
           ∙ c.loop-at.invariant.0,
-      copied_kept (over c.args.outside.now) c.args.sheet.now c.args.wanted c.args.out.now c.loop-at.at left (filled c.loop-at.done c.loop-at.out)
+      copied_kept (over c.args.tables.outside.now) c.args.tables.sheet.now c.args.wanted c.args.out.now c.loop-at.at left (filled c.loop-at.done c.loop-at.out)
           (omega (arith, c.loop-at-test.true)) (omega (arith, c.loop-at-test.true)) c.loop-at.invariant.1 c.put_copy-done.ensures c.requires.1,
     )
 
 pub returns : goal.returns
 returns c =
-    copied_end (over c.args.outside.now) c.args.sheet.now c.args.wanted c.args.out.now c.loop-at.at (c.args.i + c.args.n - c.loop-at.at) (filled c.loop-at.done c.loop-at.out)
+    copied_end (over c.args.tables.outside.now) c.args.tables.sheet.now c.args.wanted c.args.out.now c.loop-at.at (c.args.i + c.args.n - c.loop-at.at) (filled c.loop-at.done c.loop-at.out)
     (omega (arith, c.loop-at-test.false))
     ∙ c.loop-at.invariant.0
