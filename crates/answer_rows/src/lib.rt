@@ -14,7 +14,9 @@ ghost use Rattle.answer_rows.specs.Ready.{FewFields, RowsReady, Scratch};
 ghost use Rattle.outside.specs.Words.{over};
 ghost use Rattle.class_names.specs.Read.{outside_in, store_in};
 
-use ast::{FunId, code, column, kind};
+use ast::FunId;
+use ast::code::Code;
+use ast::kind::Kind;
 use class_names::marks::mark_parents;
 use class_names::tables::Tables;
 use class_rows::emit_class;
@@ -23,9 +25,10 @@ use fun_rows::{emit_function, emit_literal};
 use sink::{AnswerRow, emit};
 use store::nodes::Store;
 use store::result;
-use words::word;
+use words::{kind_at, word};
 
 // The row of a let, host constant, instanceof or member, as the results have it.
+#[tactic(auto, unfolding(machine::specs::Reads::row_words))]
 fn emit_row(results: &[u32], row: u32, k: usize, out: &mut [u32]) -> usize
     ensures { sink result out.new ≡ emitted (answer_row row (row_words results.now row)) (sink k out.old) }
 {
@@ -41,15 +44,16 @@ fn emit_row(results: &[u32], row: u32, k: usize, out: &mut [u32]) -> usize
 }
 
 // The row of an identifier. Of a captured one the results have the distance where its second value would be.
+#[tactic(auto, using(crate::proofs::RowLaws::use_plain, crate::proofs::RowLaws::use_captured))]
 fn emit_use(results: &[u32], row: u32, k: usize, out: &mut [u32]) -> usize
     ensures { sink result out.new ≡ emitted (identifier_answer row (row_words results.now row)) (sink k out.old) }
 {
-    if word(results, row, result::CODE) != code::CAPTURED {
+    if word(results, row, result::CODE) != Code::Captured as u32 {
         return emit_row(results, row, k, out);
     }
     let told = AnswerRow {
         row: row,
-        code: code::CAPTURED,
+        code: Code::Captured as u32,
         one: word(results, row, result::ONE),
         two: 0,
         three: word(results, row, result::THREE),
@@ -59,6 +63,7 @@ fn emit_use(results: &[u32], row: u32, k: usize, out: &mut [u32]) -> usize
 }
 
 // An identifier has a row unless it is the base of a method called on a class.
+#[tactic(auto, using(sink::proofs::SinkLaws::emit_none, sink::proofs::SinkLaws::emit_one))]
 fn emit_shown(results: &[u32], row: u32, k: usize, out: &mut [u32]) -> usize
     ensures { sink result out.new
         ≡ emit_all (when eqb (cell results.now row 4) 0 then identifier_answer row (row_words results.now row) ∷ [] else [])
@@ -71,12 +76,13 @@ fn emit_shown(results: &[u32], row: u32, k: usize, out: &mut [u32]) -> usize
 }
 
 // A member has a row if it is the callee of such a call.
+#[tactic(auto, using(sink::proofs::SinkLaws::emit_none, sink::proofs::SinkLaws::emit_one))]
 fn emit_member(results: &[u32], row: u32, k: usize, out: &mut [u32]) -> usize
     ensures { sink result out.new
         ≡ emit_all (when eqb (cell results.now row 0) 0 then [] else answer_row row (row_words results.now row) ∷ [])
         (sink k out.old) }
 {
-    if word(results, row, result::CODE) == code::NOTHING {
+    if word(results, row, result::CODE) == Code::Nothing as u32 {
         return k;
     }
     emit_row(results, row, k, out)
@@ -107,16 +113,21 @@ fn emit_of(tables: Tables, links: Links, starts: &mut [usize], turn: Turn, out: 
         × (Placed (outside_in tables.entry) tables.entry.sheet.now tables.entry.results.now tables.entry.nodes.now starts.new
         out.new (turn.row + 1) result) }
 {
-    let kind = word(tables.sheet, turn.row, column::KIND);
-    match kind {
-        kind::LET => emit_row(tables.results, turn.row, turn.count, out),
-        kind::HOST_CONSTANT => emit_row(tables.results, turn.row, turn.count, out),
-        kind::INSTANCEOF => emit_row(tables.results, turn.row, turn.count, out),
-        kind::IDENTIFIER => emit_shown(tables.results, turn.row, turn.count, out),
-        kind::MEMBER => emit_member(tables.results, turn.row, turn.count, out),
-        kind::LITERAL => emit_literal(tables, turn.row, turn.count, out),
-        kind::FUNCTION => emit_function(tables, links.literals, FunId(turn.row), turn.count, out),
-        kind::CLASS => emit_class(tables, links.subclassed, starts, turn.row, turn.count, out),
+    match kind_at(tables.sheet, turn.row) {
+        Ok(Kind::Let) => emit_row(tables.results, turn.row, turn.count, out),
+        Ok(Kind::HostConstant) => emit_row(tables.results, turn.row, turn.count, out),
+        Ok(Kind::Instanceof) => emit_row(tables.results, turn.row, turn.count, out),
+        Ok(Kind::Identifier) => emit_shown(tables.results, turn.row, turn.count, out),
+        Ok(Kind::Member) => emit_member(tables.results, turn.row, turn.count, out),
+        Ok(Kind::Literal) => emit_literal(tables, turn.row, turn.count, out),
+        Ok(Kind::Function) => emit_function(
+            tables,
+            links.literals,
+            FunId(turn.row),
+            turn.count,
+            out,
+        ),
+        Ok(Kind::Class) => emit_class(tables, links.subclassed, starts, turn.row, turn.count, out),
         _ => turn.count,
     }
 }
@@ -129,12 +140,9 @@ fn emit_each(tables: Tables, links: Links, starts: &mut [usize], out: &mut [u32]
         ≡ emit_all (answers_in (outside_in tables.entry) tables.entry.sheet.now (store_in tables.entry o))
         (sink 0 out.old) }
 {
-    let mut k: usize = 0;
-    let mut row: usize = 0;
-    while row < tables.sheet.len() / 8 {
-        let r = row as u32;
-        k = emit_of(tables, links, starts, Turn { row: r, count: k }, out);
-        row += 1;
+    let mut k = 0;
+    for row in 0..(tables.sheet.len() / 8) as u32 {
+        k = emit_of(tables, links, starts, Turn { row, count: k }, out);
     }
     k
 }

@@ -18,8 +18,9 @@ mod places;
 
 use crate::line::{count_line, put_line};
 use crate::places::{Inherited, above_of, line_ends, place_of};
+use ast::code::Code;
 use ast::kind::Kind;
-use ast::{ClassId, FIRST_CLASS, code};
+use ast::{ClassId, FIRST_CLASS};
 use class_names::tables::Tables;
 use inherit::parent_of;
 use name_rows::put::{Wanted, Written};
@@ -63,7 +64,7 @@ fn class_head(tables: Tables, subclassed: &[u32], above: Inherited, row: u32) ->
     let method_count = count_line(tables, wanted(row, Kind::Function), above.methods);
     AnswerRow {
         row: row,
-        code: code::CLASS_COUNTS,
+        code: Code::ClassCounts as u32,
         one: parent,
         two: children,
         three: field_count,

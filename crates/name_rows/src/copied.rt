@@ -5,13 +5,13 @@ ghost use Rattle.definition.specs.Basics.{when◌then◌else◌, from};
 ghost use Rattle.definition.specs.Classes.{method_named, own_methods};
 ghost use Rattle.name_rows.specs.Put.{filled, words_of, copied_row, put, put_all};
 
-use crate::put::{Wanted, Written};
+use crate::put::{Wanted, Written, put_row};
+use ast::code::Code;
 use ast::kind::Kind;
-use ast::{ClassId, FunId, code};
+use ast::{ClassId, FunId};
 use class_names::tables::Tables;
 use outside::records::own_method;
-use sink::{AnswerRow, emit};
-use words::one_more;
+use sink::AnswerRow;
 
 // The own method of name `m` of a class, else function `f`.
 fn own_or(tables: Tables, c: ClassId, m: u32, f: FunId) -> FunId
@@ -33,7 +33,7 @@ fn copied_row(tables: Tables, out: &[u32], wanted: Wanted, at: usize, i: u32) ->
     if wanted.kind == Kind::Field {
         return AnswerRow {
             row: wanted.row,
-            code: code::FIELD,
+            code: Code::Field as u32,
             one: i,
             two: last,
             three: 0,
@@ -44,26 +44,11 @@ fn copied_row(tables: Tables, out: &[u32], wanted: Wanted, at: usize, i: u32) ->
     let fun = own_or(tables, wanted.class, m, FunId(last));
     AnswerRow {
         row: wanted.row,
-        code: code::METHOD,
+        code: Code::Method as u32,
         one: m,
         two: fun.0,
         three: 0,
         four: 0,
-    }
-}
-
-// One name more, that of row `at`.
-fn put_copy(tables: Tables, wanted: Wanted, at: usize, k: Written, out: &mut [u32]) -> Written
-    requires { at < length out.old / 8 }
-    ensures { filled result out.new
-        ≡ put (copied_row (outside_in tables.entry) tables.entry.sheet.now wanted out.old) at (filled k out.old) }
-{
-    let x = copied_row(tables, out, wanted, at, k.slot);
-    let count = emit(out, k.count, x);
-    let slot = one_more(k.slot);
-    Written {
-        count: count,
-        slot: slot,
     }
 }
 
@@ -83,7 +68,8 @@ pub fn put_copied(
 {
     let mut done = k;
     for at in i..i + n as usize {
-        done = put_copy(tables, wanted, at, done, out);
+        let x = copied_row(tables, out, wanted, at, done.slot);
+        done = put_row(x, done, out);
     }
     done
 }

@@ -4,14 +4,16 @@ ghost use Rattle.class_names.specs.Read.{outside_in, store_in};
 ghost use Rattle.definition.specs.Sheet.{a, kids_of};
 ghost use Rattle.ast.specs.Kind.{kind_number};
 ghost use Rattle.outside.specs.Left.{names_left};
-ghost use Rattle.machine.specs.Machine.{chain_to};
+ghost use Rattle.machine.specs.Machine.{chain_to, one_more as next_slot};
+ghost use Rattle.sink.specs.Sink.{sink, emit as emitted};
 ghost use Rattle.store.specs.Stored.{store_of};
 ghost use Rattle.store.specs.declared.nodes.Store.{Store};
 ghost use Rattle.class_names.specs.Names.{own_in, names_in};
 ghost use Rattle.name_rows.specs.Put.{filled, words_of, name_row, put, put_all, put_new};
 
+use ast::code::Code;
 use ast::kind::Kind;
-use ast::{ClassId, FIRST_CLASS, code, column};
+use ast::{ClassId, FIRST_CLASS, column};
 use class_names::held::is_inherited;
 use class_names::tables::Tables;
 use inherit::{find_method, parent_of};
@@ -54,7 +56,7 @@ fn name_row(tables: Tables, wanted: Wanted, m: u32, i: u32) -> AnswerRow
     if wanted.kind == Kind::Field {
         return AnswerRow {
             row: wanted.row,
-            code: code::FIELD,
+            code: Code::Field as u32,
             one: i,
             two: m,
             three: 0,
@@ -71,7 +73,7 @@ fn name_row(tables: Tables, wanted: Wanted, m: u32, i: u32) -> AnswerRow
     .fun;
     AnswerRow {
         row: wanted.row,
-        code: code::METHOD,
+        code: Code::Method as u32,
         one: m,
         two: fun.0,
         three: 0,
@@ -79,18 +81,13 @@ fn name_row(tables: Tables, wanted: Wanted, m: u32, i: u32) -> AnswerRow
     }
 }
 
-// One name more.
-fn put_name(tables: Tables, wanted: Wanted, m: u32, k: Written, out: &mut [u32]) -> Written
-    ensures { (o : Store) (q : List ℕ) → filled result out.new
-        ≡ put (name_row (outside_in tables.entry) tables.entry.sheet.now (store_of o tables.entry.results.now q) wanted) m
-        (filled k out.old) }
+// One row more, that tells the name at the next slot.
+pub fn put_row(x: AnswerRow, k: Written, out: &mut [u32]) -> Written
+    ensures { filled result out.new ≡ record { done = emitted (words_of x) (sink k.count out.old); slot = next_slot k.slot } }
 {
-    let x = name_row(tables, wanted, m, k.slot);
-    let count = emit(out, k.count, x);
-    let slot = one_more(k.slot);
     Written {
-        count: count,
-        slot: slot,
+        count: emit(out, k.count, x),
+        slot: one_more(k.slot),
     }
 }
 
@@ -110,7 +107,7 @@ fn put_new(
     if is_inherited(tables, wanted.kind, p.left, p.class, m) {
         return k;
     }
-    put_name(tables, wanted, m, k, out)
+    put_row(name_row(tables, wanted, m, k.slot), k, out)
 }
 
 // Names in the words from outside, in order.

@@ -29,20 +29,9 @@ loop-row-init c =
       placed,
     )
 
-pub overflow_cast-r : goal.overflow_cast-r
-overflow_cast-r c =
-    omega (arith, c.loop-row-test.true, c.requires.0.small)
-
 pub emit_of-k-requires : goal.emit_of-k-requires
 emit_of-k-requires c =
     (c.requires.0, c.loop-row-test.true, c.loop-row.invariant.4)
-
-pub overflow_add-row : goal.overflow_add-row
-overflow_add-row c =
-    omega (arith, c.loop-row-test.true, c.requires.0.small)
-
-pub loop-row-smaller : goal.loop-row-smaller
-loop-row-smaller c = omega (arith, c.loop-row-test.true)
 
 pub loop-row-preserved : goal.loop-row-preserved
 loop-row-preserved c =

@@ -17,6 +17,3 @@ invariant-loop-row l =
     ≡ emit_all (concat_map (rows_in (over l.tables.outside.now) l.tables.sheet.now (store_of o l.tables.results.now l.tables.nodes.now)) (from 0 (length l.tables.sheet.now / 8))) (sink 0 l.initial.out))
     × (l.row ≤ length l.tables.sheet.now / 8) × (length l.out ≡ length l.initial.out) × (length l.starts ≡ length l.initial.starts)
     × (Placed (over l.tables.outside.now) l.tables.sheet.now l.tables.results.now l.tables.nodes.now l.starts l.out l.row l.k)
-
-abbrev pub decreases-loop-row : goal.decreases-loop-row
-decreases-loop-row l = length l.tables.sheet.now / 8 - l.row
