@@ -12,18 +12,23 @@ ghost use Rattle.sink.specs.Sink.{sink, emit as emitted, emit_all};
 ghost use Rattle.class_rows.specs.Places.{Placed};
 ghost use Rattle.answer_rows.specs.Ready.{FewFields, RowsReady, Scratch};
 ghost use Rattle.outside.specs.Words.{over};
+ghost use Rattle.class_names.specs.Read.{outside_in, store_in};
 
-use ast::{FunId, code, column, kind};
+use ast::FunId;
+use ast::code::Code;
+use ast::kind::Kind;
 use class_names::marks::mark_parents;
+use class_names::tables::Tables;
 use class_rows::emit_class;
-use fun_rows::literals::link_literals;
+use fun_rows::literals::{Literals, link_literals};
 use fun_rows::{emit_function, emit_literal};
 use sink::{AnswerRow, emit};
 use store::nodes::Store;
 use store::result;
-use words::word;
+use words::{kind_at, word};
 
 // The row of a let, host constant, instanceof or member, as the results have it.
+#[tactic(auto, unfolding(machine::specs::Reads::row_words))]
 fn emit_row(results: &[u32], row: u32, k: usize, out: &mut [u32]) -> usize
     ensures { sink result out.new ≡ emitted (answer_row row (row_words results.now row)) (sink k out.old) }
 {
@@ -39,15 +44,16 @@ fn emit_row(results: &[u32], row: u32, k: usize, out: &mut [u32]) -> usize
 }
 
 // The row of an identifier. Of a captured one the results have the distance where its second value would be.
+#[tactic(auto, using(crate::proofs::RowLaws::use_plain, crate::proofs::RowLaws::use_captured))]
 fn emit_use(results: &[u32], row: u32, k: usize, out: &mut [u32]) -> usize
     ensures { sink result out.new ≡ emitted (identifier_answer row (row_words results.now row)) (sink k out.old) }
 {
-    if word(results, row, result::CODE) != code::CAPTURED {
+    if word(results, row, result::CODE) != Code::Captured as u32 {
         return emit_row(results, row, k, out);
     }
     let told = AnswerRow {
         row: row,
-        code: code::CAPTURED,
+        code: Code::Captured as u32,
         one: word(results, row, result::ONE),
         two: 0,
         three: word(results, row, result::THREE),
@@ -57,6 +63,7 @@ fn emit_use(results: &[u32], row: u32, k: usize, out: &mut [u32]) -> usize
 }
 
 // An identifier has a row unless it is the base of a method called on a class.
+#[tactic(auto, using(sink::proofs::SinkLaws::emit_none, sink::proofs::SinkLaws::emit_one))]
 fn emit_shown(results: &[u32], row: u32, k: usize, out: &mut [u32]) -> usize
     ensures { sink result out.new
         ≡ emit_all (when eqb (cell results.now row 4) 0 then identifier_answer row (row_words results.now row) ∷ [] else [])
@@ -69,12 +76,13 @@ fn emit_shown(results: &[u32], row: u32, k: usize, out: &mut [u32]) -> usize
 }
 
 // A member has a row if it is the callee of such a call.
+#[tactic(auto, using(sink::proofs::SinkLaws::emit_none, sink::proofs::SinkLaws::emit_one))]
 fn emit_member(results: &[u32], row: u32, k: usize, out: &mut [u32]) -> usize
     ensures { sink result out.new
         ≡ emit_all (when eqb (cell results.now row 0) 0 then [] else answer_row row (row_words results.now row) ∷ [])
         (sink k out.old) }
 {
-    if word(results, row, result::CODE) == code::NOTHING {
+    if word(results, row, result::CODE) == Code::Nothing as u32 {
         return k;
     }
     emit_row(results, row, k, out)
@@ -87,116 +95,82 @@ pub struct Turn {
     pub count: usize,
 }
 
+// What links the rows: the literals of each function, and the marks of the classes that have children.
+#[derive(Clone, Copy)]
+pub struct Links<'a> {
+    pub literals: Literals<'a>,
+    pub subclassed: &'a [u32],
+}
+
 // The answer rows of a sheet row, by its kind. `starts` tells where the rows of earlier classes stand.
-fn emit_of(
-    sheet: &[u32],
-    outside: &[u32],
-    results: &[u32],
-    nodes: &[u32],
-    literals: &[u32],
-    siblings: &[u32],
-    subclassed: &[u32],
-    starts: &mut [usize],
-    turn: Turn,
-    out: &mut [u32],
-) -> usize
-    requires { (RowsReady (over outside.now) sheet.now results.now nodes.now literals.now siblings.now subclassed.now)
-        × (turn.row < rows sheet.now)
-        × (Placed (over outside.now) sheet.now results.now nodes.now starts.old out.old turn.row turn.count) }
+fn emit_of(tables: Tables, links: Links, starts: &mut [usize], turn: Turn, out: &mut [u32]) -> usize
+    requires { (RowsReady (outside_in tables) tables.sheet.now tables.results.now tables.nodes.now links.literals.first.now links.literals.after.now links.subclassed.now)
+        × (turn.row < rows tables.sheet.now)
+        × (Placed (outside_in tables) tables.sheet.now tables.results.now tables.nodes.now starts.old out.old turn.row turn.count) }
     ensures { ((o : Store) → sink result out.new
-        ≡ emit_all (rows_in (over outside.now) sheet.now
-        (store_of o results.now nodes.now) turn.row) (sink turn.count out.old))
-        × (Placed (over outside.now) sheet.now results.now nodes.now starts.new
+        ≡ emit_all (rows_in (outside_in tables.entry) tables.entry.sheet.now
+        (store_in tables.entry o) turn.row) (sink turn.count out.old))
+        × (Placed (outside_in tables.entry) tables.entry.sheet.now tables.entry.results.now tables.entry.nodes.now starts.new
         out.new (turn.row + 1) result) }
 {
-    let kind = word(sheet, turn.row, column::KIND);
-    match kind {
-        kind::LET => emit_row(results, turn.row, turn.count, out),
-        kind::HOST_CONSTANT => emit_row(results, turn.row, turn.count, out),
-        kind::INSTANCEOF => emit_row(results, turn.row, turn.count, out),
-        kind::IDENTIFIER => emit_shown(results, turn.row, turn.count, out),
-        kind::MEMBER => emit_member(results, turn.row, turn.count, out),
-        kind::LITERAL => emit_literal(sheet, results, nodes, turn.row, turn.count, out),
-        kind::FUNCTION => emit_function(
-            sheet,
-            results,
-            nodes,
-            literals,
-            siblings,
+    match kind_at(tables.sheet, turn.row) {
+        Ok(Kind::Let) => emit_row(tables.results, turn.row, turn.count, out),
+        Ok(Kind::HostConstant) => emit_row(tables.results, turn.row, turn.count, out),
+        Ok(Kind::Instanceof) => emit_row(tables.results, turn.row, turn.count, out),
+        Ok(Kind::Identifier) => emit_shown(tables.results, turn.row, turn.count, out),
+        Ok(Kind::Member) => emit_member(tables.results, turn.row, turn.count, out),
+        Ok(Kind::Literal) => emit_literal(tables, turn.row, turn.count, out),
+        Ok(Kind::Function) => emit_function(
+            tables,
+            links.literals,
             FunId(turn.row),
             turn.count,
             out,
         ),
-        kind::CLASS => emit_class(
-            sheet, outside, results, nodes, subclassed, starts, turn.row, turn.count, out,
-        ),
+        Ok(Kind::Class) => emit_class(tables, links.subclassed, starts, turn.row, turn.count, out),
         _ => turn.count,
     }
 }
 
 // The answer rows of all sheet rows; their number, or one more than fit.
-fn emit_each(
-    sheet: &[u32],
-    outside: &[u32],
-    results: &[u32],
-    nodes: &[u32],
-    literals: &[u32],
-    siblings: &[u32],
-    subclassed: &[u32],
-    starts: &mut [usize],
-    out: &mut [u32],
-) -> usize
-    requires { (RowsReady (over outside.now) sheet.now results.now nodes.now literals.now siblings.now subclassed.now)
+fn emit_each(tables: Tables, links: Links, starts: &mut [usize], out: &mut [u32]) -> usize
+    requires { (RowsReady (outside_in tables) tables.sheet.now tables.results.now tables.nodes.now links.literals.first.now links.literals.after.now links.subclassed.now)
         × (starts.old ≡ replicate 2048 0) }
     ensures { (o : Store) → sink result out.new
-        ≡ emit_all (answers_in (over outside.now) sheet.now (store_of o results.now nodes.now))
+        ≡ emit_all (answers_in (outside_in tables.entry) tables.entry.sheet.now (store_in tables.entry o))
         (sink 0 out.old) }
 {
-    let mut k: usize = 0;
-    let mut row: usize = 0;
-    while row < sheet.len() / 8 {
-        let r = row as u32;
-        k = emit_of(
-            sheet,
-            outside,
-            results,
-            nodes,
-            literals,
-            siblings,
-            subclassed,
-            starts,
-            Turn { row: r, count: k },
-            out,
-        );
-        row += 1;
+    let mut k = 0;
+    for row in 0..(tables.sheet.len() / 8) as u32 {
+        k = emit_of(tables, links, starts, Turn { row, count: k }, out);
     }
     k
 }
 
 // The same in lent scratch space: literals are chained by function and parents marked once, and not looked for at each row.
-fn emit_linked(
-    sheet: &[u32],
-    outside: &[u32],
-    results: &[u32],
-    nodes: &[u32],
-    literals: &mut [u32],
-    siblings: &mut [u32],
-    subclassed: &mut [u32],
+fn emit_linked<'a>(
+    tables: Tables,
+    first: &'a mut [u32],
+    after: &'a mut [u32],
+    subclassed: &'a mut [u32],
     starts: &mut [usize],
     out: &mut [u32],
 ) -> usize
-    requires { (PastFour (over outside.now) sheet.now)
-        × (FewFields (over outside.now) sheet.now results.now nodes.now)
-        × (Scratch sheet.now literals.old siblings.old subclassed.old) × (starts.old ≡ replicate 2048 0) }
+    requires { (PastFour (outside_in tables) tables.sheet.now)
+        × (FewFields (outside_in tables) tables.sheet.now tables.results.now tables.nodes.now)
+        × (Scratch tables.sheet.now first.old after.old subclassed.old) × (starts.old ≡ replicate 2048 0) }
     ensures { (o : Store) → sink result out.new
-        ≡ emit_all (answers_in (over outside.now) sheet.now (store_of o results.now nodes.now))
+        ≡ emit_all (answers_in (outside_in tables.entry) tables.entry.sheet.now (store_in tables.entry o))
         (sink 0 out.old) }
 {
-    link_literals(sheet, results, literals, siblings);
-    mark_parents(sheet, results, subclassed);
-    emit_each(
-        sheet, outside, results, nodes, literals, siblings, subclassed, starts, out,
-    )
+    link_literals(tables.sheet, tables.results, first, after);
+    mark_parents(tables.sheet, tables.results, subclassed);
+    let literals = Literals { first, after };
+    let links = Links {
+        literals,
+        subclassed,
+    };
+    emit_each(tables, links, starts, out)
 }
 
 // The answer rows of what the walk stored, with scratch space for 2,048 rows; their number, or one more than fit.
@@ -214,17 +188,20 @@ pub fn emit_rows(
         ≡ emit_all (answers_in (over outside.now) sheet.now (store_of store results.now nodes.now))
         (sink 0 out.old) }
 {
-    let mut literals = [0u32; 2048];
-    let mut siblings = [0u32; 2048];
-    let mut subclassed = [0u32; 2048];
-    let mut starts = [0usize; 2048];
-    emit_linked(
+    let tables = Tables {
         sheet,
         outside,
         results,
         nodes,
-        &mut literals,
-        &mut siblings,
+    };
+    let mut first = [0u32; 2048];
+    let mut after = [0u32; 2048];
+    let mut subclassed = [0u32; 2048];
+    let mut starts = [0usize; 2048];
+    emit_linked(
+        tables,
+        &mut first,
+        &mut after,
         &mut subclassed,
         &mut starts,
         out,

@@ -3,3 +3,4 @@
 
 pub mod held;
 pub mod marks;
+pub mod tables;

@@ -2,12 +2,11 @@
 #![tactic(auto)]
 
 ghost use Rattle.std.specs.Prelude.{◌≡◌, ◌∷◌, map, not, ◌+◌, ◌<◌, eqb, length, get_or};
+ghost use Rattle.class_names.specs.Read.{outside_in, store_in};
 ghost use Rattle.definition.specs.Basics.{bit};
 ghost use Rattle.definition.specs.Answer.{eight};
-ghost use Rattle.outside.specs.Words.{over};
 ghost use Rattle.after.specs.Rows.{class_rows_named};
 ghost use Rattle.sink.specs.Sink.{sink, emit_all};
-ghost use Rattle.store.specs.Stored.{store_of};
 ghost use Rattle.store.specs.declared.nodes.Store.{Store};
 ghost use Rattle.class_names.specs.Names.{ClassReady, head_words};
 ghost use Rattle.name_rows.specs.Put.{Wants, words_of};
@@ -19,8 +18,10 @@ mod places;
 
 use crate::line::{count_line, put_line};
 use crate::places::{Inherited, above_of, line_ends, place_of};
+use ast::code::Code;
 use ast::kind::Kind;
-use ast::{ClassId, FIRST_CLASS, code};
+use ast::{ClassId, FIRST_CLASS};
+use class_names::tables::Tables;
 use inherit::parent_of;
 use name_rows::put::{Wanted, Written};
 use sink::{AnswerRow, emit};
@@ -49,43 +50,21 @@ fn wanted(row: u32, kind: Kind) -> Wanted
 }
 
 // The first row of a class: its parent, whether it has children, and the numbers of its fields and methods.
-fn class_head(
-    sheet: &[u32],
-    outside: &[u32],
-    results: &[u32],
-    nodes: &[u32],
-    subclassed: &[u32],
-    above: Inherited,
-    row: u32,
-) -> AnswerRow
-    requires { (ClassReady (over outside.now) sheet.now results.now nodes.now subclassed.now row)
-        × (Counted (over outside.now) sheet.now results.now nodes.now 10 (256 + row) above.fields)
-        × (Counted (over outside.now) sheet.now results.now nodes.now 6 (256 + row) above.methods) }
+fn class_head(tables: Tables, subclassed: &[u32], above: Inherited, row: u32) -> AnswerRow
+    requires { (ClassReady (outside_in tables) tables.sheet.now tables.results.now tables.nodes.now subclassed.now row)
+        × (Counted (outside_in tables) tables.sheet.now tables.results.now tables.nodes.now 10 (256 + row) above.fields)
+        × (Counted (outside_in tables) tables.sheet.now tables.results.now tables.nodes.now 6 (256 + row) above.methods) }
     ensures { (o : Store) → words_of result
-        ≡ eight (row ∷ head_words (over outside.now) sheet.now
-        (store_of o results.now nodes.now) row) }
+        ≡ eight (row ∷ head_words (outside_in tables.entry) tables.entry.sheet.now
+        (store_in tables.entry o) row) }
 {
-    let parent = parent_of(sheet, results, ClassId(FIRST_CLASS + row)).0;
+    let parent = parent_of(tables.sheet, tables.results, ClassId(FIRST_CLASS + row)).0;
     let children = mark_bit(subclassed, row);
-    let field_count = count_line(
-        sheet,
-        outside,
-        results,
-        nodes,
-        wanted(row, Kind::Field),
-        above.fields,
-    );
-    let method_count = count_line(
-        sheet,
-        outside,
-        results,
-        nodes,
-        wanted(row, Kind::Function),
-        above.methods,
-    );
+    let field_count = count_line(tables, wanted(row, Kind::Field), above.fields);
+    let method_count = count_line(tables, wanted(row, Kind::Function), above.methods);
     AnswerRow {
         row: row,
-        code: code::CLASS_COUNTS,
+        code: Code::ClassCounts as u32,
         one: parent,
         two: children,
         three: field_count,
@@ -95,48 +74,33 @@ fn class_head(
 
 // The rows of the class of `row`, after `k` rows: its counts, its fields by slot, its methods.
 fn write_class(
-    sheet: &[u32],
-    outside: &[u32],
-    results: &[u32],
-    nodes: &[u32],
+    tables: Tables,
     subclassed: &[u32],
     above: Inherited,
     row: u32,
     k: usize,
     out: &mut [u32],
 ) -> usize
-    requires { (ClassReady (over outside.now) sheet.now results.now nodes.now subclassed.now row)
-        × (Shown (over outside.now) sheet.now results.now nodes.now 10 (256 + row) out.old k above.fields)
-        × (Shown (over outside.now) sheet.now results.now nodes.now 6 (256 + row) out.old k above.methods) }
+    requires { (ClassReady (outside_in tables) tables.sheet.now tables.results.now tables.nodes.now subclassed.now row)
+        × (Shown (outside_in tables) tables.sheet.now tables.results.now tables.nodes.now 10 (256 + row) out.old k above.fields)
+        × (Shown (outside_in tables) tables.sheet.now tables.results.now tables.nodes.now 6 (256 + row) out.old k above.methods) }
     ensures { (o : Store) → sink result out.new
         ≡ emit_all (map (λ vs. eight (row ∷ vs))
-        (class_rows_named (over outside.now) sheet.now (store_of o results.now nodes.now) row))
+        (class_rows_named (outside_in tables.entry) tables.entry.sheet.now (store_in tables.entry o) row))
         (sink k out.old) }
 {
-    let head = class_head(sheet, outside, results, nodes, subclassed, above, row);
+    let head = class_head(tables, subclassed, above, row);
     let first = Written {
         count: emit(out, k, head),
         slot: FIRST_SLOT,
     };
-    let done = put_line(
-        sheet,
-        outside,
-        results,
-        nodes,
-        wanted(row, Kind::Field),
-        above.fields,
-        first,
-        out,
-    );
+    let done = put_line(tables, wanted(row, Kind::Field), above.fields, first, out);
     let second = Written {
         count: done.count,
         slot: FIRST_SLOT,
     };
     put_line(
-        sheet,
-        outside,
-        results,
-        nodes,
+        tables,
         wanted(row, Kind::Function),
         above.methods,
         second,
@@ -148,42 +112,37 @@ fn write_class(
 // The same, with what the class inherits copied from the rows of its parent, if they have a place. Then the class has a place too. Where
 // no row fits, nothing is looked for.
 pub fn emit_class(
-    sheet: &[u32],
-    outside: &[u32],
-    results: &[u32],
-    nodes: &[u32],
+    tables: Tables,
     subclassed: &[u32],
     starts: &mut [usize],
     row: u32,
     k: usize,
     out: &mut [u32],
 ) -> usize
-    requires { (ClassReady (over outside.now) sheet.now results.now nodes.now subclassed.now row)
-        × (Placed (over outside.now) sheet.now results.now nodes.now starts.old out.old row k) }
+    requires { (ClassReady (outside_in tables) tables.sheet.now tables.results.now tables.nodes.now subclassed.now row)
+        × (Placed (outside_in tables) tables.sheet.now tables.results.now tables.nodes.now starts.old out.old row k) }
     ensures { ((o : Store) → sink result out.new
         ≡ emit_all (map (λ vs. eight (row ∷ vs))
-        (class_rows_named (over outside.now) sheet.now (store_of o results.now nodes.now) row))
+        (class_rows_named (outside_in tables.entry) tables.entry.sheet.now (store_in tables.entry o) row))
         (sink k out.old)) ×
-        (Placed (over outside.now) sheet.now results.now nodes.now starts.new
+        (Placed (outside_in tables.entry) tables.entry.sheet.now tables.entry.results.now tables.entry.nodes.now starts.new
         out.new (row + 1) result) }
 {
     let room = out.len() / 8;
     if room <= k {
         return room + 1;
     }
-    let parent = parent_of(sheet, results, ClassId(FIRST_CLASS + row));
+    let parent = parent_of(tables.sheet, tables.results, ClassId(FIRST_CLASS + row));
     let at = place_of(starts, parent);
     let above = Inherited {
         fields: above_of(out, at, Kind::Field),
         methods: above_of(out, at, Kind::Function),
     };
-    let count = write_class(
-        sheet, outside, results, nodes, subclassed, above, row, k, out,
-    );
+    let count = write_class(tables, subclassed, above, row, k, out);
     if room < count {
         return count;
     }
-    if !line_ends(sheet, at, parent, row) {
+    if !line_ends(tables.sheet, at, parent, row) {
         return count;
     }
     starts[row as usize] = k + 1;

@@ -36,7 +36,7 @@ chain_linked (suc n) g linked_none = refl
 chain_linked zero g (linked_one z d r) = absurd (omega arith)
 chain_linked {ns} (suc n) g (linked_one {l} {xs} z d r) = rw (ne_eqb l 0 (λ e. omega arith)) (ap (λ (ys : List ℕ). l ∷ ys) (chain_linked n (omega arith) r))
 
-filter_length : (p : ℕ → Bool) (k n : ℕ) → length (filter p (from k n)) ≤ n
+pub filter_length : (p : ℕ → Bool) (k n : ℕ) → length (filter p (from k n)) ≤ n
 filter_length p k zero = omega arith
 filter_length p k (suc n) = go (p k) (filter_length p (suc k) n)
   where

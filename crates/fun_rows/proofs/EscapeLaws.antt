@@ -1,12 +1,12 @@
 -- The slots of a function that literals in it capture.
 use mathlib.Core.Path.{◌≡◌, refl, sym, ap, ◌∙◌}
-use mathlib.Core.Bool.{Bool, true, false, not, ◌&&◌, ◌||◌}
+use mathlib.Core.Bool.{Bool, true, false, ◌&&◌, ◌||◌}
 use mathlib.Core.List.{List, [], ◌∷◌, ◌++◌, map, map-append}
 use Prim.Native.Nat.{ℕ, zero, suc, ◌+◌, ◌-◌, ◌*◌, ◌<◌, ◌≤◌}
 use native.Mathlib.Omega.{arith}
 use lib.Dec.{eqb}
 use lib.ListN.{length, get_or}
-use borrow.Author.Tests.{eqb-true, eq-eqb, ne_eqb, not-true, not-false}
+use borrow.Author.Tests.{eqb-true, ne_eqb}
 use Rattle.definition.specs.Basics.{when◌then◌else◌, filter, any, from, concat_map}
 use Rattle.definition.specs.Sheet.{Sheet, rows, child}
 use Rattle.definition.specs.Slots.{is_mutable}
@@ -18,10 +18,7 @@ use Rattle.definition.specs.Answer.{eight}
 use Rattle.after.specs.Rows.{function_rows_in}
 use Rattle.sink.specs.Sink.{Sink, emit, emit_all}
 use Rattle.sink.proofs.SinkLaws.{emit_none, emit_first, emit_both}
-use Rattle.symbols.specs.declared.decl.OpenDecl.{OpenDecl}
-use Rattle.symbols.specs.OpenDecls.{means}
-use Rattle.fun_rows.proofs.ListLaws.{decl_at, map_map}
-use Rattle.fun_rows.proofs.ChainLaws.{filter_in, filter_out, filter_end}
+use Rattle.fun_rows.proofs.ListLaws.{map_map}
 use Rattle.fun_rows.specs.Literals.{stands_in, literal_chain, LiteralChains, captured_by, escapes, slots_asked}
 
 or_true : (t : Bool) → (t || true) ≡ true
@@ -43,20 +40,6 @@ module _ (p : Node → Bool) (xs : List Node) (x : Node) where
 abbrev pub is_slot : Sheet → ℕ → ℕ → Node → Bool
 is_slot s f j y = is_mutable s (meaning_of_node y) && eqb y.one f && eqb y.two j
 
--- One capture node, read as an open declaration d.
-module _ (s : Sheet) (q : List ℕ) (f j i : ℕ) (d : OpenDecl) {x : Bool} (e : d ≡ decl_at q i) (m : x ≡ is_mutable s (means d)) where
-  slot_read : is_slot s f j (node_at q i) ≡ (x && eqb d.second f && eqb d.slot j)
-  slot_read = sym (ap (λ (b : Bool). b && eqb d.second f && eqb d.slot j) m ∙ ap (λ (y : OpenDecl). is_mutable s (means y) && eqb y.second f && eqb y.slot j) e)
-
-  pub slot_fixed : not x ≡ true → false ≡ is_slot s f j (node_at q i)
-  slot_fixed h = sym (slot_read ∙ ap (λ (b : Bool). b && eqb d.second f && eqb d.slot j) (not-true x h))
-
-  pub slot_foreign : not x ≡ false → (d.second ≡ f → ⊥) → false ≡ is_slot s f j (node_at q i)
-  slot_foreign h n = sym (slot_read ∙ ap (λ (b : Bool). b && eqb d.second f && eqb d.slot j) (not-false x h) ∙ ap (λ (b : Bool). b && eqb d.slot j) (ne_eqb d.second f n))
-
-  pub slot_own : not x ≡ false → d.second ≡ f → eqb d.slot j ≡ is_slot s f j (node_at q i)
-  slot_own h n = sym (slot_read ∙ ap (λ (b : Bool). b && eqb d.second f && eqb d.slot j) (not-false x h) ∙ ap (λ (b : Bool). b && eqb d.slot j) (eq-eqb d.second f n))
-
 -- an index above 0 is one more than the index below it
 below : (i : ℕ) → 0 < i → i ≡ suc (i - 1)
 below i l = omega arith
@@ -76,19 +59,24 @@ module _ (s : Sheet) (q : List ℕ) (f j i : ℕ) where
   hands_none l = sym (ap (hands_on s f j) (list_none q i (omega arith)))
 
 -- A chain of literals: its end, and its first.
-chain_end : (n : ℕ) (ns : List ℕ) (l : ℕ) → l ≡ 0 → literal_chain n ns l ≡ []
+pub chain_end : (n : ℕ) (ns : List ℕ) (l : ℕ) → l ≡ 0 → literal_chain n ns l ≡ []
 unfolding literal_chain
 chain_end zero ns l e = refl
 chain_end (suc n) ns l e = rw e
 
-chain_one : (n : ℕ) (ns : List ℕ) (l : ℕ) → 0 < n → (l ≡ 0 → ⊥) → literal_chain n ns l ≡ l ∷ literal_chain (n - 1) ns (get_or ns l 0)
+pub chain_none : (n : ℕ) (ns : List ℕ) (l : ℕ) → n ≡ 0 → literal_chain n ns l ≡ []
+unfolding literal_chain
+chain_none zero ns l e = refl
+chain_none (suc n) ns l e = absurd (omega arith)
+
+pub chain_one : (n : ℕ) (ns : List ℕ) (l : ℕ) → 0 < n → (l ≡ 0 → ⊥) → literal_chain n ns l ≡ l ∷ literal_chain (n - 1) ns (get_or ns l 0)
 unfolding literal_chain
 chain_one n ns l g f = ap (λ (m : ℕ). literal_chain m ns l) (below n g) ∙ ap (λ (t : Bool). when t then [] else l ∷ literal_chain (n - 1) ns (get_or ns l 0)) (ne_eqb l 0 f)
 
 module _ (s : Sheet) (t q : List ℕ) (f j : ℕ) where
-  pub captured_start : (hs ns : List ℕ) (l : ℕ) → f < rows s → LiteralChains s t hs ns → l ≡ get_or hs f 0 → captured_by s t q f j (literal_chain (rows s) ns l) ≡ escapes s t q f j
+  pub captured_start : (hs ns : List ℕ) → f < rows s → LiteralChains s t hs ns → captured_by s t q f j (literal_chain (rows s) ns (get_or hs f 0)) ≡ escapes s t q f j
   unfolding escapes
-  captured_start hs ns l g h e = ap (λ (i : ℕ). captured_by s t q f j (literal_chain (rows s) ns i)) e ∙ ap (captured_by s t q f j) (h.chained f g)
+  captured_start hs ns g h = ap (captured_by s t q f j) (h.chained f g)
 
   captured_first : (ls : List ℕ) (l g w : ℕ) {x : Bool} → g ≡ child s l → w ≡ cell t g 6 → x ≡ hands_on s f j (chain_to q w) → captured_by s t q f j (l ∷ ls) ≡ (x || captured_by s t q f j ls)
   unfolding captured_by
@@ -101,22 +89,16 @@ module _ (s : Sheet) (t q : List ℕ) (f j : ℕ) where
   unfolding captured_by
   captured_nil = refl
 
-  pub captured_here : (n : ℕ) (ns : List ℕ) (l g w : ℕ) → 0 < n → (l ≡ 0 → ⊥) → g ≡ child s l → w ≡ cell t g 6 → true ≡ hands_on s f j (chain_to q w)
-      → true ≡ captured_by s t q f j (literal_chain n ns l)
-  captured_here n ns l g w a z d e h = sym (ap (captured_by s t q f j) (chain_one n ns l a z) ∙ captured_first (literal_chain (n - 1) ns (get_or ns l 0)) l g w d e h)
+  -- a list of literals from its first on, and at its end
+  pub captured_here : {l : ℕ} {ls all : List ℕ} (g w : ℕ) → all ≡ l ∷ ls → g ≡ child s l → w ≡ cell t g 6 → true ≡ hands_on s f j (chain_to q w) → true ≡ captured_by s t q f j all
+  captured_here {l} {ls} g w i d e h = sym (ap (captured_by s t q f j) i ∙ captured_first ls l g w d e h)
 
-  pub captured_other : (n : ℕ) (ns : List ℕ) (l g w m : ℕ) → 0 < n → (l ≡ 0 → ⊥) → g ≡ child s l → w ≡ cell t g 6 → false ≡ hands_on s f j (chain_to q w) → m ≡ get_or ns l 0
-      → captured_by s t q f j (literal_chain (n - 1) ns m) ≡ captured_by s t q f j (literal_chain n ns l)
-  captured_other n ns l g w m a z d e h i =
-      ap (λ (k : ℕ). captured_by s t q f j (literal_chain (n - 1) ns k)) i
-      ∙ sym (ap (captured_by s t q f j) (chain_one n ns l a z) ∙ captured_first (literal_chain (n - 1) ns (get_or ns l 0)) l g w d e h)
+  pub captured_other : {l : ℕ} {ls all : List ℕ} (g w : ℕ) → all ≡ l ∷ ls → g ≡ child s l → w ≡ cell t g 6 → false ≡ hands_on s f j (chain_to q w)
+      → captured_by s t q f j ls ≡ captured_by s t q f j all
+  captured_other {l} {ls} g w i d e h = sym (ap (captured_by s t q f j) i ∙ captured_first ls l g w d e h)
 
-  pub captured_end : (n : ℕ) (ns : List ℕ) (l : ℕ) → l ≡ 0 → false ≡ captured_by s t q f j (literal_chain n ns l)
-  captured_end n ns l e = sym (ap (captured_by s t q f j) (chain_end n ns l e) ∙ captured_nil)
-
-  pub captured_none : (n : ℕ) (ns : List ℕ) (l : ℕ) → n ≤ 0 → false ≡ captured_by s t q f j (literal_chain n ns l)
-  unfolding literal_chain
-  captured_none n ns l e = let z : n ≡ 0 = omega arith in sym (ap (λ (i : ℕ). captured_by s t q f j (literal_chain i ns l)) z ∙ captured_nil)
+  pub captured_none : {ls : List ℕ} → ls ≡ [] → false ≡ captured_by s t q f j ls
+  captured_none e = sym (ap (captured_by s t q f j) e ∙ captured_nil)
 
 -- The escaping slots, by that test.
 filter_same : (p r : ℕ → Bool) → ((x : ℕ) → p x ≡ r x) → (xs : List ℕ) → filter p xs ≡ filter r xs
@@ -145,49 +127,26 @@ asked_slots : (s : Sheet) (t q hs ns : List ℕ) (f : ℕ) → f < rows s → Li
 asked_slots s t q hs ns f g h = go (eqb (get_or hs f 0) 0) refl
   where
     never : get_or hs f 0 ≡ 0 → (j : ℕ) → escapes s t q f j ≡ false
-    never e j = sym (captured_start s t q f j hs ns (get_or hs f 0) g h refl) ∙ sym (captured_end s t q f j (rows s) ns (get_or hs f 0) e)
+    never e j = sym (captured_start s t q f j hs ns g h) ∙ sym (captured_none s t q f j (chain_end (rows s) ns (get_or hs f 0) e))
 
     go : (b : Bool) → eqb (get_or hs f 0) 0 ≡ b → filter (escapes s t q f) (from 0 (when b then 0 else cell t f 5)) ≡ filter (escapes s t q f) (from 0 (cell t f 5))
     go true e = sym (filter_false (escapes s t q f) (never (eqb-true (get_or hs f 0) 0 e)) (from 0 (cell t f 5)))
     go false e = refl
 
 pub slots_found : (s : Sheet) (o : Store) (hs ns : List ℕ) (f n : ℕ) → f < rows s → LiteralChains s o.table hs ns → n ≡ slots_asked o.table hs f
-    → filter (escapes s o.table o.nodes f) (from 0 n) ≡ escaping_slots s o f
+    → filter (escapes s o.table o.nodes f) (from 0 (n - 0)) ≡ escaping_slots s o f
 slots_found s o hs ns f n g h e =
-    ap (λ (i : ℕ). filter (escapes s o.table o.nodes f) (from 0 i)) e ∙ asked_slots s o.table o.nodes hs ns f g h ∙ sym (escaping_slots_lem s o f)
+    let z : n - 0 ≡ n = omega arith in
+    ap (λ (i : ℕ). filter (escapes s o.table o.nodes f) (from 0 i)) (z ∙ e) ∙ asked_slots s o.table o.nodes hs ns f g h ∙ sym (escaping_slots_lem s o f)
 
--- The slots, counted and written in rising order.
-module _ (p : ℕ → Bool) (n : ℕ) where
-  slots_whole : filter p (from 0 (n - 0)) ≡ filter p (from 0 n)
-  slots_whole = let e : n - 0 ≡ n = omega arith in ap (λ (i : ℕ). filter p (from 0 i)) e
+-- Rows for the numbers of a list: for one number more, and at its end.
+module _ (row : ℕ → List ℕ) where
+  pub rows_rest : {m : ℕ} {ms all : List ℕ} (k : Sink) {x : Sink} → all ≡ m ∷ ms → x ≡ emit (row m) k → emit_all (map row ms) x ≡ emit_all (map row all) k
+  unfolding emit_all
+  rows_rest {m} {ms} k e h = ap (emit_all (map row ms)) h ∙ ap (λ (l : List ℕ). emit_all (map row l) k) (sym e)
 
-  pub count_start : 0 + length (filter p (from 0 (n - 0))) ≡ length (filter p (from 0 n))
-  count_start = omega (arith, ap length slots_whole)
-
-  pub count_in : (x j m : ℕ) → j < n → true ≡ p j → x + length (filter p (from j (n - j))) ≡ m → (x + 1) + length (filter p (from (j + 1) (n - (j + 1)))) ≡ m
-  count_in x j m l e h = omega (arith, ap length (filter_in p j n l (sym e)))
-
-  pub count_out : (x j m : ℕ) → j < n → false ≡ p j → x + length (filter p (from j (n - j))) ≡ m → x + length (filter p (from (j + 1) (n - (j + 1)))) ≡ m
-  count_out x j m l e h = omega (arith, ap length (filter_out p j n l (sym e)))
-
-  pub count_end : (x j m : ℕ) → n ≤ j → x + length (filter p (from j (n - j))) ≡ m → x ≡ m
-  count_end x j m l h = omega (arith, ap length (filter_end p j n l))
-
-  module _ (row : ℕ → List ℕ) where
-    pub emit_start : (k : Sink) → emit_all (map row (filter p (from 0 (n - 0)))) k ≡ emit_all (map row (filter p (from 0 n))) k
-    emit_start k = ap (λ (l : List ℕ). emit_all (map row l) k) slots_whole
-
-    pub emit_in : (j : ℕ) (x : Sink) {y : Sink} → j < n → true ≡ p j → y ≡ emit (row j) x
-        → emit_all (map row (filter p (from (j + 1) (n - (j + 1))))) y ≡ emit_all (map row (filter p (from j (n - j)))) x
-    unfolding emit_all
-    emit_in j x l e h =
-        ap (emit_all (map row (filter p (from (j + 1) (n - (j + 1)))))) h ∙ sym (ap (λ (z : List ℕ). emit_all (map row z) x) (filter_in p j n l (sym e)))
-
-    pub emit_out : (j : ℕ) (x : Sink) → j < n → false ≡ p j → emit_all (map row (filter p (from (j + 1) (n - (j + 1))))) x ≡ emit_all (map row (filter p (from j (n - j)))) x
-    emit_out j x l e = sym (ap (λ (z : List ℕ). emit_all (map row z) x) (filter_out p j n l (sym e)))
-
-    pub emit_end : (j : ℕ) (x : Sink) → n ≤ j → x ≡ emit_all (map row (filter p (from j (n - j)))) x
-    emit_end j x l = emit_none x ∙ sym (ap (λ (z : List ℕ). emit_all (map row z) x) (filter_end p j n l))
+  pub rows_end : {ms : List ℕ} (k : Sink) → ms ≡ [] → k ≡ emit_all (map row ms) k
+  rows_end k e = emit_none k ∙ ap (λ (l : List ℕ). emit_all (map row l) k) (sym e)
 
 -- the row of a capture, and of an escaping slot
 abbrev captured_row : Sheet → ℕ → Node → List ℕ

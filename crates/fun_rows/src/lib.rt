@@ -2,21 +2,26 @@
 #![tactic(auto)]
 
 mod escapes;
+mod escaping;
 pub mod literals;
 
-ghost use Rattle.std.specs.Prelude.{◌≡◌, ◌∷◌, map, ◌<◌, ◌≤◌, length};
+ghost use Rattle.std.specs.Prelude.{◌≡◌, [], ◌∷◌, map, ◌<◌, ◌≤◌, length};
 ghost use Rattle.ast.specs.Decl.{code_and_values};
 ghost use Rattle.definition.specs.Sheet.{rows};
 ghost use Rattle.definition.specs.Answer.{eight};
 ghost use Rattle.machine.specs.Machine.{chain_to, code_of, seen_in, node_word};
 ghost use Rattle.machine.specs.Reads.{answer_row, meaning_of_node};
 ghost use Rattle.after.specs.Rows.{literal_rows_in, function_rows_in};
-ghost use Rattle.store.specs.Stored.{store_of};
+ghost use Rattle.class_names.specs.Read.{store_in};
 ghost use Rattle.sink.specs.Sink.{sink, emit as emitted, emit_all};
 ghost use Rattle.fun_rows.specs.Literals.{LiteralChains};
+ghost use Rattle.fun_rows.specs.Escaping.{slots_left};
 
-use crate::escapes::{count_escapes, emit_escapes};
-use ast::{Decl, FunId, code, column};
+use crate::escaping::EscapingSlots;
+use crate::literals::Literals;
+use ast::code::Code;
+use ast::{Decl, FunId, column};
+use class_names::tables::Tables;
 use sink::{AnswerRow, emit};
 use store::code::{code_of, seen_in};
 use store::nodes::{Store, count_nodes, node_before, node_word};
@@ -66,101 +71,102 @@ fn captured_at(nodes: &[u32], i: u32) -> OpenDecl
 }
 
 // What a function captures, by rising index: the list whose last node is node `p - 1`.
-fn emit_captured(sheet: &[u32], nodes: &[u32], row: u32, p: u32, k: usize, out: &mut [u32]) -> usize
-    requires { length sheet.now ≤ 16384 }
+fn emit_captured(tables: Tables, row: u32, p: u32, k: usize, out: &mut [u32]) -> usize
+    requires { length tables.sheet.now ≤ 16384 }
     ensures { sink result out.new
-        ≡ emit_all (map (λ y. eight (row ∷ code_of sheet.now (meaning_of_node y) y.two 0)) (chain_to nodes.now p))
+        ≡ emit_all (map (λ y. eight (row ∷ code_of tables.entry.sheet.now (meaning_of_node y) y.two 0)) (chain_to tables.entry.nodes.now p))
         (sink k out.old) }
 {
     if p == 0 {
         return k;
     }
     let i = p - 1;
-    let n = emit_captured(sheet, nodes, row, node_before(nodes, i), k, out);
-    let x = code_of(sheet, captured_at(nodes, i));
+    let n = emit_captured(tables, row, node_before(tables.nodes, i), k, out);
+    let x = code_of(tables.sheet, captured_at(tables.nodes, i));
     emit_decl(row, x, n, out)
 }
 
 // What a literal that stands in function `fun` hands on, in the same order.
-fn emit_sources(
-    sheet: &[u32],
-    results: &[u32],
-    nodes: &[u32],
-    row: u32,
-    fun: FunId,
-    p: u32,
-    k: usize,
-    out: &mut [u32],
-) -> usize
-    requires { length sheet.now ≤ 16384 }
+fn emit_sources(tables: Tables, row: u32, fun: FunId, p: u32, k: usize, out: &mut [u32]) -> usize
+    requires { length tables.sheet.now ≤ 16384 }
     ensures { (o : Store) → sink result out.new
         ≡ emit_all (map (λ y. eight
-        (row ∷ seen_in sheet.now (meaning_of_node y) y.two 0 fun.0 (store_of o results.now nodes.now)))
-        (chain_to nodes.now p)) (sink k out.old) }
+        (row ∷ seen_in tables.entry.sheet.now (meaning_of_node y) y.two 0 fun.0 (store_in tables.entry o)))
+        (chain_to tables.entry.nodes.now p)) (sink k out.old) }
 {
     if p == 0 {
         return k;
     }
     let i = p - 1;
-    let n = emit_sources(
-        sheet,
-        results,
-        nodes,
-        row,
+    let n = emit_sources(tables, row, fun, node_before(tables.nodes, i), k, out);
+    let x = seen_in(
+        tables.sheet,
+        captured_at(tables.nodes, i),
         fun,
-        node_before(nodes, i),
-        k,
-        out,
+        tables.results,
+        tables.nodes,
     );
-    let x = seen_in(sheet, captured_at(nodes, i), fun, results, nodes);
     emit_decl(row, x, n, out)
 }
 
 // The rows of literal `row`: one for each source.
-pub fn emit_literal(
-    sheet: &[u32],
-    results: &[u32],
-    nodes: &[u32],
-    row: u32,
-    k: usize,
-    out: &mut [u32],
-) -> usize
-    requires { length sheet.now ≤ 16384 }
+pub fn emit_literal(tables: Tables, row: u32, k: usize, out: &mut [u32]) -> usize
+    requires { length tables.sheet.now ≤ 16384 }
     ensures { (o : Store) → sink result out.new
         ≡ emit_all (map (λ vs. eight (row ∷ vs))
-        (literal_rows_in sheet.now (store_of o results.now nodes.now) row)) (sink k out.old) }
+        (literal_rows_in tables.entry.sheet.now (store_in tables.entry o) row)) (sink k out.old) }
 {
-    let fun = FunId(word(results, row, result::ONE));
-    let last = word(results, word(sheet, row, column::CHILD), result::CAPTURES);
-    emit_sources(sheet, results, nodes, row, fun, last, k, out)
+    let fun = FunId(word(tables.results, row, result::ONE));
+    let last = word(
+        tables.results,
+        word(tables.sheet, row, column::CHILD),
+        result::CAPTURES,
+    );
+    emit_sources(tables, row, fun, last, k, out)
+}
+
+// A row for each escaping slot of function `f`.
+fn emit_escapes(f: FunId, slots: EscapingSlots, k: usize, out: &mut [u32]) -> usize
+    ensures { sink result out.new
+        ≡ emit_all (map (λ j. eight (f.0 ∷ 5 ∷ j ∷ f.0 ∷ 1 ∷ [])) (slots_left slots.entry))
+        (sink k out.old) }
+{
+    let mut n = k;
+    for slot in slots {
+        let x = Decl::Local {
+            idx: slot,
+            src_fun: f,
+            mutable: true,
+        };
+        n = emit_decl(f.0, x, n, out);
+    }
+    n
 }
 
 // The rows of function `f`: its counts, what it captures, its escaping slots.
 pub fn emit_function(
-    sheet: &[u32],
-    results: &[u32],
-    nodes: &[u32],
-    literals: &[u32],
-    siblings: &[u32],
+    tables: Tables,
+    literals: Literals,
     f: FunId,
     k: usize,
     out: &mut [u32],
 ) -> usize
-    requires { (length sheet.now ≤ 16384) × (f.0 < rows sheet.now)
-        × (LiteralChains sheet.now results.now literals.now siblings.now) }
+    requires { (length tables.sheet.now ≤ 16384) × (f.0 < rows tables.sheet.now)
+        × (LiteralChains tables.sheet.now tables.results.now literals.first.now literals.after.now) }
     ensures { (o : Store) → sink result out.new
         ≡ emit_all (map (λ vs. eight (f.0 ∷ vs))
-        (function_rows_in sheet.now (store_of o results.now nodes.now) f.0))
+        (function_rows_in tables.entry.sheet.now (store_in tables.entry o) f.0))
         (sink k out.old) }
 {
-    let last = word(results, f.0, result::CAPTURES);
+    let escaping = EscapingSlots::of(tables, literals, f);
+    let last = word(tables.results, f.0, result::CAPTURES);
     let x = [
-        code::FUNCTION_COUNTS,
-        word(results, f.0, result::LOCALS),
-        count_nodes(nodes, last),
-        count_escapes(sheet, results, nodes, literals, siblings, f),
+        Code::FunctionCounts as u32,
+        word(tables.results, f.0, result::LOCALS),
+        count_nodes(tables.nodes, last),
+        escaping.number(),
     ];
     let counted = emit_words(f.0, x, k, out);
-    let captured = emit_captured(sheet, nodes, f.0, last, counted, out);
-    emit_escapes(sheet, results, nodes, literals, siblings, f, captured, out)
+    let captured = emit_captured(tables, f.0, last, counted, out);
+    emit_escapes(f, escaping, captured, out)
 }

@@ -16,16 +16,16 @@ use Rattle.definition.proofs.Lists.Members.{filter_append}
 use Rattle.machine.specs.Machine.{Store, Node, one_more, cell, node_word, node_at, previous, chain_to, list_at}
 use Rattle.machine.proofs.ByKind.{list_none, list_more}
 use Rattle.after.specs.Inherited.{parent_in}
-use Rattle.sink.specs.Sink.{Sink, emit}
+use Rattle.sink.specs.Sink.{emit}
 use Rattle.class_names.specs.Names.{row_names, own_in, names_in, inherited, new_of}
 use Rattle.name_rows.specs.Put.{Filled, put, put_all}
 use Rattle.class_names.proofs.NameLaws.{names_split}
 
 -- A name, and the names of a list, by the row f that tells a name at a slot; up are the inherited names.
 module _ (f : ℕ → ℕ → List ℕ) where
-  pub put_one : (m : ℕ) (k : Filled) {ws : List ℕ} {d : Sink} {i : ℕ} → ws ≡ f m k.slot → d ≡ emit ws k.done → i ≡ one_more k.slot → record { done = d; slot = i } ≡ put f m k
+  pub put_one : (m : ℕ) (k : Filled) {ws : List ℕ} {x : Filled} → ws ≡ f m k.slot → x ≡ record { done = emit ws k.done; slot = one_more k.slot } → x ≡ put f m k
   unfolding put
-  put_one m k {ws} {d} {i} e g h = rw (g, h, e)
+  put_one m k e g = rw e at g
 
   put_append : (xs ys : List ℕ) (k : Filled) → put_all f (xs ++ ys) k ≡ put_all f ys (put_all f xs k)
   unfolding put_all

@@ -1,45 +1,39 @@
 // Rows that tell names, copied from the rows of a parent.
 ghost use Rattle.std.specs.Prelude.{◌≡◌, ◌+◌, ◌/◌, ◌<◌, ◌≤◌, eqb, length};
+ghost use Rattle.class_names.specs.Read.{outside_in};
 ghost use Rattle.definition.specs.Basics.{when◌then◌else◌, from};
 ghost use Rattle.definition.specs.Classes.{method_named, own_methods};
-ghost use Rattle.outside.specs.Words.{over};
 ghost use Rattle.name_rows.specs.Put.{filled, words_of, copied_row, put, put_all};
 
-use crate::put::{Wanted, Written};
+use crate::put::{Wanted, Written, put_row};
+use ast::code::Code;
 use ast::kind::Kind;
-use ast::{ClassId, FunId, code};
+use ast::{ClassId, FunId};
+use class_names::tables::Tables;
 use outside::records::own_method;
-use sink::{AnswerRow, emit};
-use words::one_more;
+use sink::AnswerRow;
 
 // The own method of name `m` of a class, else function `f`.
-fn own_or(sheet: &[u32], outside: &[u32], c: ClassId, m: u32, f: FunId) -> FunId
+fn own_or(tables: Tables, c: ClassId, m: u32, f: FunId) -> FunId
     ensures { result.0 ≡
-        (when eqb (method_named m (own_methods (over outside.now) sheet.now c.0)) 0 then f.0 else method_named m
-        (own_methods (over outside.now) sheet.now c.0)) }
+        (when eqb (method_named m (own_methods (outside_in tables.entry) tables.entry.sheet.now c.0)) 0 then f.0 else method_named m
+        (own_methods (outside_in tables.entry) tables.entry.sheet.now c.0)) }
 {
-    let own = own_method(sheet, outside, c, m).fun;
+    let own = own_method(tables.sheet, tables.outside, c, m).fun;
     if own.0 == 0 { f } else { own }
 }
 
 // The name that row `at` tells, told of the wanted class at slot `i`.
 #[tactic(auto, using(ast::proofs::KindLaws::same_kind), unfolding(crate::specs::Put::copied_row))]
-fn copied_row(
-    sheet: &[u32],
-    outside: &[u32],
-    out: &[u32],
-    wanted: Wanted,
-    at: usize,
-    i: u32,
-) -> AnswerRow
+fn copied_row(tables: Tables, out: &[u32], wanted: Wanted, at: usize, i: u32) -> AnswerRow
     requires { at < length out.now / 8 }
-    ensures { words_of result ≡ copied_row (over outside.now) sheet.now wanted out.now at i }
+    ensures { words_of result ≡ copied_row (outside_in tables.entry) tables.entry.sheet.now wanted out.now at i }
 {
     let last = out[8 * at + 3];
     if wanted.kind == Kind::Field {
         return AnswerRow {
             row: wanted.row,
-            code: code::FIELD,
+            code: Code::Field as u32,
             one: i,
             two: last,
             three: 0,
@@ -47,10 +41,10 @@ fn copied_row(
         };
     }
     let m = out[8 * at + 2];
-    let fun = own_or(sheet, outside, wanted.class, m, FunId(last));
+    let fun = own_or(tables, wanted.class, m, FunId(last));
     AnswerRow {
         row: wanted.row,
-        code: code::METHOD,
+        code: Code::Method as u32,
         one: m,
         two: fun.0,
         three: 0,
@@ -58,32 +52,9 @@ fn copied_row(
     }
 }
 
-// One name more, that of row `at`.
-fn put_copy(
-    sheet: &[u32],
-    outside: &[u32],
-    wanted: Wanted,
-    at: usize,
-    k: Written,
-    out: &mut [u32],
-) -> Written
-    requires { at < length out.old / 8 }
-    ensures { filled result out.new
-        ≡ put (copied_row (over outside.now) sheet.now wanted out.old) at (filled k out.old) }
-{
-    let x = copied_row(sheet, outside, out, wanted, at, k.slot);
-    let count = emit(out, k.count, x);
-    let slot = one_more(k.slot);
-    Written {
-        count: count,
-        slot: slot,
-    }
-}
-
 // The names of `n` rows from row `i` on.
 pub fn put_copied(
-    sheet: &[u32],
-    outside: &[u32],
+    tables: Tables,
     wanted: Wanted,
     i: usize,
     n: u32,
@@ -92,12 +63,13 @@ pub fn put_copied(
 ) -> Written
     requires { (i + n ≤ k.count) × (i + n ≤ length out.old / 8) }
     ensures { filled result out.new
-        ≡ put_all (copied_row (over outside.now) sheet.now wanted out.old) (from i n)
+        ≡ put_all (copied_row (outside_in tables.entry) tables.entry.sheet.now wanted out.old) (from i n)
         (filled k out.old) }
 {
     let mut done = k;
     for at in i..i + n as usize {
-        done = put_copy(sheet, outside, wanted, at, done, out);
+        let x = copied_row(tables, out, wanted, at, done.slot);
+        done = put_row(x, done, out);
     }
     done
 }

@@ -1,18 +1,21 @@
 // Rows that tell the names of a class: code 23 a field by its slot, code 24 a method by its function.
 ghost use Rattle.std.specs.Prelude.{◌≡◌, List, [], ◌∷◌, map, ℕ, min, length};
+ghost use Rattle.class_names.specs.Read.{outside_in, store_in};
 ghost use Rattle.definition.specs.Sheet.{a, kids_of};
-ghost use Rattle.outside.specs.Words.{over};
 ghost use Rattle.ast.specs.Kind.{kind_number};
 ghost use Rattle.outside.specs.Left.{names_left};
-ghost use Rattle.machine.specs.Machine.{chain_to};
+ghost use Rattle.machine.specs.Machine.{chain_to, one_more as next_slot};
+ghost use Rattle.sink.specs.Sink.{sink, emit as emitted};
 ghost use Rattle.store.specs.Stored.{store_of};
 ghost use Rattle.store.specs.declared.nodes.Store.{Store};
 ghost use Rattle.class_names.specs.Names.{own_in, names_in};
 ghost use Rattle.name_rows.specs.Put.{filled, words_of, name_row, put, put_all, put_new};
 
+use ast::code::Code;
 use ast::kind::Kind;
-use ast::{ClassId, FIRST_CLASS, code, column};
+use ast::{ClassId, FIRST_CLASS, column};
 use class_names::held::is_inherited;
+use class_names::tables::Tables;
 use inherit::{find_method, parent_of};
 use outside::recorded_names::RecordedNames;
 use outside::records::recorded_names;
@@ -46,31 +49,31 @@ pub struct Passed {
 
 // The row that tells name `m` at slot `i`.
 #[tactic(auto, using(ast::proofs::KindLaws::same_kind), unfolding(crate::specs::Put::name_row))]
-fn name_row(
-    sheet: &[u32],
-    outside: &[u32],
-    results: &[u32],
-    wanted: Wanted,
-    m: u32,
-    i: u32,
-) -> AnswerRow
-    ensures { (o : Store) (nodes : List ℕ) → words_of result
-        ≡ name_row (over outside.now) sheet.now (store_of o results.now nodes) wanted m i }
+fn name_row(tables: Tables, wanted: Wanted, m: u32, i: u32) -> AnswerRow
+    ensures { (o : Store) (q : List ℕ) → words_of result
+        ≡ name_row (outside_in tables.entry) tables.entry.sheet.now (store_of o tables.entry.results.now q) wanted m i }
 {
     if wanted.kind == Kind::Field {
         return AnswerRow {
             row: wanted.row,
-            code: code::FIELD,
+            code: Code::Field as u32,
             one: i,
             two: m,
             three: 0,
             four: 0,
         };
     }
-    let fun = find_method(sheet, outside, results, wanted.class, m).fun;
+    let fun = find_method(
+        tables.sheet,
+        tables.outside,
+        tables.results,
+        wanted.class,
+        m,
+    )
+    .fun;
     AnswerRow {
         row: wanted.row,
-        code: code::METHOD,
+        code: Code::Method as u32,
         one: m,
         two: fun.0,
         three: 0,
@@ -78,35 +81,19 @@ fn name_row(
     }
 }
 
-// One name more.
-fn put_name(
-    sheet: &[u32],
-    outside: &[u32],
-    results: &[u32],
-    wanted: Wanted,
-    m: u32,
-    k: Written,
-    out: &mut [u32],
-) -> Written
-    ensures { (o : Store) (nodes : List ℕ) → filled result out.new
-        ≡ put (name_row (over outside.now) sheet.now (store_of o results.now nodes) wanted) m
-        (filled k out.old) }
+// One row more, that tells the name at the next slot.
+pub fn put_row(x: AnswerRow, k: Written, out: &mut [u32]) -> Written
+    ensures { filled result out.new ≡ record { done = emitted (words_of x) (sink k.count out.old); slot = next_slot k.slot } }
 {
-    let x = name_row(sheet, outside, results, wanted, m, k.slot);
-    let count = emit(out, k.count, x);
-    let slot = one_more(k.slot);
     Written {
-        count: count,
-        slot: slot,
+        count: emit(out, k.count, x),
+        slot: one_more(k.slot),
     }
 }
 
 // One name more, unless it is inherited.
 fn put_new(
-    sheet: &[u32],
-    outside: &[u32],
-    results: &[u32],
-    nodes: &[u32],
+    tables: Tables,
     wanted: Wanted,
     p: Passed,
     m: u32,
@@ -114,30 +101,18 @@ fn put_new(
     out: &mut [u32],
 ) -> Written
     ensures { (o : Store) → filled result out.new
-        ≡ put_new (over outside.now) sheet.now (store_of o results.now nodes.now) wanted p
+        ≡ put_new (outside_in tables.entry) tables.entry.sheet.now (store_in tables.entry o) wanted p
         (m ∷ []) (filled k out.old) }
 {
-    if is_inherited(
-        sheet,
-        outside,
-        results,
-        nodes,
-        wanted.kind,
-        p.left,
-        p.class,
-        m,
-    ) {
+    if is_inherited(tables, wanted.kind, p.left, p.class, m) {
         return k;
     }
-    put_name(sheet, outside, results, wanted, m, k, out)
+    put_row(name_row(tables, wanted, m, k.slot), k, out)
 }
 
 // Names in the words from outside, in order.
 fn put_recorded(
-    sheet: &[u32],
-    outside: &[u32],
-    results: &[u32],
-    nodes: &[u32],
+    tables: Tables,
     wanted: Wanted,
     p: Passed,
     names: RecordedNames,
@@ -145,22 +120,19 @@ fn put_recorded(
     out: &mut [u32],
 ) -> Written
     ensures { (o : Store) → filled result out.new
-        ≡ put_new (over outside.now) sheet.now (store_of o results.now nodes.now) wanted p
+        ≡ put_new (outside_in tables.entry) tables.entry.sheet.now (store_in tables.entry o) wanted p
         (names_left names.entry) (filled k out.old) }
 {
     let mut done = k;
     for name in names {
-        done = put_new(sheet, outside, results, nodes, wanted, p, name, done, out);
+        done = put_new(tables, wanted, p, name, done, out);
     }
     done
 }
 
 // The names of the children of row `r`, in order.
 fn put_listed(
-    sheet: &[u32],
-    outside: &[u32],
-    results: &[u32],
-    nodes: &[u32],
+    tables: Tables,
     wanted: Wanted,
     p: Passed,
     r: u32,
@@ -168,23 +140,20 @@ fn put_listed(
     out: &mut [u32],
 ) -> Written
     ensures { (o : Store) → filled result out.new
-        ≡ put_new (over outside.now) sheet.now (store_of o results.now nodes.now) wanted p
-        (map (a sheet.now) (kids_of sheet.now (kind_number wanted.kind) r)) (filled k out.old) }
+        ≡ put_new (outside_in tables.entry) tables.entry.sheet.now (store_in tables.entry o) wanted p
+        (map (a tables.entry.sheet.now) (kids_of tables.entry.sheet.now (kind_number wanted.kind) r)) (filled k out.old) }
 {
     let mut done = k;
-    for row in kids_of(sheet, r, wanted.kind) {
-        let name = word(sheet, row, column::A);
-        done = put_new(sheet, outside, results, nodes, wanted, p, name, done, out);
+    for row in kids_of(tables.sheet, r, wanted.kind) {
+        let name = word(tables.sheet, row, column::A);
+        done = put_new(tables, wanted, p, name, done, out);
     }
     done
 }
 
 // The keys of the list whose last node is node `last - 1`, in order.
 fn put_stored(
-    sheet: &[u32],
-    outside: &[u32],
-    results: &[u32],
-    nodes: &[u32],
+    tables: Tables,
     wanted: Wanted,
     p: Passed,
     last: u32,
@@ -192,23 +161,20 @@ fn put_stored(
     out: &mut [u32],
 ) -> Written
     ensures { (o : Store) → filled result out.new
-        ≡ put_new (over outside.now) sheet.now (store_of o results.now nodes.now) wanted p
-        (map (λ y. y.key) (chain_to nodes.now last)) (filled k out.old) }
+        ≡ put_new (outside_in tables.entry) tables.entry.sheet.now (store_in tables.entry o) wanted p
+        (map (λ y. y.key) (chain_to tables.entry.nodes.now last)) (filled k out.old) }
 {
     if last == 0 {
         return k;
     }
     let i = last - 1;
-    let before = node_before(nodes, i);
-    let done = put_stored(sheet, outside, results, nodes, wanted, p, before, k, out);
+    let before = node_before(tables.nodes, i);
+    let done = put_stored(tables, wanted, p, before, k, out);
     put_new(
-        sheet,
-        outside,
-        results,
-        nodes,
+        tables,
         wanted,
         p,
-        node_word(nodes, i, node::KEY),
+        node_word(tables.nodes, i, node::KEY),
         done,
         out,
     )
@@ -216,10 +182,7 @@ fn put_stored(
 
 // The own names of a class.
 pub fn put_own(
-    sheet: &[u32],
-    outside: &[u32],
-    results: &[u32],
-    nodes: &[u32],
+    tables: Tables,
     wanted: Wanted,
     p: Passed,
     c: ClassId,
@@ -227,38 +190,32 @@ pub fn put_own(
     out: &mut [u32],
 ) -> Written
     ensures { (o : Store) → filled result out.new
-        ≡ put_new (over outside.now) sheet.now (store_of o results.now nodes.now) wanted p
-        (own_in (over outside.now) sheet.now (store_of o results.now nodes.now) (kind_number wanted.kind)
+        ≡ put_new (outside_in tables.entry) tables.entry.sheet.now (store_in tables.entry o) wanted p
+        (own_in (outside_in tables.entry) tables.entry.sheet.now (store_in tables.entry o) (kind_number wanted.kind)
         c.0) (filled k out.old) }
 {
-    if is_class_row(sheet, c) {
+    if is_class_row(tables.sheet, c) {
         let r = c.0 - FIRST_CLASS;
-        let done = put_listed(sheet, outside, results, nodes, wanted, p, r, k, out);
+        let done = put_listed(tables, wanted, p, r, k, out);
         if wanted.kind == Kind::Field {
             return put_stored(
-                sheet,
-                outside,
-                results,
-                nodes,
+                tables,
                 wanted,
                 p,
-                word(results, r, result::FIELDS),
+                word(tables.results, r, result::FIELDS),
                 done,
                 out,
             );
         }
         return done;
     }
-    let names = recorded_names(outside, wanted.kind, c);
-    put_recorded(sheet, outside, results, nodes, wanted, p, names, k, out)
+    let names = recorded_names(tables.outside, wanted.kind, c);
+    put_recorded(tables, wanted, p, names, k, out)
 }
 
 // The names of class `c`: the inherited, then the own ones that are new. It climbs at most `n` classes.
 pub fn put_names(
-    sheet: &[u32],
-    outside: &[u32],
-    results: &[u32],
-    nodes: &[u32],
+    tables: Tables,
     wanted: Wanted,
     n: usize,
     c: ClassId,
@@ -266,43 +223,32 @@ pub fn put_names(
     out: &mut [u32],
 ) -> Written
     ensures { (o : Store) → filled result out.new
-        ≡ put_all (name_row (over outside.now) sheet.now (store_of o results.now nodes.now) wanted)
-        (names_in (over outside.now) sheet.now (store_of o results.now nodes.now) (kind_number wanted.kind) n
+        ≡ put_all (name_row (outside_in tables.entry) tables.entry.sheet.now (store_in tables.entry o) wanted)
+        (names_in (outside_in tables.entry) tables.entry.sheet.now (store_in tables.entry o) (kind_number wanted.kind) n
         c.0) (filled k out.old) }
 {
     if n == 0 {
         return k;
     }
-    let up = parent_of(sheet, results, c);
+    let up = parent_of(tables.sheet, tables.results, c);
     let p = Passed {
         class: up,
         left: n - 1,
     };
     if up.0 == 0 {
-        return put_own(sheet, outside, results, nodes, wanted, p, c, k, out);
+        return put_own(tables, wanted, p, c, k, out);
     }
-    let done = put_names(sheet, outside, results, nodes, wanted, n - 1, up, k, out);
-    put_own(sheet, outside, results, nodes, wanted, p, c, done, out)
+    let done = put_names(tables, wanted, n - 1, up, k, out);
+    put_own(tables, wanted, p, c, done, out)
 }
 
 // How many names class `c` has, or the largest number of a word. Nothing is written: not one row fits.
-pub fn count_names(
-    sheet: &[u32],
-    outside: &[u32],
-    results: &[u32],
-    nodes: &[u32],
-    wanted: Wanted,
-    n: usize,
-    c: ClassId,
-) -> u32
+pub fn count_names(tables: Tables, wanted: Wanted, n: usize, c: ClassId) -> u32
     ensures { (o : Store) → result ≡ min
-        (length (names_in (over outside.now) sheet.now (store_of o results.now nodes.now)
+        (length (names_in (outside_in tables.entry) tables.entry.sheet.now (store_in tables.entry o)
         (kind_number wanted.kind) n c.0)) 4294967295 }
 {
     let mut none = [0u32; 1];
     let start = Written { count: 0, slot: 0 };
-    put_names(
-        sheet, outside, results, nodes, wanted, n, c, start, &mut none,
-    )
-    .slot
+    put_names(tables, wanted, n, c, start, &mut none).slot
 }

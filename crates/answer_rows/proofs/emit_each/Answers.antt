@@ -15,13 +15,13 @@ use Rattle.answer_rows.proofs.emit_each.Goals as goal
 
 pub loop-row-init : goal.loop-row-init
 loop-row-init c =
-    let z : length c.args.sheet.now / 8 - 0 ≡ length c.args.sheet.now / 8 = omega arith in
+    let z : length c.args.tables.sheet.now / 8 - 0 ≡ length c.args.tables.sheet.now / 8 = omega arith in
     let rows : Store → ℕ → List (List ℕ) =
-    λ o. rows_in (over c.args.outside.now) c.args.sheet.now
-    (store_of o c.args.results.now c.args.nodes.now) in
+    λ o. rows_in (over c.args.tables.outside.now) c.args.tables.sheet.now
+    (store_of o c.args.tables.results.now c.args.tables.nodes.now) in
     let placed =
-    places_zeros (over c.args.outside.now) c.args.sheet.now c.args.results.now
-    c.args.nodes.now 2048 _ c.args.out.now c.requires.0.small (omega arith) c.requires.1 in (
+    places_zeros (over c.args.tables.outside.now) c.args.tables.sheet.now c.args.tables.results.now
+    c.args.tables.nodes.now 2048 _ c.args.out.now c.requires.0.small (omega arith) c.requires.1 in (
       λ o. ap (λ (n : ℕ). emit_all (concat_map (rows o) (from 0 n)) (sink 0 c.args.out.now)) z,
       omega arith,
       refl,
@@ -29,29 +29,18 @@ loop-row-init c =
       placed,
     )
 
-pub overflow_cast-r : goal.overflow_cast-r
-overflow_cast-r c =
-    omega (arith, c.loop-row-test.true, c.requires.0.small)
-
 pub emit_of-k-requires : goal.emit_of-k-requires
 emit_of-k-requires c =
     (c.requires.0, c.loop-row-test.true, c.loop-row.invariant.4)
-
-pub overflow_add-row : goal.overflow_add-row
-overflow_add-row c =
-    omega (arith, c.loop-row-test.true, c.requires.0.small)
-
-pub loop-row-smaller : goal.loop-row-smaller
-loop-row-smaller c = omega (arith, c.loop-row-test.true)
 
 pub loop-row-preserved : goal.loop-row-preserved
 loop-row-preserved c =
     let below = c.loop-row-test.true in
     let call = c.emit_of-k in
     let rows : Store → ℕ → List (List ℕ) =
-    λ o. rows_in (over c.args.outside.now) c.args.sheet.now
-    (store_of o c.args.results.now c.args.nodes.now) in (
-      λ o. all_more (rows o) c.loop-row.row (length c.args.sheet.now / 8) (sink c.loop-row.k c.loop-row.out) below
+    λ o. rows_in (over c.args.tables.outside.now) c.args.tables.sheet.now
+    (store_of o c.args.tables.results.now c.args.tables.nodes.now) in (
+      λ o. all_more (rows o) c.loop-row.row (length c.args.tables.sheet.now / 8) (sink c.loop-row.k c.loop-row.out) below
           (call.ensures.0 o)
           ∙ c.loop-row.invariant.0 o,
       omega (arith, below),
@@ -69,8 +58,8 @@ shape_of-out c = c.loop-row.invariant.2
 pub returns : goal.returns
 returns c =
     let rows : Store → ℕ → List (List ℕ) =
-    λ o. rows_in (over c.args.outside.now) c.args.sheet.now
-    (store_of o c.args.results.now c.args.nodes.now) in
-    λ o. all_none (rows o) c.loop-row.row (length c.args.sheet.now / 8) (sink c.loop-row.k c.loop-row.out)
+    λ o. rows_in (over c.args.tables.outside.now) c.args.tables.sheet.now
+    (store_of o c.args.tables.results.now c.args.tables.nodes.now) in
+    λ o. all_none (rows o) c.loop-row.row (length c.args.tables.sheet.now / 8) (sink c.loop-row.k c.loop-row.out)
     c.loop-row-test.false
     ∙ c.loop-row.invariant.0 o

@@ -1,3 +1,12 @@
+use denote.Enum.Declared.{tag_of}
+use Rattle.ast.specs.contracts.kind.Kind.{the_type}
+use Rattle.ast.proofs.KindLaws.{kind_of_number}
+use native.Mathlib.Omega.{arith}
+use Rattle.std.proofs.Common.{Err}
+use Rattle.ast.specs.Kind.{ReadsKind}
+use Rattle.class_names.specs.Read.{outside_in, store_in}
+use Rattle.ast.specs.declared.kind.Kind.TheVariants.{Let, HostConstant, Instanceof, Identifier, Member, Literal, Function, Class}
+use Rattle.ast.specs.Kind.{kind_number}
 use Rattle.outside.specs.Words.{over}
 use Rattle.answer_rows.proofs.RowLaws.{rows_let, rows_host, rows_instance, rows_identifier, rows_member}
 use Rattle.answer_rows.proofs.RowLaws.{rows_literal, rows_function, rows_class, rows_none, with_places}
@@ -23,8 +32,8 @@ pub emit_class-requires : goal.emit_class-requires
 emit_class-requires c =
     let ready = c.requires.0 in
     let t =
-    eqb_of (kind c.args.sheet.now c.args.turn.row) 4
-    (sym c.word-kind.ensures ∙ c.in-4.is) in (
+    eqb_of (kind c.args.tables.sheet.now c.args.turn.row) 4
+    (c.in-Ok-Class.ensures ∙ ap kind_number c.in-Ok-Class.field-0-is) in (
       record {
         row = c.requires.1;
         short = ready.small;
@@ -35,65 +44,65 @@ emit_class-requires c =
       c.requires.2,
     )
 
-pub returns-in-29 : goal.returns-in-29
-returns-in-29 c =
-    let kind_is_lem = sym c.word-kind.ensures ∙ c.in-29.is in
-    with_places c.requires.2 _ (λ o. rows_let (over c.args.outside.now) c.args.sheet.now
-    (store_of o c.args.results.now c.args.nodes.now)
+pub returns-in-Ok-Let : goal.returns-in-Ok-Let
+returns-in-Ok-Let c =
+    let kind_is_lem = c.in-Ok-Let.ensures ∙ ap kind_number c.in-Ok-Let.field-0-is in
+    with_places c.requires.2 _ (λ o. rows_let (over c.args.tables.outside.now) c.args.tables.sheet.now
+    (store_of o c.args.tables.results.now c.args.tables.nodes.now)
     c.args.turn.row (sink c.args.turn.count c.args.out.now) kind_is_lem c.emit_row.ensures)
 
-pub returns-in-51 : goal.returns-in-51
-returns-in-51 c =
-    let kind_is_lem = sym c.word-kind.ensures ∙ c.in-51.is in
-    with_places c.requires.2 _ (λ o. rows_host (over c.args.outside.now) c.args.sheet.now
-    (store_of o c.args.results.now c.args.nodes.now)
-    c.args.turn.row (sink c.args.turn.count c.args.out.now) kind_is_lem c.emit_row-in-51.ensures)
+pub returns-in-Ok-HostConstant : goal.returns-in-Ok-HostConstant
+returns-in-Ok-HostConstant c =
+    let kind_is_lem = c.in-Ok-HostConstant.ensures ∙ ap kind_number c.in-Ok-HostConstant.field-0-is in
+    with_places c.requires.2 _ (λ o. rows_host (over c.args.tables.outside.now) c.args.tables.sheet.now
+    (store_of o c.args.tables.results.now c.args.tables.nodes.now)
+    c.args.turn.row (sink c.args.turn.count c.args.out.now) kind_is_lem c.emit_row-in-Ok-HostConstant.ensures)
 
-pub returns-in-55 : goal.returns-in-55
-returns-in-55 c =
-    let kind_is_lem = sym c.word-kind.ensures ∙ c.in-55.is in
-    with_places c.requires.2 _ (λ o. rows_instance (over c.args.outside.now) c.args.sheet.now
-    (store_of o c.args.results.now c.args.nodes.now)
-    c.args.turn.row (sink c.args.turn.count c.args.out.now) kind_is_lem c.emit_row-in-55.ensures)
+pub returns-in-Ok-Instanceof : goal.returns-in-Ok-Instanceof
+returns-in-Ok-Instanceof c =
+    let kind_is_lem = c.in-Ok-Instanceof.ensures ∙ ap kind_number c.in-Ok-Instanceof.field-0-is in
+    with_places c.requires.2 _ (λ o. rows_instance (over c.args.tables.outside.now) c.args.tables.sheet.now
+    (store_of o c.args.tables.results.now c.args.tables.nodes.now)
+    c.args.turn.row (sink c.args.turn.count c.args.out.now) kind_is_lem c.emit_row-in-Ok-Instanceof.ensures)
 
-pub returns-in-50 : goal.returns-in-50
-returns-in-50 c =
-    let kind_is_lem = sym c.word-kind.ensures ∙ c.in-50.is in
-    with_places c.requires.2 _ (λ o. rows_identifier (over c.args.outside.now) c.args.sheet.now
-    (store_of o c.args.results.now c.args.nodes.now)
+pub returns-in-Ok-Identifier : goal.returns-in-Ok-Identifier
+returns-in-Ok-Identifier c =
+    let kind_is_lem = c.in-Ok-Identifier.ensures ∙ ap kind_number c.in-Ok-Identifier.field-0-is in
+    with_places c.requires.2 _ (λ o. rows_identifier (over c.args.tables.outside.now) c.args.tables.sheet.now
+    (store_of o c.args.tables.results.now c.args.tables.nodes.now)
     c.args.turn.row (sink c.args.turn.count c.args.out.now) kind_is_lem c.emit_shown.ensures)
 
-pub returns-in-54 : goal.returns-in-54
-returns-in-54 c =
-    let kind_is_lem = sym c.word-kind.ensures ∙ c.in-54.is in
-    with_places c.requires.2 _ (λ o. rows_member (over c.args.outside.now) c.args.sheet.now
-    (store_of o c.args.results.now c.args.nodes.now)
+pub returns-in-Ok-Member : goal.returns-in-Ok-Member
+returns-in-Ok-Member c =
+    let kind_is_lem = c.in-Ok-Member.ensures ∙ ap kind_number c.in-Ok-Member.field-0-is in
+    with_places c.requires.2 _ (λ o. rows_member (over c.args.tables.outside.now) c.args.tables.sheet.now
+    (store_of o c.args.tables.results.now c.args.tables.nodes.now)
     c.args.turn.row (sink c.args.turn.count c.args.out.now) kind_is_lem
     c.emit_member.ensures)
 
-pub returns-in-52 : goal.returns-in-52
-returns-in-52 c =
-    let kind_is_lem = sym c.word-kind.ensures ∙ c.in-52.is in
-    with_places c.requires.2 _ (λ o. rows_literal (over c.args.outside.now) c.args.sheet.now
-    (store_of o c.args.results.now c.args.nodes.now)
+pub returns-in-Ok-Literal : goal.returns-in-Ok-Literal
+returns-in-Ok-Literal c =
+    let kind_is_lem = c.in-Ok-Literal.ensures ∙ ap kind_number c.in-Ok-Literal.field-0-is in
+    with_places c.requires.2 _ (λ o. rows_literal (over c.args.tables.outside.now) c.args.tables.sheet.now
+    (store_of o c.args.tables.results.now c.args.tables.nodes.now)
     c.args.turn.row (sink c.args.turn.count c.args.out.now) kind_is_lem
     (c.emit_literal.ensures o))
 
-pub returns-in-6 : goal.returns-in-6
-returns-in-6 c =
-    let kind_is_lem = sym c.word-kind.ensures ∙ c.in-6.is in
-    with_places c.requires.2 _ (λ o. rows_function (over c.args.outside.now) c.args.sheet.now
-    (store_of o c.args.results.now c.args.nodes.now)
+pub returns-in-Ok-Function : goal.returns-in-Ok-Function
+returns-in-Ok-Function c =
+    let kind_is_lem = c.in-Ok-Function.ensures ∙ ap kind_number c.in-Ok-Function.field-0-is in
+    with_places c.requires.2 _ (λ o. rows_function (over c.args.tables.outside.now) c.args.tables.sheet.now
+    (store_of o c.args.tables.results.now c.args.tables.nodes.now)
     c.args.turn.row (sink c.args.turn.count c.args.out.now) kind_is_lem
     (c.emit_function.ensures o))
 
-pub returns-in-4 : goal.returns-in-4
-returns-in-4 c =
+pub returns-in-Ok-Class : goal.returns-in-Ok-Class
+returns-in-Ok-Class c =
     let k = sink c.args.turn.count c.args.out.now in
-    let kind_is_lem = sym c.word-kind.ensures ∙ c.in-4.is in
+    let kind_is_lem = c.in-Ok-Class.ensures ∙ ap kind_number c.in-Ok-Class.field-0-is in
     let said = c.emit_class.ensures in (
-      λ o. rows_class (over c.args.outside.now) c.args.sheet.now
-          (store_of o c.args.results.now c.args.nodes.now) c.args.turn.row k kind_is_lem
+      λ o. rows_class (over c.args.tables.outside.now) c.args.tables.sheet.now
+          (store_of o c.args.tables.results.now c.args.tables.nodes.now) c.args.turn.row k kind_is_lem
           (said.0 o
           ∙ ap (λ (l : List (List ℕ)). emit_all (map (λ vs. eight (c.args.turn.row ∷ vs)) l) k)
           (c.requires.0.named c.args.turn.row o)),
@@ -102,11 +111,19 @@ returns-in-4 c =
 
 pub returns-in_default : goal.returns-in_default
 returns-in_default c =
-    let is = c.word-kind.ensures in
-    let other = c.in_default.in_default-own.rest in
-    with_places c.requires.2 _ (λ o. rows_none (over c.args.outside.now) c.args.sheet.now
-    (store_of o c.args.results.now c.args.nodes.now)
-    c.args.turn.row (sink c.args.turn.count c.args.out.now) (λ e. other.0.0.0.0.0.0.0.1 (is ∙ e))
-    (λ e. other.0.0.0.0.0.0.1 (is ∙ e)) (λ e. other.0.0.0.0.0.1 (is ∙ e))
-    (λ e. other.0.0.0.0.1 (is ∙ e)) (λ e. other.0.0.0.1 (is ∙ e)) (λ e. other.0.0.1 (is ∙ e))
-    (λ e. other.0.1 (is ∙ e)) (λ e. other.1 (is ∙ e)))
+    with_places c.requires.2 _ (λ o. rows_none (outside_in c.args.tables) c.args.tables.sheet.now (store_in c.args.tables o) c.args.turn.row (sink c.args.turn.count c.args.out.now)
+    (λ e. omega (arith, ap (tag_of the_type) (kind_of_number _ Let (sym c.in_default.ensures ∙ e))))
+    (λ e. omega (arith, ap (tag_of the_type) (kind_of_number _ HostConstant (sym c.in_default.ensures ∙ e))))
+    (λ e. omega (arith, ap (tag_of the_type) (kind_of_number _ Instanceof (sym c.in_default.ensures ∙ e))))
+    (λ e. omega (arith, ap (tag_of the_type) (kind_of_number _ Identifier (sym c.in_default.ensures ∙ e))))
+    (λ e. omega (arith, ap (tag_of the_type) (kind_of_number _ Member (sym c.in_default.ensures ∙ e))))
+    (λ e. omega (arith, ap (tag_of the_type) (kind_of_number _ Literal (sym c.in_default.ensures ∙ e))))
+    (λ e. omega (arith, ap (tag_of the_type) (kind_of_number _ Function (sym c.in_default.ensures ∙ e))))
+    (λ e. omega (arith, ap (tag_of the_type) (kind_of_number _ Class (sym c.in_default.ensures ∙ e)))))
+
+pub returns-in_default-2 : goal.returns-in_default-2
+returns-in_default-2 c =
+    let told : ReadsKind (kind c.args.tables.sheet.now c.args.turn.row) (Err c.in_default.field-0) = rw c.in_default.is at c.kind_at.ensures in
+    let other = told.1 in
+    with_places c.requires.2 _ (λ o. rows_none (outside_in c.args.tables) c.args.tables.sheet.now (store_in c.args.tables o) c.args.turn.row (sink c.args.turn.count c.args.out.now)
+    (other Let) (other HostConstant) (other Instanceof) (other Identifier) (other Member) (other Literal) (other Function) (other Class))

@@ -16,8 +16,8 @@ class_head-head-requires c =
 pub put_line-done-requires : goal.put_line-done-requires
 put_line-done-requires c = (
   omega (arith, c.requires.0.row),
-  shown_wanted (over c.args.outside.now) c.args.sheet.now c.args.results.now
-      c.args.nodes.now c.wanted.ensures
+  shown_wanted (over c.args.tables.outside.now) c.args.tables.sheet.now c.args.tables.results.now
+      c.args.tables.nodes.now c.wanted.ensures
       (shown_kept _ (emit_one _ (sink c.args.k c.args.out.now) c.emit.ensures) c.requires.1),
 )
 
@@ -29,22 +29,22 @@ pub put_line-requires : goal.put_line-requires
 put_line-requires c =
     let o : Store = record { used = 0; calls = 0 } in (
       omega (arith, c.requires.0.row),
-      shown_wanted (over c.args.outside.now) c.args.sheet.now c.args.results.now
-          c.args.nodes.now c.wanted-2.ensures
-          (shown_kept _ (fields_told (over c.args.outside.now) c.args.sheet.now
-          (store_of o c.args.results.now c.args.nodes.now) c.args.row c.wanted.result _
+      shown_wanted (over c.args.tables.outside.now) c.args.tables.sheet.now c.args.tables.results.now
+          c.args.tables.nodes.now c.wanted-2.ensures
+          (shown_kept _ (fields_told (over c.args.tables.outside.now) c.args.tables.sheet.now
+          (store_of o c.args.tables.results.now c.args.tables.nodes.now) c.args.row c.wanted.result _
           c.wanted.ensures (c.requires.0.fields o) refl (c.put_line-done.ensures o))
           (shown_kept _ (emit_one _ (sink c.args.k c.args.out.now) c.emit.ensures) c.requires.2)),
     )
 
 pub returns : goal.returns
 returns c =
-    λ o. class_rows_lem (over c.args.outside.now) c.args.sheet.now
-    (store_of o c.args.results.now c.args.nodes.now) c.args.row
+    λ o. class_rows_lem (over c.args.tables.outside.now) c.args.tables.sheet.now
+    (store_of o c.args.tables.results.now c.args.tables.nodes.now) c.args.row
     (sink c.args.k c.args.out.now) (c.class_head-head.ensures o) c.emit.ensures
-    (fields_told (over c.args.outside.now) c.args.sheet.now
-    (store_of o c.args.results.now c.args.nodes.now) c.args.row c.wanted.result _
+    (fields_told (over c.args.tables.outside.now) c.args.tables.sheet.now
+    (store_of o c.args.tables.results.now c.args.tables.nodes.now) c.args.row c.wanted.result _
     c.wanted.ensures (c.requires.0.fields o) refl (c.put_line-done.ensures o))
-    (methods_told (over c.args.outside.now) c.args.sheet.now
-    (store_of o c.args.results.now c.args.nodes.now) c.args.row c.wanted-2.result _
+    (methods_told (over c.args.tables.outside.now) c.args.tables.sheet.now
+    (store_of o c.args.tables.results.now c.args.tables.nodes.now) c.args.row c.wanted-2.result _
     c.wanted-2.ensures (c.put_line.ensures o))

@@ -9,8 +9,8 @@ use Rattle.fun_rows.proofs.+emit_captured.Goals as goal
 
 pub returns-then-p-eq0 : goal.returns-then-p-eq0
 returns-then-p-eq0 t c =
-    nodes_none (λ y. eight (c.args.row ∷ code_of c.args.sheet.now (meaning_of_node y) y.two 0))
-    c.args.nodes.now c.args.p (sink c.args.k c.args.out.now) c.if-p-eq0.true
+    nodes_none (λ y. eight (c.args.row ∷ code_of c.args.tables.sheet.now (meaning_of_node y) y.two 0))
+    c.args.tables.nodes.now c.args.p (sink c.args.k c.args.out.now) c.if-p-eq0.true
 
 pub overflow_sub-i : goal.overflow_sub-i
 overflow_sub-i t c = omega (arith, c.if-p-eq0.false)
@@ -27,15 +27,15 @@ captured_at-requires t c = tt
 
 pub code_of-x-requires : goal.code_of-x-requires
 code_of-x-requires t c =
-    (c.requires, captured_declared c.args.nodes.now _ _ c.captured_at.ensures)
+    (c.requires, captured_declared c.args.tables.nodes.now _ _ c.captured_at.ensures)
 
 pub emit_decl-requires : goal.emit_decl-requires
 emit_decl-requires t c = tt
 
 pub returns : goal.returns
 returns t c =
-    nodes_last (λ y. eight (c.args.row ∷ code_of c.args.sheet.now (meaning_of_node y) y.two 0))
-    c.args.nodes.now c.args.p _ _ (sink c.args.k c.args.out.now) c.if-p-eq0.false
-    c.node_before.ensures c.emit_captured-n.ensures (captured_row_lem c.args.sheet.now c.args.row
-    c.args.nodes.now _ _ _ c.captured_at.ensures c.code_of-x.ensures)
+    nodes_last (λ y. eight (c.args.row ∷ code_of c.args.tables.sheet.now (meaning_of_node y) y.two 0))
+    c.args.tables.nodes.now c.args.p _ _ (sink c.args.k c.args.out.now) c.if-p-eq0.false
+    c.node_before.ensures c.emit_captured-n.ensures (captured_row_lem c.args.tables.sheet.now c.args.row
+    c.args.tables.nodes.now _ _ _ c.captured_at.ensures c.code_of-x.ensures)
     c.emit_decl.ensures

@@ -12,9 +12,9 @@ pub returns-then-p-eq0 : goal.returns-then-p-eq0
 returns-then-p-eq0 t c =
     λ o. nodes_none
     (λ y. eight (c.args.row
-    ∷ seen_in c.args.sheet.now (meaning_of_node y) y.two 0 c.args.fun.0
-    (store_of o c.args.results.now c.args.nodes.now)))
-    c.args.nodes.now c.args.p (sink c.args.k c.args.out.now) c.if-p-eq0.true
+    ∷ seen_in c.args.tables.sheet.now (meaning_of_node y) y.two 0 c.args.fun.0
+    (store_of o c.args.tables.results.now c.args.tables.nodes.now)))
+    c.args.tables.nodes.now c.args.p (sink c.args.k c.args.out.now) c.if-p-eq0.true
 
 pub overflow_sub-i : goal.overflow_sub-i
 overflow_sub-i t c = omega (arith, c.if-p-eq0.false)
@@ -31,7 +31,7 @@ captured_at-requires t c = tt
 
 pub seen_in-x-requires : goal.seen_in-x-requires
 seen_in-x-requires t c =
-    (c.requires, captured_declared c.args.nodes.now _ _ c.captured_at.ensures)
+    (c.requires, captured_declared c.args.tables.nodes.now _ _ c.captured_at.ensures)
 
 pub emit_decl-requires : goal.emit_decl-requires
 emit_decl-requires t c = tt
@@ -40,10 +40,10 @@ pub returns : goal.returns
 returns t c =
     λ o. nodes_last
     (λ y. eight (c.args.row
-    ∷ seen_in c.args.sheet.now (meaning_of_node y) y.two 0 c.args.fun.0
-    (store_of o c.args.results.now c.args.nodes.now)))
-    c.args.nodes.now c.args.p _ _ (sink c.args.k c.args.out.now) c.if-p-eq0.false
-    c.node_before.ensures (c.emit_sources-n.ensures o) (source_row c.args.sheet.now c.args.row
-    c.args.fun.0 (store_of o c.args.results.now c.args.nodes.now) c.args.nodes.now _
+    ∷ seen_in c.args.tables.sheet.now (meaning_of_node y) y.two 0 c.args.fun.0
+    (store_of o c.args.tables.results.now c.args.tables.nodes.now)))
+    c.args.tables.nodes.now c.args.p _ _ (sink c.args.k c.args.out.now) c.if-p-eq0.false
+    c.node_before.ensures (c.emit_sources-n.ensures o) (source_row c.args.tables.sheet.now c.args.row
+    c.args.fun.0 (store_of o c.args.tables.results.now c.args.tables.nodes.now) c.args.tables.nodes.now _
     _ _ c.captured_at.ensures (c.seen_in-x.ensures o))
     c.emit_decl.ensures

@@ -5,6 +5,6 @@ use Rattle.fun_rows.proofs.emit_literal.Goals as goal
 
 pub returns : goal.returns
 returns c =
-    λ o. literal_rows_lem c.args.sheet.now (store_of o c.args.results.now c.args.nodes.now)
+    λ o. literal_rows_lem c.args.tables.sheet.now (store_of o c.args.tables.results.now c.args.tables.nodes.now)
     c.args.row _ _ _ (sink c.args.k c.args.out.now) c.word.ensures c.word-2.ensures
     c.word-last.ensures (c.emit_sources.ensures o)

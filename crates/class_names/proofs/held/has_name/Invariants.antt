@@ -10,5 +10,5 @@ use Rattle.class_names.proofs.held.has_name.Given as goal
 abbrev pub invariant-loop : goal.invariant-loop
 invariant-loop l =
     (o : Store)
-    → (l.m ∈? names_in (over l.outside) l.sheet (store_of o l.results l.nodes) (kind_number l.kind) (l.n - l.counter) l.class.0)
-    ≡ (l.m ∈? names_in (over l.outside) l.sheet (store_of o l.results l.nodes) (kind_number l.kind) l.n l.initial.class.0)
+    → (l.m ∈? names_in (over l.tables.outside.now) l.tables.sheet.now (store_of o l.tables.results.now l.tables.nodes.now) (kind_number l.kind) (l.n - l.counter) l.class.0)
+    ≡ (l.m ∈? names_in (over l.tables.outside.now) l.tables.sheet.now (store_of o l.tables.results.now l.tables.nodes.now) (kind_number l.kind) l.n l.initial.class.0)

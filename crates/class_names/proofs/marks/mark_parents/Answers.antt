@@ -1,5 +1,5 @@
 use Rattle.std.proofs.Common.{arith}
-use Rattle.class_names.proofs.MarkLaws.{marked_start, marked_next, marked_end}
+use Rattle.class_names.proofs.MarkLaws.{marked_next, marked_end}
 use Rattle.class_names.proofs.marks.mark_parents.Goals as goal
 
 pub loop-row-preserved : goal.loop-row-preserved

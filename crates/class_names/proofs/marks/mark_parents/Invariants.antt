@@ -1,4 +1,3 @@
-use Rattle.std.proofs.Common.{◌≤◌, length}
 use Rattle.class_names.proofs.MarkLaws.{MarkedTo}
 use Rattle.class_names.proofs.marks.mark_parents.Given as goal
 

@@ -8,9 +8,9 @@ use Rattle.class_rows.proofs.line.count_line.Goals as goal
 
 pub returns : goal.returns
 returns c =
-    λ o. line_counted _ (name_row (over c.args.outside.now) c.args.sheet.now
-    (store_of o c.args.results.now c.args.nodes.now) c.args.wanted)
-    c.args.sheet.now (store_of o c.args.results.now c.args.nodes.now)
+    λ o. line_counted _ (name_row (over c.args.tables.outside.now) c.args.tables.sheet.now
+    (store_of o c.args.tables.results.now c.args.tables.nodes.now) c.args.wanted)
+    c.args.tables.sheet.now (store_of o c.args.tables.results.now c.args.tables.nodes.now)
     (kind_number c.args.wanted.kind) c.args.wanted.class.0 _ c.requires.0
-    (c.parent_of.ensures o c.args.nodes.now) (c.requires.1 c.if-a-eq0.false o).0
+    (c.parent_of.ensures o c.args.tables.nodes.now) (c.requires.1 c.if-a-eq0.false o).0
     (omega arith) (c.requires.1 c.if-a-eq0.false o).1 (c.put_own.ensures o)

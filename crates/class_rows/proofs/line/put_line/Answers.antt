@@ -16,14 +16,14 @@ pub returns : goal.returns
 returns c =
     λ o.
     let h = c.requires.1 c.if-a-eq0.false o in
-    line_after _ (name_row (over c.args.outside.now) c.args.sheet.now
-    (store_of o c.args.results.now c.args.nodes.now) c.args.wanted)
-    c.args.sheet.now (store_of o c.args.results.now c.args.nodes.now)
+    line_after _ (name_row (over c.args.tables.outside.now) c.args.tables.sheet.now
+    (store_of o c.args.tables.results.now c.args.tables.nodes.now) c.args.wanted)
+    c.args.tables.sheet.now (store_of o c.args.tables.results.now c.args.tables.nodes.now)
     (kind_number c.args.wanted.kind) c.args.wanted.class.0 (filled c.args.k c.args.out.now)
-    c.requires.0 (c.parent_of.ensures o c.args.nodes.now) h.parent refl
+    c.requires.0 (c.parent_of.ensures o c.args.tables.nodes.now) h.parent refl
     (c.put_copied-done.ensures
-    ∙ copied_all (over c.args.outside.now) c.args.sheet.now
-    (store_of o c.args.results.now c.args.nodes.now) c.args.wanted c.requires.0 h.parent
+    ∙ copied_all (over c.args.tables.outside.now) c.args.tables.sheet.now
+    (store_of o c.args.tables.results.now c.args.tables.nodes.now) c.args.wanted c.requires.0 h.parent
     c.args.out.now _ c.args.a.row c.args.a.count
     (filled c.args.k c.args.out.now) h.names h.functions)
     (c.put_own.ensures o)

@@ -11,8 +11,8 @@ loop-l-init c = (
   omega arith,
   refl,
   refl,
-  chained_none c.args.sheet.now c.args.results.now c.args.literals.now
-      c.args.siblings.now c.requires.3 c.requires.4 c.requires.2,
+  chained_none c.args.sheet.now c.args.results.now c.args.first.now
+      c.args.after.now c.requires.3 c.requires.4 c.requires.2,
 )
 
 pub overflow_sub-l : goal.overflow_sub-l
@@ -42,7 +42,7 @@ loop-l-preserved-then-is_reached c = (
   omega (arith, c.loop-l.invariant.0),
   omega (arith, c.put_entry-then-is_reached.auto, c.loop-l.invariant.1),
   omega (arith, c.put_entry.auto, c.loop-l.invariant.2),
-  chained_more c.args.sheet.now c.args.results.now c.loop-l.literals c.loop-l.siblings _ _ c.loop-l.l
+  chained_more c.args.sheet.now c.args.results.now c.loop-l.first c.loop-l.after _ _ c.loop-l.l
       _ _ c.loop-l-test.true c.loop-l.invariant.0 c.loop-l.invariant.3 (sym c.if-is_reached.true ∙ c.is_reached.ensures) c.word-fun.ensures
       c.entry_at.ensures c.put_entry.ensures c.put_entry-then-is_reached.ensures,
 )
@@ -55,18 +55,18 @@ loop-l-preserved c = (
   omega (arith, c.loop-l.invariant.0),
   c.loop-l.invariant.1,
   c.loop-l.invariant.2,
-  chained_skip c.args.sheet.now c.args.results.now c.loop-l.literals c.loop-l.siblings c.loop-l.l
+  chained_skip c.args.sheet.now c.args.results.now c.loop-l.first c.loop-l.after c.loop-l.l
       c.loop-l-test.true c.loop-l.invariant.0 c.loop-l.invariant.3
       (sym c.if-is_reached.false ∙ c.is_reached.ensures),
 )
 
-pub shape_of-literals : goal.shape_of-literals
-shape_of-literals c = c.loop-l.invariant.1
+pub shape_of-first : goal.shape_of-first
+shape_of-first c = c.loop-l.invariant.1
 
-pub shape_of-siblings : goal.shape_of-siblings
-shape_of-siblings c = c.loop-l.invariant.2
+pub shape_of-after : goal.shape_of-after
+shape_of-after c = c.loop-l.invariant.2
 
 pub returns : goal.returns
 returns c =
-    chained_all c.args.sheet.now c.args.results.now c.loop-l.literals c.loop-l.siblings c.loop-l.l
+    chained_all c.args.sheet.now c.args.results.now c.loop-l.first c.loop-l.after c.loop-l.l
     c.loop-l-test.false c.requires.1 c.loop-l.invariant.3

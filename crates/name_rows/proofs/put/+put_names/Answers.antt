@@ -8,9 +8,9 @@ use Rattle.name_rows.proofs.put.+put_names.Goals as goal
 
 pub returns-then-n-eq0 : goal.returns-then-n-eq0
 returns-then-n-eq0 t c =
-    λ o. names_zero _ (name_row (over c.args.outside.now) c.args.sheet.now
-    (store_of o c.args.results.now c.args.nodes.now) c.args.wanted)
-    c.args.sheet.now (store_of o c.args.results.now c.args.nodes.now)
+    λ o. names_zero _ (name_row (over c.args.tables.outside.now) c.args.tables.sheet.now
+    (store_of o c.args.tables.results.now c.args.tables.nodes.now) c.args.wanted)
+    c.args.tables.sheet.now (store_of o c.args.tables.results.now c.args.tables.nodes.now)
     (kind_number c.args.wanted.kind) c.args.n c.args.c.0 (filled c.args.k c.args.out.now)
     c.if-n-eq0.true
 
@@ -19,11 +19,11 @@ overflow_sub-p t c = omega (arith, c.if-n-eq0.false)
 
 pub returns-then-up-eq0 : goal.returns-then-up-eq0
 returns-then-up-eq0 t c =
-    λ o. names_first _ (name_row (over c.args.outside.now) c.args.sheet.now
-    (store_of o c.args.results.now c.args.nodes.now) c.args.wanted)
-    c.args.sheet.now (store_of o c.args.results.now c.args.nodes.now)
+    λ o. names_first _ (name_row (over c.args.tables.outside.now) c.args.tables.sheet.now
+    (store_of o c.args.tables.results.now c.args.tables.nodes.now) c.args.wanted)
+    c.args.tables.sheet.now (store_of o c.args.tables.results.now c.args.tables.nodes.now)
     (kind_number c.args.wanted.kind) c.args.n c.args.c.0 (filled c.args.k c.args.out.now)
-    c.if-n-eq0.false (c.parent_of-up.ensures o c.args.nodes.now) c.if-up-eq0.true (c.put_own.ensures o)
+    c.if-n-eq0.false (c.parent_of-up.ensures o c.args.tables.nodes.now) c.if-up-eq0.true (c.put_own.ensures o)
 
 pub overflow_sub-n : goal.overflow_sub-n
 overflow_sub-n t c = omega (arith, c.if-n-eq0.false)
@@ -38,9 +38,9 @@ shape_of-out t c =
 
 pub returns : goal.returns
 returns t c =
-    λ o. names_after _ (name_row (over c.args.outside.now) c.args.sheet.now
-    (store_of o c.args.results.now c.args.nodes.now) c.args.wanted)
-    c.args.sheet.now (store_of o c.args.results.now c.args.nodes.now)
+    λ o. names_after _ (name_row (over c.args.tables.outside.now) c.args.tables.sheet.now
+    (store_of o c.args.tables.results.now c.args.tables.nodes.now) c.args.wanted)
+    c.args.tables.sheet.now (store_of o c.args.tables.results.now c.args.tables.nodes.now)
     (kind_number c.args.wanted.kind) c.args.n c.args.c.0 (filled c.args.k c.args.out.now)
-    c.if-n-eq0.false (c.parent_of-up.ensures o c.args.nodes.now) c.if-up-eq0.false (c.put_names-done.ensures o)
+    c.if-n-eq0.false (c.parent_of-up.ensures o c.args.tables.nodes.now) c.if-up-eq0.false (c.put_names-done.ensures o)
     (c.put_own-2.ensures o)

@@ -9,12 +9,12 @@ use Rattle.name_rows.proofs.put.+put_stored.Goals as goal
 
 pub returns-then-last-eq0 : goal.returns-then-last-eq0
 returns-then-last-eq0 t c =
-    λ o. stored_none (name_row (over c.args.outside.now) c.args.sheet.now
-    (store_of o c.args.results.now c.args.nodes.now) c.args.wanted)
-    (inherited (over c.args.outside.now) c.args.sheet.now
-    (store_of o c.args.results.now c.args.nodes.now) (kind_number c.args.wanted.kind) c.args.p.left
+    λ o. stored_none (name_row (over c.args.tables.outside.now) c.args.tables.sheet.now
+    (store_of o c.args.tables.results.now c.args.tables.nodes.now) c.args.wanted)
+    (inherited (over c.args.tables.outside.now) c.args.tables.sheet.now
+    (store_of o c.args.tables.results.now c.args.tables.nodes.now) (kind_number c.args.wanted.kind) c.args.p.left
     c.args.p.class.0)
-    c.args.nodes.now c.args.last (filled c.args.k c.args.out.now) c.if-last-eq0.true
+    c.args.tables.nodes.now c.args.last (filled c.args.k c.args.out.now) c.if-last-eq0.true
 
 pub overflow_sub-i : goal.overflow_sub-i
 overflow_sub-i t c = omega (arith, c.if-last-eq0.false)
@@ -29,10 +29,10 @@ shape_of-out t c =
 
 pub returns : goal.returns
 returns t c =
-    λ o. stored_last (name_row (over c.args.outside.now) c.args.sheet.now
-    (store_of o c.args.results.now c.args.nodes.now) c.args.wanted)
-    (inherited (over c.args.outside.now) c.args.sheet.now
-    (store_of o c.args.results.now c.args.nodes.now) (kind_number c.args.wanted.kind) c.args.p.left
+    λ o. stored_last (name_row (over c.args.tables.outside.now) c.args.tables.sheet.now
+    (store_of o c.args.tables.results.now c.args.tables.nodes.now) c.args.wanted)
+    (inherited (over c.args.tables.outside.now) c.args.tables.sheet.now
+    (store_of o c.args.tables.results.now c.args.tables.nodes.now) (kind_number c.args.wanted.kind) c.args.p.left
     c.args.p.class.0)
-    c.args.nodes.now c.args.last (filled c.args.k c.args.out.now) c.if-last-eq0.false
+    c.args.tables.nodes.now c.args.last (filled c.args.k c.args.out.now) c.if-last-eq0.false
     c.node_before-before.ensures c.node_word.ensures (c.put_stored-done.ensures o) (c.put_new.ensures o)

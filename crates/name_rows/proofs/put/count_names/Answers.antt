@@ -9,9 +9,9 @@ use Rattle.name_rows.proofs.put.count_names.Goals as goal
 
 pub returns : goal.returns
 returns c =
-    λ o. names_counted (name_row (over c.args.outside.now) c.args.sheet.now
-    (store_of o c.args.results.now c.args.nodes.now) c.args.wanted)
-    (names_in (over c.args.outside.now) c.args.sheet.now
-    (store_of o c.args.results.now c.args.nodes.now) (kind_number c.args.wanted.kind) c.args.n
+    λ o. names_counted (name_row (over c.args.tables.outside.now) c.args.tables.sheet.now
+    (store_of o c.args.tables.results.now c.args.tables.nodes.now) c.args.wanted)
+    (names_in (over c.args.tables.outside.now) c.args.tables.sheet.now
+    (store_of o c.args.tables.results.now c.args.tables.nodes.now) (kind_number c.args.wanted.kind) c.args.n
     c.args.c.0)
     _ refl (c.put_names.ensures o)

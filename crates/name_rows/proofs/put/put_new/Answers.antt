@@ -1,5 +1,5 @@
 use Rattle.ast.specs.Kind.{kind_number}
-use Rattle.name_rows.proofs.PutLaws.{new_old, new_put}
+use Rattle.name_rows.proofs.PutLaws.{new_old, new_put, put_one}
 use Rattle.name_rows.specs.Put.{filled, name_row}
 use Rattle.class_names.specs.Names.{inherited}
 use Rattle.store.specs.Stored.{store_of}
@@ -9,20 +9,21 @@ use Rattle.name_rows.proofs.put.put_new.Goals as goal
 
 pub returns-then-is_inherited : goal.returns-then-is_inherited
 returns-then-is_inherited c =
-    λ o. new_old (name_row (over c.args.outside.now) c.args.sheet.now
-    (store_of o c.args.results.now c.args.nodes.now) c.args.wanted)
-    (inherited (over c.args.outside.now) c.args.sheet.now
-    (store_of o c.args.results.now c.args.nodes.now) (kind_number c.args.wanted.kind) c.args.p.left
+    λ o. new_old (name_row (over c.args.tables.outside.now) c.args.tables.sheet.now
+    (store_of o c.args.tables.results.now c.args.tables.nodes.now) c.args.wanted)
+    (inherited (over c.args.tables.outside.now) c.args.tables.sheet.now
+    (store_of o c.args.tables.results.now c.args.tables.nodes.now) (kind_number c.args.wanted.kind) c.args.p.left
     c.args.p.class.0)
     c.args.m (filled c.args.k c.args.out.now)
     (sym c.if-is_inherited.true ∙ c.is_inherited.ensures o)
 
 pub returns : goal.returns
 returns c =
-    λ o. new_put (name_row (over c.args.outside.now) c.args.sheet.now
-    (store_of o c.args.results.now c.args.nodes.now) c.args.wanted)
-    (inherited (over c.args.outside.now) c.args.sheet.now
-    (store_of o c.args.results.now c.args.nodes.now) (kind_number c.args.wanted.kind) c.args.p.left
+    λ o. new_put (name_row (over c.args.tables.outside.now) c.args.tables.sheet.now
+    (store_of o c.args.tables.results.now c.args.tables.nodes.now) c.args.wanted)
+    (inherited (over c.args.tables.outside.now) c.args.tables.sheet.now
+    (store_of o c.args.tables.results.now c.args.tables.nodes.now) (kind_number c.args.wanted.kind) c.args.p.left
     c.args.p.class.0)
     c.args.m (filled c.args.k c.args.out.now) (sym c.if-is_inherited.false ∙ c.is_inherited.ensures o)
-    (c.put_name.ensures o c.args.nodes.now)
+    (put_one (name_row (over c.args.tables.outside.now) c.args.tables.sheet.now
+    (store_of o c.args.tables.results.now c.args.tables.nodes.now) c.args.wanted) c.args.m (filled c.args.k c.args.out.now) (c.name_row.ensures o c.args.tables.nodes.now) c.put_row.ensures)

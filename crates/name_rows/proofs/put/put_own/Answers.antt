@@ -13,28 +13,28 @@ use Rattle.name_rows.proofs.put.put_own.Goals as goal
 pub returns-then-eq : goal.returns-then-eq
 returns-then-eq c =
     λ o.
-    let O = over c.args.outside.now in
-    let st = store_of o c.args.results.now c.args.nodes.now in
+    let O = over c.args.tables.outside.now in
+    let st = store_of o c.args.tables.results.now c.args.tables.nodes.now in
     let j = kind_number c.args.wanted.kind in
-    own_stored O (name_row O c.args.sheet.now st c.args.wanted) (inherited O c.args.sheet.now st j c.args.p.left c.args.p.class.0) c.args.sheet.now st j c.args.c.0
+    own_stored O (name_row O c.args.tables.sheet.now st c.args.wanted) (inherited O c.args.tables.sheet.now st j c.args.p.left c.args.p.class.0) c.args.tables.sheet.now st j c.args.c.0
     (filled c.args.k c.args.out.now) (sym c.if-is_class_row.true ∙ c.is_class_row.ensures) (c.put_listed-done.ensures o)
     (eqb-true j 10 (sym (same_kind c.args.wanted.kind Field) ∙ sym c.eq.ensures ∙ c.if-eq.true)) c.word.ensures (c.put_stored.ensures o)
 
 pub returns-then-is_class_row : goal.returns-then-is_class_row
 returns-then-is_class_row c =
     λ o.
-    let O = over c.args.outside.now in
-    let st = store_of o c.args.results.now c.args.nodes.now in
+    let O = over c.args.tables.outside.now in
+    let st = store_of o c.args.tables.results.now c.args.tables.nodes.now in
     let j = kind_number c.args.wanted.kind in
-    own_listed O (name_row O c.args.sheet.now st c.args.wanted) (inherited O c.args.sheet.now st j c.args.p.left c.args.p.class.0) c.args.sheet.now st j c.args.c.0
+    own_listed O (name_row O c.args.tables.sheet.now st c.args.wanted) (inherited O c.args.tables.sheet.now st j c.args.p.left c.args.p.class.0) c.args.tables.sheet.now st j c.args.c.0
     (filled c.args.k c.args.out.now) (sym c.if-is_class_row.true ∙ c.is_class_row.ensures) (c.put_listed-done.ensures o)
     (eqb-false j 10 (sym (same_kind c.args.wanted.kind Field) ∙ sym c.eq.ensures ∙ c.if-eq.false))
 
 pub returns : goal.returns
 returns c =
     λ o.
-    let O = over c.args.outside.now in
-    let st = store_of o c.args.results.now c.args.nodes.now in
+    let O = over c.args.tables.outside.now in
+    let st = store_of o c.args.tables.results.now c.args.tables.nodes.now in
     let j = kind_number c.args.wanted.kind in
-    own_recorded O (name_row O c.args.sheet.now st c.args.wanted) (inherited O c.args.sheet.now st j c.args.p.left c.args.p.class.0) c.args.sheet.now st j c.args.c.0
+    own_recorded O (name_row O c.args.tables.sheet.now st c.args.wanted) (inherited O c.args.tables.sheet.now st j c.args.p.left c.args.p.class.0) c.args.tables.sheet.now st j c.args.c.0
     (filled c.args.k c.args.out.now) (sym c.if-is_class_row.false ∙ c.is_class_row.ensures) c.recorded_names-names.ensures (c.put_recorded.ensures o)

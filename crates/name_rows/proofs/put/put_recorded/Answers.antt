@@ -11,18 +11,18 @@ use Rattle.name_rows.proofs.put.put_recorded.Goals as goal
 pub loop-name-preserved : goal.loop-name-preserved
 loop-name-preserved c =
     λ o.
-    let O = over c.args.outside.now in
-    let st = store_of o c.args.results.now c.args.nodes.now in
-    let f = name_row O c.args.sheet.now st c.args.wanted in
-    let up = inherited O c.args.sheet.now st (kind_number c.args.wanted.kind) c.args.p.left c.args.p.class.0 in
+    let O = over c.args.tables.outside.now in
+    let st = store_of o c.args.tables.results.now c.args.tables.nodes.now in
+    let f = name_row O c.args.tables.sheet.now st c.args.wanted in
+    let up = inherited O c.args.tables.sheet.now st (kind_number c.args.wanted.kind) c.args.p.left c.args.p.class.0 in
     new_rest f up (filled c.loop-name.done c.loop-name.out) c.in-Some.ensures.steps (c.put_new-done.ensures o) ∙ c.loop-name.invariant o
 
 pub returns : goal.returns
 returns c =
     λ o.
-    let O = over c.args.outside.now in
-    let st = store_of o c.args.results.now c.args.nodes.now in
-    let f = name_row O c.args.sheet.now st c.args.wanted in
-    let up = inherited O c.args.sheet.now st (kind_number c.args.wanted.kind) c.args.p.left c.args.p.class.0 in
+    let O = over c.args.tables.outside.now in
+    let st = store_of o c.args.tables.results.now c.args.tables.nodes.now in
+    let f = name_row O c.args.tables.sheet.now st c.args.wanted in
+    let up = inherited O c.args.tables.sheet.now st (kind_number c.args.wanted.kind) c.args.p.left c.args.p.class.0 in
     new_end f up (filled c.loop-name.done c.loop-name.out) c.in-None.ensures.steps.0 ∙ c.loop-name.invariant o
-    ∙ ap (λ (ns : List ℕ). put_new O c.args.sheet.now st c.args.wanted c.args.p ns (filled c.args.k c.args.out.now)) (ap names_left c.into_iter-name-iterator.ensures.into_iter_gives)
+    ∙ ap (λ (ns : List ℕ). put_new O c.args.tables.sheet.now st c.args.wanted c.args.p ns (filled c.args.k c.args.out.now)) (ap names_left c.into_iter-name-iterator.ensures.into_iter_gives)
