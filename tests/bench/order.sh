@@ -10,7 +10,7 @@ mkdir -p "$out/repository/crates"
 out=$(cd "$out" && pwd)
 
 # the crates below `order_units`, and one more that exports what is timed
-crates="definition ast lexer shapes names links name_index machine words row_fits distinct answer passes first_four unit_order start_units
+crates="definition ast lexer shapes names name_index machine words links row_fits sheet distinct answer passes first_four unit_order start_units
 circle_ranks import_circle order_units"
 : > "$out/repository/crates.txt"
 for crate in $crates; do
@@ -18,7 +18,7 @@ for crate in $crates; do
     cp -R "$top/crates/$crate" "$out/repository/crates/"
     grep "^$crate:" "$top/crates.txt" >> "$out/repository/crates.txt"
 done
-echo 'bench_order staticlib: lexer answer first_four order_units' >> "$out/repository/crates.txt"
+echo 'bench_order staticlib: ast lexer answer first_four order_units' >> "$out/repository/crates.txt"
 mkdir -p "$out/repository/crates/bench_order/src"
 cat > "$out/repository/crates/bench_order/src/lib.rt" <<'END_OF_CRATE'
 #![tactic(auto)]
@@ -38,7 +38,7 @@ pub extern "C" fn bench_position(sheet: &[u32], names: &[u8], list: &mut [u32]) 
 
 #[unsafe(no_mangle)]
 pub extern "C" fn bench_first_four(sheet: &[u32], names: &[u8]) -> u32 {
-    first_four::first_four(sheet, names)
+    ast::question::no_number(first_four::first_four(sheet, names))
 }
 END_OF_CRATE
 (cd "$out/repository/crates/bench_order" && rt lib > "$out/staticlib.log" 2>&1) || { tail -20 "$out/staticlib.log"; exit 1; }

@@ -18,14 +18,14 @@ mkdir -p "$out/repository/crates/bench/src"
 # the libraries, and one more that exports what is timed
 cp -R "$top"/crates/* "$out/repository/crates/"
 grep -v -E '^(question_tests|columns_tests|plush_resolve|plush_serve):' "$top/crates.txt" > "$out/repository/crates.txt"
-echo 'bench staticlib: first_four answer resolver resolve_text text' >> "$out/repository/crates.txt"
+echo 'bench staticlib: ast first_four answer resolver resolve_text text' >> "$out/repository/crates.txt"
 (cd "$out/repository/crates" && rm -rf question_tests columns_tests plush_resolve plush_serve)
 cat > "$out/repository/crates/bench/src/lib.rt" <<'END_OF_CRATE'
 #![tactic(auto)]
 
 #[unsafe(no_mangle)]
 pub extern "C" fn bench_first_four(words: &[u32], names: &[u8]) -> u32 {
-    first_four::first_four(words, names)
+    ast::question::no_number(first_four::first_four(words, names))
 }
 
 #[unsafe(no_mangle)]

@@ -52,17 +52,16 @@ pub extern "C" fn bench_preview(words: &[u32], bytes: &[u8], sheet: &[u32], name
 pub extern "C" fn bench_check(words: &[u32], bytes: &[u8]) -> usize {
     let mut starts = [0u32; 1025];
     let mut index = [0u32; 2048];
-    check_session(words, bytes, &mut starts, &mut index)
+    usize::from(check_session(words, bytes, &mut starts, &mut index).is_some())
 }
 
 #[unsafe(no_mangle)]
 pub extern "C" fn bench_outside(words: &[u32], bytes: &[u8], out: &mut [u32]) -> usize {
     let mut starts = [0u32; 1025];
     let mut index = [0u32; 2048];
-    let count = check_session(words, bytes, &mut starts, &mut index);
-    if count == 0 {
+    let Some(_list) = check_session(words, bytes, &mut starts, &mut index) else {
         return 0;
-    }
+    };
     let size = outside_size(words);
     if out.len() < size {
         return 0;
@@ -73,13 +72,12 @@ pub extern "C" fn bench_outside(words: &[u32], bytes: &[u8], out: &mut [u32]) ->
 END_OF_CRATE
 cat > "$bench/proofs/bench_outside/Answers.antt" <<'END_OF_PROOF'
 use Rattle.std.proofs.Common.{arith}
-use Rattle.session_names.proofs.NameLaws.{listing_some}
 use Rattle.session_outside.proofs.ReadableLaws.{readable}
 use Rattle.session_bench.proofs.bench_outside.Goals as goal
 
 pub outside_words-requires : goal.outside_words-requires
 outside_words-requires c =
-    (readable c.args.words.now c.args.bytes.now (listing_some c.check_session-count.ensures c.if-count-eq0.false),
+    (readable c.args.words.now c.args.bytes.now c.in-Some.ensures.0,
     omega (arith, c.if-out-size.false, c.outside_size-size.ensures))
 END_OF_PROOF
 (cd "$out/repository/crates/session_bench" && rt lib > "$out/session_staticlib.log" 2>&1) || { tail -20 "$out/session_staticlib.log"; exit 1; }
