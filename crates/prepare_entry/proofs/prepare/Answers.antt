@@ -9,7 +9,7 @@ use Rattle.prepare_entry.proofs.prepare.Goals as goal
 
 pub number_names-told-requires : goal.number_names-told-requires
 number_names-told-requires c =
-    ((passed _ c.args.sheet.now c.args.names.now (sym c.in_default.ensures)).names_fit_lem, c.requires)
+    ((passed _ c.args.sheet.now c.args.names.now (sym c.in_default-ask_entry.ensures)).names_fit_lem, c.requires)
 
 pub overflow_cast-result : goal.overflow_cast-result
 overflow_cast-result c =
@@ -23,6 +23,6 @@ returns c =
     let list = c.in-Some.list.listed in
     let held = c.in-Some.ensures in
     let counted : c.count.result + 1 ≡ length (listed list.names.now) + 1 = omega (arith, c.count.ensures, table_size list.names.now list.of_names) in
-    prepared_told c.args.words.now c.args.bytes.now c.args.sheet.now c.args.names.now held.0 (sym c.in_default.ensures) refl
+    prepared_told c.args.words.now c.args.bytes.now c.args.sheet.now c.args.names.now held.0 (sym c.in_default-ask_entry.ensures) refl
     (c.number_names-told.ensures (session_in whole c.args.words.now c.args.bytes.now) (list_all c.args.words.now c.args.bytes.now held.0 held.1))
     held.1 counted (omega arith)
