@@ -9,7 +9,7 @@ use Prim.Native.Nat.{ℕ, zero, suc, ◌+◌, ◌/◌, ◌≤◌}
 use native.Mathlib.Omega.{arith}
 use lib.Dec.{eqb, leb, ltb, eqb→eq}
 use lib.ListN.{get_or}
-use borrow.Author.Tests.{eqb-true, ne_eqb, not-true, not-false}
+use borrow.Author.Tests.{eqb-true, ne_eqb, not-false}
 use Rattle.definition.specs.Basics.{when◌then◌else◌, all, any, from, total}
 use Rattle.definition.proofs.Lists.Tests.{T_true, and_right}
 use Rattle.session.specs.Words.{whole, laid_place, part_of, fields_in, methods_in, members_before, is_function_up_to, is_name_up_to, laid_fits}

@@ -23,6 +23,7 @@ use session_rows::{
 };
 
 // Is there a class of a number among those from `first` on and below `end`? Numbers rise, so that one look leaves half of the classes.
+// A loop of its own: the library's search by halving takes a slice of numbers, and these stand five words apart.
 fn has_class(words: &[u32], first: usize, end: usize, number: usize) -> bool
     requires { Ordered words.now × (end ≤ get_or words.now 6 0) }
     ensures { result ≡ any (λ i. eqb (number_of words.now i) number) (from first (end - first)) }

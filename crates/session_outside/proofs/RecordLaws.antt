@@ -143,15 +143,6 @@ method_next f x a k n i l =
     let t : a + 3 * i + 2 ≡ suc (suc (a + 3 * i)) = omega arith in
     rw (p, q, s, t) (ap (λ (j : ℕ). sets x (a + 3 * i) (concat_map method_words (map f (from (k + i) j)))) r)
 
--- the next of the words of a list
-pub word_next : (l x : List ℕ) (a i : ℕ) → i < length l → sets (set x (a + i) (get_or l i 0)) (a + (i + 1)) (drop (i + 1) l) ≡ sets x (a + i) (drop i l)
-word_next l x a i h =
-    let p : a + (i + 1) ≡ suc (a + i) = omega arith in
-    let q : i + 1 ≡ suc i = omega arith in
-    ap (λ (j : ℕ). sets (set x (a + i) (get_or l i 0)) j (drop (i + 1) l)) p
-    ∙ ap (λ (j : ℕ). sets (set x (a + i) (get_or l i 0)) (suc (a + i)) (drop j l)) q
-    ∙ sym (ap (λ (v : List ℕ). sets x (a + i) v) (drop-cons l i 0 h))
-
 -- a method as it is read and written
 pub method_written : (w x : List ℕ) (a k n i : ℕ) → i < n → {p q r : ℕ} {x₁ x₂ x₃ : List ℕ} → p ≡ get_or w (member_place whole (k + i)) 0 → x₁ ≡ set x (a + 3 * i) p
     → q ≡ get_or w (member_place whole (k + i) + 1) 0 → x₂ ≡ set x₁ (a + 3 * i + 1) (q + 2048) → r ≡ get_or w (member_place whole (k + i) + 2) 0 → x₃ ≡ set x₂ (a + 3 * i + 2) r

@@ -1,5 +1,5 @@
 use mathlib.Core.List.{List}
-use Prim.Native.Nat.{ℕ, ◌-◌}
+use Prim.Native.Nat.{ℕ}
 use Rattle.store.specs.declared.nodes.Store.{Store}
 use Rattle.store.specs.Stored.{store_of}
 use Rattle.entry_classes.specs.Told.{class_in}

@@ -1,4 +1,3 @@
-use Prim.Native.Nat.{◌-◌}
 use Rattle.entry_classes.proofs.RunLaws.{Counting}
 use Rattle.entry_classes.proofs.count_classes.Given as goal
 
