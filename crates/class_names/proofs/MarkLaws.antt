@@ -6,10 +6,10 @@ use Prim.Native.Nat.{ℕ, suc, ◌+◌, ◌-◌, ◌<◌, ◌≤◌}
 use native.Mathlib.Omega.{arith}
 use lib.Dec.{eqb, leb}
 use lib.ListN.{length, get_or, set}
-use lib.Seq.{set_out, get_or-set_same, get_or-set_other}
-use borrow.Author.Tests.{eq-eqb, ne_eqb, eqb-true, eqb-false, le-leb, lt-leb, leb-true, leb-false}
+use lib.Seq.{get_or-set_same, get_or-set_other}
+use borrow.Author.Tests.{ne_eqb, eqb-true, eqb-false, leb-true, leb-false}
 use Rattle.definition.specs.Basics.{when◌then◌else◌, any, from}
-use Rattle.definition.specs.Sheet.{Sheet, kind, rows, is}
+use Rattle.definition.specs.Sheet.{Sheet, rows, is}
 use Rattle.machine.specs.Machine.{cell}
 use Rattle.after.specs.Inherited.{has_children_in}
 use Rattle.class_names.specs.Names.{ParentMarks, mark_parent}
@@ -23,24 +23,6 @@ or_assoc : (u v w : Bool) → ((u || v) || w) ≡ (u || (v || w))
 or_assoc true v w = refl
 or_assoc false v w = refl
 
--- What marking does, by the kind and the parent of row r.
-module _ (s t : List ℕ) (r : ℕ) (marks : List ℕ) {x : ℕ} (e : x ≡ kind s r) where
-  pub mark_none : (x ≡ 4 → ⊥) → marks ≡ mark_parent s t r marks
-  unfolding mark_parent
-  mark_none f = rw (ne_eqb (kind s r) 4 (λ h. f (e ∙ h)))
-
-  module _ (h : x ≡ 4) {p : ℕ} (w : p ≡ cell t r 1) where
-    pub mark_outside : p < 256 → marks ≡ mark_parent s t r marks
-    unfolding mark_parent
-    mark_outside l = rw (eq-eqb (kind s r) 4 (sym e ∙ h), sym w, lt-leb 256 p l)
-
-    pub mark_set : 256 ≤ p → set marks (p - 256) 1 ≡ mark_parent s t r marks
-    unfolding mark_parent
-    mark_set l = rw (eq-eqb (kind s r) 4 (sym e ∙ h), sym w, le-leb 256 p l)
-
-    pub mark_past : 256 ≤ p → length marks ≤ p - 256 → marks ≡ mark_parent s t r marks
-    mark_past l g = sym (set_out marks (p - 256) 1 g) ∙ mark_set l
-
 -- is class 256 + j the parent of one of the n rows from i on?
 abbrev parent_of_some : Sheet → List ℕ → ℕ → ℕ → ℕ → Bool
 parent_of_some s t j i n = any (λ r. is s 4 r && eqb (cell t r 1) (256 + j)) (from i n)
@@ -48,9 +30,6 @@ parent_of_some s t j i n = any (λ r. is s 4 r && eqb (cell t r 1) (256 + j)) (f
 -- The marked rows and the rows from i on tell all parents.
 abbrev pub MarkedTo : Sheet → List ℕ → List ℕ → ℕ → Type 0
 MarkedTo s t marks i = (j : ℕ) → j < rows s → (not (eqb (get_or marks j 0) 0) || parent_of_some s t j i (rows s - i)) ≡ parent_of_some s t j 0 (rows s)
-
-pub marked_start : (s : Sheet) (t marks : List ℕ) → ((j : ℕ) → get_or marks j 0 ≡ 0) → MarkedTo s t marks 0
-marked_start s t marks z j l = let e : rows s - 0 ≡ rows s = omega arith in rw (z j, e)
 
 -- one row more
 mark_one : (s : Sheet) (t marks : List ℕ) (i j : ℕ) → j < length marks

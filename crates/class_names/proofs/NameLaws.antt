@@ -11,7 +11,6 @@ use Rattle.sheet.proofs.ChildLists.{eqb_flip}
 use Rattle.definition.specs.Basics.{when◌then◌else◌, filter, ◌∈?◌}
 use Rattle.definition.specs.Sheet.{Sheet, a, kids_of}
 use Rattle.definition.specs.Outside.{Outside, Method, record_of}
-use Rattle.outside.specs.Found.{recorded_names}
 use Rattle.definition.specs.Classes.{of_sheet, own_methods, method_at, merge_fields, inheriting}
 use Rattle.machine.specs.Machine.{Store, Node, cell, list_at, chain_to, has_key}
 use Rattle.machine.proofs.Lists.{eqb_same, any_append}
@@ -52,17 +51,6 @@ module _ (s : Sheet) (o : Store) (j r m : ℕ) where
 
     pub row_none : (j ≡ 10 → ⊥) → false ≡ (m ∈? row_names s o j r)
     row_none g = sym (row_split ∙ rw (sym f, ne_eqb j 10 g))
-
--- Own names of a class, by its row or its record.
-
-module _ (O : Outside) (s : Sheet) (o : Store) (j c m : ℕ) {x : Bool} where
-  pub own_row : true ≡ of_sheet s c → x ≡ (m ∈? row_names s o j (c - 256)) → x ≡ (m ∈? own_in O s o j c)
-  unfolding own_in
-  own_row f h = h ∙ ap (λ (t : Bool). m ∈? (when t then row_names s o j (c - 256) else recorded_names O j c)) f
-
-  pub own_record : false ≡ of_sheet s c → x ≡ (m ∈? recorded_names O j c) → x ≡ (m ∈? own_in O s o j c)
-  unfolding own_in
-  own_record f h = h ∙ ap (λ (t : Bool). m ∈? (when t then row_names s o j (c - 256) else recorded_names O j c)) f
 
 -- Names after inheritance.
 

@@ -3,11 +3,11 @@ use Rattle.ast.specs.Kind.{kind_number}
 use mathlib.Core.Path.{◌≡◌, refl, sym, ap, subst, ◌∙◌}
 use mathlib.Core.Bool.{Bool, true, false, not, ◌&&◌, ◌||◌}
 use mathlib.Core.List.{List, map}
-use Prim.Native.Nat.{ℕ, zero, suc, ◌+◌, ◌-◌, ◌*◌, ◌/◌, ◌<◌, ◌≤◌}
+use Prim.Native.Nat.{ℕ, zero, suc, ◌+◌, ◌-◌, ◌/◌, ◌<◌, ◌≤◌}
 use native.Mathlib.Omega.{arith}
 use lib.Dec.{T, eqb, leb, ltb}
-use lib.ListN.{length, get_or, get_or-eq_default}
-use borrow.Author.Tests.{eq-eqb, ne_eqb, ltb-true, le-leb, lt-leb, leb-true}
+use lib.ListN.{length, get_or}
+use borrow.Author.Tests.{ne_eqb, ltb-true, le-leb, leb-true}
 use Rattle.definition.specs.Basics.{when◌then◌else◌}
 use Rattle.definition.specs.Sheet.{rows}
 use Rattle.definition.specs.Outside.{Outside, Method}
@@ -31,26 +31,6 @@ module _ (places : List ℕ) (c : ℕ) where
   pub place_here : 256 ≤ c → get_or places (c - 256) 0 ≡ place_of places c
   unfolding place_of
   place_here l = rw (le-leb 256 c l)
-
-  pub place_past : 256 ≤ c → length places ≤ c - 256 → 0 ≡ place_of places c
-  place_past l b = sym (get_or-eq_default places 0 b) ∙ place_here l
-
-  pub place_outside : c < 256 → 0 ≡ place_of places c
-  unfolding place_of
-  place_outside l = rw (lt-leb 256 c l)
-
-module _ (w : List ℕ) (at j : ℕ) where
-  pub above_none : at ≡ 0 → record { row = 0; count = 0 } ≡ above_of w at j
-  unfolding above_of
-  above_none e = rw (eq-eqb at 0 e)
-
-  pub above_fields : (at ≡ 0 → ⊥) → j ≡ 10 → record { row = at; count = get_or w (8 * (at - 1) + 4) 0 } ≡ above_of w at j
-  unfolding above_of
-  above_fields f e = rw (ne_eqb at 0 f, eq-eqb j 10 e)
-
-  pub above_methods : (at ≡ 0 → ⊥) → (j ≡ 10 → ⊥) → record { row = at + get_or w (8 * (at - 1) + 4) 0; count = get_or w (8 * (at - 1) + 5) 0 } ≡ above_of w at j
-  unfolding above_of
-  above_methods f g = rw (ne_eqb at 0 f, ne_eqb j 10 g)
 
 -- The parent p of the class of row r, and its entry.
 module _ {O : Outside} {s t q places w : List ℕ} {r k : ℕ} (h : Placed O s t q places w r k)

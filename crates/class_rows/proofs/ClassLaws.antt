@@ -7,7 +7,7 @@ use Prim.Native.Nat.{ℕ, suc, ◌+◌, ◌/◌, ◌<◌, ◌≤◌, min}
 use native.Mathlib.Omega.{arith}
 use lib.Dec.{eqb}
 use lib.ListN.{length, get_or}
-use borrow.Author.Tests.{eq-eqb, ne_eqb, lt-ltb}
+use borrow.Author.Tests.{lt-ltb}
 use Rattle.definition.specs.Basics.{bit}
 use Rattle.definition.specs.Sheet.{Sheet, rows}
 use Rattle.definition.specs.Outside.{Outside}
@@ -24,12 +24,6 @@ use Rattle.class_names.specs.Names.{names_in, ClassReady, head_words}
 use Rattle.name_rows.specs.Put.{Filled, Wants, name_row, put, put_all}
 use Rattle.name_rows.specs.declared.put.Wanted.{Wanted}
 use Rattle.class_names.proofs.NameLaws.{names_fields, names_methods}
-
-pub bit_clear : (x : ℕ) → x ≡ 0 → 0 ≡ bit (not (eqb x 0))
-bit_clear x e = rw (eq-eqb x 0 e)
-
-pub bit_set : (x : ℕ) → (x ≡ 0 → ⊥) → 1 ≡ bit (not (eqb x 0))
-bit_set x f = rw (ne_eqb x 0 f)
 
 -- The names that are wanted.
 wanted_fields : (O : Outside) (s : Sheet) (o : Stored) {r : ℕ} {w : Wanted} → Wants r 10 w → names_in O s o (kind_number w.kind) (rows s) w.class.0 ≡ fields_in O s o (rows s) (256 + r)

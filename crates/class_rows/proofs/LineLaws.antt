@@ -35,7 +35,8 @@ module _ (O : Outside) (s : Sheet) (o : Stored) (w : Wanted) (l : 0 < rows s) (g
       go true h = e ∙ ap (λ (y : Method). y.fun) (method_up O s o m (rows s) w.class.0 l refl (eqb-true own 0 h) refl g)
       go false h = ap (λ (y : Method). y.fun) (method_here O s o m (rows s) w.class.0 l refl (eqb-false own 0 h))
 
-  copied_row_lem : (v : List ℕ) (i m k : ℕ) → get_or v (8 * i + name_column (kind_number w.kind)) 0 ≡ m → ((kind_number w.kind ≡ 10 → ⊥) → get_or v (8 * i + 3) 0 ≡ function_in O s o (rows s - 1) (parent_in s o w.class.0) m)
+  copied_row_lem : (v : List ℕ) (i m k : ℕ) → get_or v (8 * i + name_column (kind_number w.kind)) 0 ≡ m → ((kind_number w.kind ≡ 10 → ⊥) → get_or v (8 * i + 3) 0
+      ≡ function_in O s o (rows s - 1) (parent_in s o w.class.0) m)
       → copied_row O s w v i k ≡ name_row O s o w m k
   unfolding copied_row name_row
   copied_row_lem v i m k e f = go (eqb (kind_number w.kind) 10) refl e
@@ -45,7 +46,8 @@ module _ (O : Outside) (s : Sheet) (o : Stored) (w : Wanted) (l : 0 < rows s) (g
       go false h d = rw (h, d, own_else m (f (eqb-false (kind_number w.kind) 10 h)))
 
   pub copied_all : (v ms : List ℕ) (i n : ℕ) (k : Filled) → column v (name_column (kind_number w.kind)) i n ≡ ms
-      → ((kind_number w.kind ≡ 10 → ⊥) → column v 3 i n ≡ map (function_in O s o (rows s - 1) (parent_in s o w.class.0)) ms) → put_all (copied_row O s w v) (from i n) k ≡ put_all (name_row O s o w) ms k
+      → ((kind_number w.kind ≡ 10 → ⊥) → column v 3 i n ≡ map (function_in O s o (rows s - 1) (parent_in s o w.class.0)) ms) → put_all (copied_row O s w v) (from i n) k
+      ≡ put_all (name_row O s o w) ms k
   unfolding put_all put
   copied_all v [] i zero k e f = refl
   copied_all v (m ∷ ms) i zero k e f = absurd (omega (arith, ap length e))

@@ -24,7 +24,7 @@ fn is_slot(sheet: &[u32], nodes: &[u32], i: u32, f: FunId, j: u32) -> bool
     is_mutable(sheet, d) && d.second == f.0 && d.slot == j
 }
 
-// Is that local in the list whose last node is node `p - 1`?
+// Is that local in the list whose last node is node `p - 1`? A list is walked from there back, which no iterator does yet.
 fn captures_slot(sheet: &[u32], nodes: &[u32], p: u32, f: FunId, j: u32) -> bool
     ensures { result ≡ hands_on sheet.now f.0 j (chain_to nodes.now p) }
 {

@@ -86,7 +86,8 @@ fn emit_captured(tables: Tables, row: u32, p: u32, k: usize, out: &mut [u32]) ->
     emit_decl(row, x, n, out)
 }
 
-// What a literal that stands in function `fun` hands on, in the same order.
+// What a literal that stands in function `fun` hands on, in the same order. Not one routine with `emit_captured`: a closure for the row
+// would have to tell both what it reads of the sheet and what of the store, which is no shorter.
 fn emit_sources(tables: Tables, row: u32, fun: FunId, p: u32, k: usize, out: &mut [u32]) -> usize
     requires { length tables.sheet.now ≤ 16384 }
     ensures { (o : Store) → sink result out.new

@@ -73,9 +73,7 @@ pub fn link_literals(sheet: &[u32], results: &[u32], first: &mut [u32], after: &
         × (rows sheet.now ≤ length first.old) × (rows sheet.now ≤ length after.old) }
     ensures { LiteralChains sheet.now results.now first.new after.new }
 {
-    let mut l = (sheet.len() / 8) as u32;
-    while 1 < l {
-        l -= 1;
+    for l in (1..(sheet.len() / 8) as u32).rev() {
         if is_reached(sheet, results, l) {
             let fun = word(results, l, result::ONE);
             put_entry(after, l, entry_at(first, fun));

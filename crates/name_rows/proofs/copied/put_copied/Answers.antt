@@ -18,7 +18,8 @@ pub loop-at-preserved : goal.loop-at-preserved
 loop-at-preserved c =
     let left = c.args.i + c.args.n - c.loop-at.at in
     let e : c.args.i + c.args.n - (c.loop-at.at + 1) ≡ left - 1 = omega arith in
-    let one = put_one (copied_row (over c.args.tables.outside.now) c.args.tables.sheet.now c.args.wanted c.loop-at.out) c.loop-at.at (filled c.loop-at.done c.loop-at.out) c.copied_row-x.ensures c.put_row-done.ensures in
+    let one = put_one (copied_row (over c.args.tables.outside.now) c.args.tables.sheet.now c.args.wanted c.loop-at.out) c.loop-at.at (filled c.loop-at.done
+    c.loop-at.out) c.copied_row-x.ensures c.put_row-done.ensures in
     let f = copied_row (over c.args.tables.outside.now) c.args.tables.sheet.now c.args.wanted c.args.out.now in (
       ap (λ (m : ℕ). put_all f (from (c.loop-at.at + 1) m) (filled c.put_row-done.result c.put_row-done.new.out)) e
           ∙ copied_next (over c.args.tables.outside.now) c.args.tables.sheet.now c.args.wanted c.args.out.now c.loop-at.at left (filled c.loop-at.done c.loop-at.out)

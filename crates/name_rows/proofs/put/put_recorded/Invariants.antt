@@ -10,4 +10,5 @@ abbrev pub invariant-loop-name : goal.invariant-loop-name
 invariant-loop-name l =
     (o : Store)
     → put_new (over l.tables.outside.now) l.tables.sheet.now (store_of o l.tables.results.now l.tables.nodes.now) l.wanted l.p (names_left l.name-iterator) (filled l.done l.out)
-    ≡ put_new (over l.tables.outside.now) l.tables.sheet.now (store_of o l.tables.results.now l.tables.nodes.now) l.wanted l.p (names_left l.initial.name-iterator) (filled l.initial.done l.initial.out)
+    ≡ put_new (over l.tables.outside.now) l.tables.sheet.now (store_of o l.tables.results.now l.tables.nodes.now) l.wanted l.p (names_left l.initial.name-iterator)
+    (filled l.initial.done l.initial.out)

@@ -22,7 +22,8 @@ returns-then-hands_on-clause-goes c =
 
 pub loop-self-preserved : goal.loop-self-preserved
 loop-self-preserved c = (
-  sym (filter_out (escapes c.loop-self.self.tables.sheet.now c.loop-self.self.tables.results.now c.loop-self.self.tables.nodes.now c.loop-self.self.function.0) c.loop-self.self.next c.loop-self.self.end
+  sym (filter_out (escapes c.loop-self.self.tables.sheet.now c.loop-self.self.tables.results.now c.loop-self.self.tables.nodes.now c.loop-self.self.function.0) c.loop-self.self.next
+      c.loop-self.self.end
       c.loop-self-test.true (sym (sym c.if-hands_on.false ∙ c.hands_on.ensures)))
       ∙ c.loop-self.invariant.0,
   c.loop-self.invariant.1,
