@@ -2,12 +2,14 @@
 #![tactic(auto)]
 
 ghost use Rattle.std.specs.Prelude.{◌≡◌, ◌<◌, length, replicate};
+ghost use Rattle.ast.specs.Question.{question_number};
 ghost use Rattle.definition.specs.Sheet.{file as file_at};
 ghost use Rattle.definition.specs.Outcome.{refused, refused_at};
 ghost use Rattle.answer.specs.Tells.{Tells};
 ghost use Rattle.answer.specs.Fitted.{Fitted};
 
-use ast::{column, question};
+use ast::column;
+use ast::question::{Question, Refusal};
 use lexer::SrcPos;
 use words::{clear, word};
 
@@ -22,12 +24,12 @@ pub struct Answer {
 }
 
 // Refuses by a question of the whole input, or for want of room: position and name are 0, and the answer words are cleared.
-pub fn refuse(number: u32, out: &mut [u32]) -> Answer
-    ensures { (Tells (refused number) result) × (out.new ≡ replicate (length out.old) 0) }
+pub fn refuse(question: Question, out: &mut [u32]) -> Answer
+    ensures { (Tells (refused (question_number question)) result) × (out.new ≡ replicate (length out.old) 0) }
 {
     clear(out);
     Answer {
-        number: number,
+        number: question.number(),
         pos: SrcPos(0),
         name: 0,
         rows: 0,
@@ -36,19 +38,19 @@ pub fn refuse(number: u32, out: &mut [u32]) -> Answer
 }
 
 // Refuses at the position of a row.
-pub fn refuse_at(sheet: &[u32], number: u32, row: u32, name: u32, out: &mut [u32]) -> Answer
-    requires { file_at sheet.now row < 262144 }
-    ensures { (Tells (refused_at number sheet.now row name) result) × (out.new ≡ replicate (length out.old) 0) }
+pub fn refuse_at(sheet: &[u32], no: Refusal, out: &mut [u32]) -> Answer
+    requires { file_at sheet.now no.at < 262144 }
+    ensures { (Tells (refused_at (question_number no.question) sheet.now no.at no.name) result) × (out.new ≡ replicate (length out.old) 0) }
 {
     let pos = SrcPos::new(
-        word(sheet, row, column::FILE),
-        word(sheet, row, column::LINE),
-        word(sheet, row, column::COLUMN),
+        word(sheet, no.at, column::FILE),
+        word(sheet, no.at, column::LINE),
+        word(sheet, no.at, column::COLUMN),
     );
-    let mut no = refuse(number, out);
-    no.pos = pos;
-    no.name = name;
-    no
+    let mut answer = refuse(no.question, out);
+    answer.pos = pos;
+    answer.name = no.name;
+    answer
 }
 
 // Answers with `n` rows written, and clears the words after them. Question 22: do they fit?
@@ -56,7 +58,7 @@ pub fn accept(n: usize, globals: u32, out: &mut [u32]) -> Answer
     ensures { Fitted n globals out.old result out.new }
 {
     if out.len() / 8 < n {
-        return refuse(question::ROOM, out);
+        return refuse(Question::Room, out);
     }
     clear(&mut out[8 * n..]);
     Answer {
@@ -64,6 +66,6 @@ pub fn accept(n: usize, globals: u32, out: &mut [u32]) -> Answer
         pos: SrcPos(0),
         name: 0,
         rows: n,
-        globals: globals,
+        globals,
     }
 }

@@ -6,6 +6,8 @@ use Rattle.ast.specs.declared.question.Question.TheVariants.{RowsFit, NamesFit, 
 use Rattle.ast.specs.declared.question.Question.TheVariants.{ParentClass, ConstructedRecord, MethodThere, MethodArity, Exported, NameFree, Known, NoCycle, ParentRecord, InitThere}
 use Rattle.ast.specs.declared.question.Question.TheVariants.{InitArity, Room, Session, SessionRoom, EntryLeft, NoCircle}
 use Rattle.ast.specs.Question.{question_number, no_of}
+use Rattle.ast.specs.Refused.{refusal_of, refusal_in}
+use Rattle.ast.specs.declared.question.Refusal.{Refusal as Refused}
 
 pub question_some : (q : Question) → 0 < question_number q
 question_some RowsFit = omega arith
@@ -42,3 +44,8 @@ question_none q e = omega (arith, question_some q)
 pub no_handed : (r : Result (Unit {0}) Question) (q : Question) → IsErrAnd r (λ e. e ≡ q) → no_of r ≡ question_number q
 no_handed (Ok x) q h = absurd h
 no_handed (Err e) q h = ap question_number h
+
+-- a refusal that `?` hands on
+pub refusal_handed : {A : Type 0} (r : Result A Refused) (q : Refused) → IsErrAnd r (λ e. e ≡ q) → refusal_in r ≡ refusal_of q
+refusal_handed (Ok x) q h = absurd h
+refusal_handed (Err e) q h = ap refusal_of h

@@ -62,6 +62,14 @@ impl Question {
     }
 }
 
+// A question that got a no, the row of its position and the name asked about, or 0.
+#[derive(Clone, Copy, Debug, PartialEq, Eq)]
+pub struct Refusal {
+    pub question: Question,
+    pub at: u32,
+    pub name: u32,
+}
+
 // The number of the question that got a no, or 0 if none did.
 pub fn no_number(asked: Result<(), Question>) -> u32
     ensures { result ≡ no_of asked }

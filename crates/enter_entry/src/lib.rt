@@ -7,7 +7,7 @@ ghost use Rattle.definition.specs.Scope.{history};
 ghost use Rattle.definition.specs.Answer.{answers, raised};
 ghost use Rattle.definition.specs.Outcome.{rows_of_words};
 ghost use Rattle.machine.specs.Reads.{walk_refusal};
-ghost use Rattle.walk.specs.WalkState.{state_of};
+ghost use Rattle.walk.specs.Ended.{ended};
 ghost use Rattle.entry_walk.specs.Laid.{BodyWalked};
 ghost use Rattle.session.specs.Words.{whole, words_with};
 ghost use Rattle.session_room.specs.Room.{room_for};
@@ -74,7 +74,7 @@ fn lay_down(
 )
     requires { (Enterable words.old outside.now sheet.now) × (room_for words.old tried.added ≡ true) × (8 * tried.answer.rows ≤ length out.now)
         × (rows_of_words tried.answer.rows out.now ≡ raised (2048 * get_or words.old 1 0) (answers (over outside.now) sheet.now (history (over outside.now) sheet.now)))
-        × ((nodes : List ℕ) × BodyWalked (over outside.now) sheet.now (state_of tried.walk entries.now results.now nodes))
+        × ((nodes : List ℕ) × BodyWalked (over outside.now) sheet.now (ended tried.walk entries.now results.now nodes))
         × ((walk_refusal (over outside.now) sheet.now).number ≡ 0) }
     ensures { (ms : List Name) → Adds (leaving (over outside.now) (2048 * get_or words.old 1 0) sheet.now ms) tried.added
         → words.new ≡ words_with whole words.old tried.answer.globals

@@ -13,7 +13,8 @@ ghost use Rattle.definition.specs.Outcome.{rows_of_words};
 ghost use Rattle.machine.specs.Reads.{PastFour, Walked};
 ghost use Rattle.outside.specs.Words.{over};
 ghost use Rattle.store.specs.Stored.{store_of};
-ghost use Rattle.walk.specs.WalkState.{state_of};
+ghost use Rattle.ast.specs.Refused.{refusal_in};
+ghost use Rattle.walk.specs.Ended.{ended};
 ghost use Rattle.session.specs.Session.{member_count};
 ghost use Rattle.session.specs.Enter.{classes_by};
 ghost use Rattle.session.specs.Words.{class_words, member_words};
@@ -25,7 +26,7 @@ use inherit::{find_method, parent_of};
 use raise::{raised_class, raised_function};
 use session::layout;
 use store::nodes::Store;
-use walk::state::Walk;
+use walk::ended::Ended;
 use words::{put_words, word};
 
 // A class: its number and name, its parent's number or 0, how many fields and methods it has.
@@ -279,8 +280,8 @@ pub fn append_classes(
     requires { (classes + 5 * rows ≤ 4611686018427387904) × (members + 3 * rows ≤ 4611686018427387904) × (base ≤ 2048000) × (8 * rows ≤ length out.now)
         × (PastFour (over outside.now) sheet.now)
         × (rows_of_words rows out.now ≡ raised base (answers (over outside.now) sheet.now (history (over outside.now) sheet.now))) }
-    ensures { (walk : Walk) (entries nodes : List ℕ)
-        → Walked (over outside.now) sheet.now (state_of walk entries results.now nodes) → walk.number ≡ 0
+    ensures { (walk : Ended) (entries nodes : List ℕ)
+        → Walked (over outside.now) sheet.now (ended walk entries results.now nodes) → (refusal_in walk.done).number ≡ 0
         → words.new
         ≡ sets (sets words.old members (concat_map member_words (classes_by (based (over outside.now) base) sheet.now)))
         classes (concat_map class_words (classes_by (based (over outside.now) base) sheet.now)) }

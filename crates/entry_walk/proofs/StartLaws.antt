@@ -1,10 +1,10 @@
 -- The walk of an entry as the program makes it: the scopes opened one by one, then the parts of the body.
 use mathlib.Core.Path.{◌≡◌, sym, ap, ◌∙◌, subst}
 use mathlib.Core.List.{List, ◌++◌}
-use Prim.Native.Nat.{ℕ, ◌-◌, ◌<◌, ◌≤◌}
+use Prim.Native.Nat.{ℕ, ◌-◌, ◌≤◌}
 use native.Mathlib.Omega.{arith}
 use Rattle.definition.specs.Basics.{head}
-use Rattle.definition.specs.Sheet.{Sheet, kind, child, rows, kids_of}
+use Rattle.definition.specs.Sheet.{Sheet, child, rows, kids_of}
 use Rattle.definition.specs.Outside.{Outside}
 use Rattle.definition.specs.Walk.{before, parts, each, trace}
 use Rattle.definition.specs.Question.{none}
@@ -13,13 +13,18 @@ use Rattle.definition.proofs.Lists.Tests.{true_of}
 use Rattle.definition.proofs.Format.Accepted.{some_row}
 use Rattle.definition.proofs.Format.Facts.{facts}
 use Rattle.machine.specs.Machine.{State, Scopes, open_names, no_scopes, start_state, run_state}
-use Rattle.walk.proofs.RunLaws.{run_both}
+use Rattle.walk.proofs.RunLaws.{run_both, run_idle}
 use Rattle.row_events.specs.Prepared.{Ready}
 use Rattle.resolve_syms.specs.Walked.{parts_walked}
 use Rattle.entry_walk.specs.Laid.{OneUnit, BodyWalked}
 use Rattle.session.proofs.UnitRows.{UnitRows, unit_rows}
 use Rattle.session.proofs.UnitEvents.{body_events}
 use Rattle.entry_walk.proofs.LaidLaws.{body_walked}
+
+-- after a refusal the parts change nothing
+pub parts_idle : (O : Outside) (d : ℕ) (s : Sheet) (r : ℕ) {x y : State} → (y.refusal.number ≡ 0 → ⊥) → y ≡ x → y ≡ parts_walked O d s r x
+unfolding parts_walked
+parts_idle O d s r {x} {y} f h = run_idle O s (each (trace d s) s r 0 (parts s r)) y f ∙ ap (parts_walked O d s r) h
 
 module _ {O : Outside} {s : Sheet} {cs v t q : List ℕ} (ready : Ready O s cs v t q) (one : OneUnit s)
     {u f b : ℕ} (eu : u ≡ child s 0) (ef : f ≡ head (kids_of s 6 u)) (eb : b ≡ child s f) where
@@ -32,9 +37,6 @@ module _ {O : Outside} {s : Sheet} {cs v t q : List ℕ} (ready : Ready O s cs v
       let e₂ : r.1 ≡ f = ok.function_is ∙ ap (λ (k : ℕ). head (kids_of s 6 k)) e₁ ∙ sym ef in
       let e₃ : r.2 ≡ b = ok.body_is ∙ ap (child s) e₂ ∙ sym eb in
       subst (λ (k : ℕ). UnitRows s u f k) e₃ (subst (λ (k : ℕ). UnitRows s u k r.2) e₂ (subst (λ (k : ℕ). UnitRows s k r.1 r.2) e₁ ok))
-
-  pub kinds_are : (kind s u ≡ 2) × (kind s f ≡ 6) × (7 < kind s b)
-  kinds_are = (there.unit_kind, there.function_kind, omega (arith, there.body_kind))
 
   pub four_rows : 4 ≤ rows s
   four_rows = omega (arith, there.rising.0, there.rising.1, there.rising.2, there.rising.3)

@@ -2,25 +2,29 @@
 // ends, before its scopes close, so that the declarations of the unit and of its body still stand among the open entries.
 #![tactic(auto)]
 
-ghost use Rattle.std.specs.Prelude.{◌≡◌, List, ◌++◌, ℕ, ◌<◌, ◌≤◌, length};
+ghost use Rattle.std.specs.Prelude.{◌≡◌, ◌++◌, ◌≤◌, length};
 ghost use Rattle.definition.specs.Basics.{head};
-ghost use Rattle.definition.specs.Sheet.{kind, child, kids_of};
+ghost use Rattle.definition.specs.Sheet.{child, kids_of};
 ghost use Rattle.definition.specs.Outside.{Outside};
 ghost use Rattle.definition.specs.Walk.{before};
 ghost use Rattle.machine.specs.Machine.{run_state};
 ghost use Rattle.outside.specs.Words.{over};
-ghost use Rattle.walk.specs.WalkState.{state_of};
-ghost use Rattle.row_events.specs.Prepared.{Ready};
+ghost use Rattle.walk.specs.Ended.{ended};
+ghost use Rattle.walk.specs.WalkState.{after, state_of, Same};
+ghost use Rattle.row_events.specs.Prepared.{Prepared, Ready};
+ghost use Rattle.resolve_syms.specs.Walked.{parts_walked};
 ghost use Rattle.entry_walk.specs.Laid.{OneUnit, BodyWalked};
 
 use ast::column;
 use ast::kind::Kind;
+use ast::question::Refusal;
 use classes::class_table;
 use outermost::open_names;
 use resolve_syms::cycle::resolve_parts;
-use row_events::{before_fun, before_stmt, before_unit};
+use row_events::before;
 use sheet::first_of;
 use store::nodes::Store;
+use walk::ended::Ended;
 use walk::state::Walk;
 use words::word;
 
@@ -38,66 +42,67 @@ fn unit_rows(sheet: &[u32]) -> Rows
     let unit = word(sheet, 0, column::CHILD);
     let fun = first_of(sheet, unit, Kind::Function).unwrap_or(0);
     Rows {
-        unit: unit,
-        fun: fun,
+        unit,
+        fun,
         body: word(sheet, fun, column::CHILD),
     }
 }
 
 // The scopes of unit, function and body opened, with what is declared there before the body's statements.
-fn open_body(
-    sheet: &[u32],
-    rows: Rows,
-    walk: Walk,
-    entries: &mut [u32],
-    results: &mut [u32],
-) -> Walk
-    requires { (length sheet.now ≤ 16384) × (kind sheet.now rows.unit ≡ 2) × (kind sheet.now rows.fun ≡ 6)
-        × (7 < kind sheet.now rows.body) }
-    ensures { (O : Outside) (nodes : List ℕ) → state_of result entries.new results.new nodes
-        ≡ run_state O sheet.now (before sheet.now rows.unit ++ before sheet.now rows.fun
-        ++ before sheet.now rows.body) (state_of walk entries.old results.old nodes) }
+fn open_body(walk: &mut Walk<'_, '_>, rows: Rows) -> Result<(), Refusal>
+    requires { length walk.old.sheet.now ≤ 16384 }
+    ensures step { (O : Outside) → after walk.new result ≡ run_state O walk.old.sheet.now
+        (before walk.old.sheet.now rows.unit ++ before walk.old.sheet.now rows.fun ++ before walk.old.sheet.now rows.body) (state_of walk.old) }
+    ensures same { Same walk.old walk.new }
 {
-    let a = before_unit(sheet, rows.unit, walk, entries, results);
-    let b = before_fun(sheet, rows.fun, a, entries, results);
-    before_stmt(sheet, rows.body, b, entries, results)
+    before(walk, rows.unit)?;
+    before(walk, rows.fun)?;
+    before(walk, rows.body)
+}
+
+// The entry up to the end of its body.
+fn resolve_body(walk: &mut Walk<'_, '_>, rows: Rows, left: usize) -> Result<(), Refusal>
+    requires { Prepared walk.old.sheet.now walk.old.classes.now }
+    ensures step { after walk.new result ≡ parts_walked (over walk.old.outside.now) left walk.old.sheet.now rows.body
+        (run_state (over walk.old.outside.now) walk.old.sheet.now
+        (before walk.old.sheet.now rows.unit ++ before walk.old.sheet.now rows.fun ++ before walk.old.sheet.now rows.body) (state_of walk.old)) }
+    ensures same { Same walk.old walk.new }
+{
+    open_body(walk, rows)?;
+    resolve_parts(walk, rows.body, left)
 }
 
 // An entry resolved up to the end of its body, over a table of classes, open entries, a table of results and nodes: refused with the first no of questions
 // 5 to 17, or the buffers hold what the definition's answer rows say, and the open entries above those from outside what the entry declared.
-pub fn resolve_entry(
-    sheet: &[u32],
-    outside: &[u32],
-    classes: &mut [u32],
-    entries: &mut [u32],
-    results: &mut [u32],
-    nodes: &mut [u32],
-) -> Walk
+pub fn resolve_entry<'s, 'b>(
+    sheet: &'s [u32],
+    outside: &'s [u32],
+    classes: &'s mut [u32],
+    entries: &'b mut [u32],
+    results: &'b mut [u32],
+    nodes: &'b mut [u32],
+) -> Ended
     requires { (Ready (over outside.now) sheet.now classes.old entries.old results.old nodes.old) × (OneUnit sheet.now) }
     ensures { BodyWalked (over outside.now) sheet.now
-        (state_of result entries.new results.new nodes.new) }
+        (ended result entries.new results.new nodes.new) }
 {
     class_table(sheet, classes);
     let env = open_names(sheet, outside, entries);
-    let store = Store { used: 0, calls: 0 };
-    let w = Walk {
-        env: env,
-        store: store,
-        number: 0,
-        at: 0,
-        name: 0,
-    };
-    let rows = unit_rows(sheet);
-    let a = open_body(sheet, rows, w, entries, results);
-    resolve_parts(
+    let mut walk = Walk {
         sheet,
         outside,
         classes,
-        rows.body,
-        sheet.len() / 8 - 4,
-        a,
+        env,
         entries,
+        store: Store { used: 0, calls: 0 },
         results,
         nodes,
-    )
+    };
+    let rows = unit_rows(sheet);
+    let done = resolve_body(&mut walk, rows, sheet.len() / 8 - 4);
+    Ended {
+        env: walk.env,
+        store: walk.store,
+        done,
+    }
 }

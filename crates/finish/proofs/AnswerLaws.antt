@@ -16,6 +16,8 @@ use Rattle.definition.specs.Outcome.{refused_at}
 use Rattle.definition.proofs.Format.Accepted.{Eights, eights_answers}
 use Rattle.definition.specs.Outside.{Outside}
 use Rattle.machine.specs.Machine.{Store as Stored, State}
+use Rattle.walk.specs.declared.ended.Ended.{Ended}
+use Rattle.walk.specs.Ended.{ended}
 use Rattle.machine.specs.Reads.{PastFour, Walked, StoreReads}
 use Rattle.after.proofs.Ranges.{rows_whole}
 use Rattle.after.specs.Inherited.{classes_refusal, calls_refusal}
@@ -137,3 +139,7 @@ module _ {O : Outside} (base : O.base ≡ 0) {s : Sheet} {x : State} (ok : PastF
 -- what the walk stored
 pub walk_store : {O : Outside} {s : Sheet} {x : State} → Walked O s x → x.refusal.number ≡ 0 → StoreReads O s x.store
 walk_store {O} {s} {x} w z = w.store (walk_accepted O s x w z)
+
+-- what follows the walk asks nothing of the open entries
+pub any_entries : {O : Outside} {s : Sheet} (w : Ended) {v : List ℕ} (t q : List ℕ) → Walked O s (ended w v t q) → (u : List ℕ) → Walked O s (ended w u t q)
+any_entries w t q h u = record { refused = h.refused; accepted = h.accepted; globals = h.globals; store = h.store; later = h.later }

@@ -1,3 +1,3 @@
 pub mod BufferLaws
 pub mod SettledLaws
-mod AnswerLaws
+pub mod AnswerLaws

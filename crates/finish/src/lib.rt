@@ -5,22 +5,29 @@ ghost use Rattle.std.specs.Prelude.{◌≡◌, List, [], ◌∷◌, ℕ, length}
 ghost use Rattle.definition.specs.Question.{first_no};
 ghost use Rattle.machine.specs.Reads.{PastFour, StoreReads, Walked};
 ghost use Rattle.after.specs.Inherited.{classes_refusal, calls_refusal};
-ghost use Rattle.inherit.specs.Answered.{refusal_of};
+ghost use Rattle.ast.specs.Refused.{refusal_in};
 ghost use Rattle.store.specs.Stored.{store_of};
-ghost use Rattle.walk.specs.WalkState.{state_of};
+ghost use Rattle.walk.specs.Ended.{ended};
 ghost use Rattle.finish.specs.Settled.{Settled, Accepted};
 ghost use Rattle.outside.specs.Words.{over};
 
 use answer::{Answer, accept, refuse_at};
 use answer_rows::emit_rows;
-use inherit::{Refusal, later_refusal};
+use ast::question::Refusal;
+use inherit::later_refusal;
 use store::nodes::Store;
-use walk::state::Walk;
+use walk::ended::Ended;
 
 // The first no of questions 18 to 21, with marks of the classes climbed through for 2,048 rows.
-fn ask_later(sheet: &[u32], outside: &[u32], results: &[u32], nodes: &[u32], calls: u32) -> Refusal
+fn ask_later(
+    sheet: &[u32],
+    outside: &[u32],
+    results: &[u32],
+    nodes: &[u32],
+    calls: u32,
+) -> Result<(), Refusal>
     requires { PastFour (over outside.now) sheet.now }
-    ensures { (o : Store) → o.calls ≡ calls → refusal_of result
+    ensures { (o : Store) → o.calls ≡ calls → refusal_in result
         ≡ first_no (classes_refusal (over outside.now) sheet.now
         (store_of o results.now nodes.now) ∷ calls_refusal (over outside.now) sheet.now
         (store_of o results.now nodes.now) ∷ []) }
@@ -54,19 +61,17 @@ pub fn finish(
     outside: &[u32],
     results: &[u32],
     nodes: &[u32],
-    walk: Walk,
+    walk: Ended,
     out: &mut [u32],
 ) -> Answer
     requires { (PastFour (over outside.now) sheet.now)
-        × ((entries : List ℕ) → Walked (over outside.now) sheet.now (state_of walk entries results.now nodes.now))
-        × (walk.number ≡ 0) }
+        × ((entries : List ℕ) → Walked (over outside.now) sheet.now (ended walk entries results.now nodes.now))
+        × ((refusal_in walk.done).number ≡ 0) }
     ensures { Settled (over outside.now) sheet.now (length out.old) result out.new }
 {
-    let store = walk.store;
-    let env = walk.env;
-    let no = ask_later(sheet, outside, results, nodes, store.calls);
-    if no.number != 0 {
-        return refuse_at(sheet, no.number, no.at, no.name, out);
+    let (store, env) = (walk.store, walk.env);
+    match ask_later(sheet, outside, results, nodes, store.calls) {
+        Ok(()) => write_answer(sheet, outside, results, nodes, store, env.globals, out),
+        Err(no) => refuse_at(sheet, no, out),
     }
-    write_answer(sheet, outside, results, nodes, store, env.globals, out)
 }

@@ -2,99 +2,85 @@
 #![tactic(auto)]
 
 ghost use Rattle.std.specs.Prelude.{◌≡◌, ◌≤◌, eqb, length};
+ghost use Rattle.ast.specs.Question.{question_number};
 ghost use Rattle.definition.specs.Basics.{when◌then◌else◌};
 ghost use Rattle.definition.specs.Sheet.{kind};
+ghost use Rattle.definition.specs.Outside.{Outside};
 ghost use Rattle.definition.specs.Meaning.{row_of, owner_of};
 ghost use Rattle.definition.specs.Walk.{visit};
-ghost use Rattle.definition.specs.Outside.{Outside};
-ghost use Rattle.machine.specs.Machine.{open_functions, is_outer_variable, add_capture, step_state};
-ghost use Rattle.symbols.specs.OpenScopes.{scopes_of};
+ghost use Rattle.machine.specs.Machine.{is_outer_variable, add_capture, open_functions, step_state};
 ghost use Rattle.symbols.specs.OpenDecls.{means};
-ghost use Rattle.store.specs.Stored.{store_of};
-ghost use Rattle.walk.specs.WalkState.{state_of};
+ghost use Rattle.walk.specs.WalkState.{after, scopes_in, state_of, stored_of, Same};
 
-use ast::{column, name, question};
-use store::code::seen_in;
-use store::nodes::{Node, Store, reg_captured};
+use ast::question::{Question, Refusal};
+use ast::{column, name};
+use store::nodes::Node;
 use store::table::write_use;
-use symbols::decl::{OpenDecl, is_declared, lookup};
-use symbols::env::Env;
+use symbols::decl::{OpenDecl, is_declared};
 use symbols::tag;
-use walk::state::{Walk, refuse, with_store};
+use walk::state::Walk;
 use words::word;
 
-// The question on an undeclared name: 9 for null, 8 for any other.
-fn undeclared(m: u32) -> u32
-    ensures { result ≡ (when eqb m 22 then 9 else 8) }
+// The question on an undeclared name.
+fn undeclared(name: u32) -> Question
+    ensures { question_number result ≡ (when eqb name 22 then 9 else 8) }
 {
-    if m == name::NULL {
-        question::NULL_DECLARED
+    if name == name::NULL {
+        Question::NullDeclared
     } else {
-        question::DECLARED
+        Question::Declared
     }
 }
 
 // A local or argument that is used is captured by every function around, out to its own. Most belong to the innermost function,
 // where none captures them: then the open entries are not searched.
-fn capture(
-    sheet: &[u32],
-    entries: &[u32],
-    env: Env,
-    d: OpenDecl,
-    store: Store,
-    results: &mut [u32],
-    nodes: &mut [u32],
-) -> Store
-    ensures { store_of result results.new nodes.new
-        ≡ (when is_outer_variable (means d) env.fun.0
-        then add_capture (open_functions sheet.now (scopes_of env entries.now))
+fn capture(walk: &mut Walk<'_, '_>, d: OpenDecl)
+    ensures step { stored_of walk.new
+        ≡ (when is_outer_variable (means d) walk.old.env.fun.0
+        then add_capture (open_functions walk.old.sheet.now (scopes_in walk.old))
         (record { key = row_of (means d); one = owner_of (means d); two = d.slot })
-        (store_of store results.old nodes.old)
-        else store_of store results.old nodes.old) }
+        (stored_of walk.old)
+        else stored_of walk.old) }
+    ensures scopes { scopes_in walk.new ≡ scopes_in walk.old }
+    ensures same { Same walk.old walk.new }
 {
-    if d.tag != tag::VARIABLE {
-        return store;
-    }
-    let fun = env.fun;
-    if d.second == fun.0 {
-        return store;
+    if d.tag != tag::VARIABLE || d.second == walk.env.fun.0 {
+        return;
     }
     let x = Node {
         key: d.first,
         one: d.second,
         two: d.slot,
     };
-    reg_captured(sheet, entries, env.count, x, store, results, nodes)
+    // It ends at a function that has it: an identifier in that function lies in those further out too, so they have it.
+    let mut count = walk.env.count;
+    while let Some(mark) = walk.innermost_function(count) {
+        if mark.fun == x.one || walk.has_captured(mark.fun, x.key) {
+            return;
+        }
+        walk.append_capture(mark.fun, x);
+        count = mark.at;
+    }
 }
 
-// An identifier: questions 8 and 9, the captures, what it means, and how far out that is.
-pub fn resolve_ident(
-    sheet: &[u32],
-    row: u32,
-    walk: Walk,
-    entries: &[u32],
-    results: &mut [u32],
-    nodes: &mut [u32],
-) -> Walk
-    requires { (length sheet.now ≤ 16384) × (kind sheet.now row ≡ 50) }
-    ensures { (O : Outside) → state_of result entries.now results.new nodes.new
-        ≡ step_state O sheet.now (visit row)
-        (state_of walk entries.now results.old nodes.old) }
+// An identifier: is it declared? Then its captures, what it means, and how far out that is.
+pub fn resolve_ident(walk: &mut Walk<'_, '_>, row: u32) -> Result<(), Refusal>
+    requires { (length walk.old.sheet.now ≤ 16384) × (kind walk.old.sheet.now row ≡ 50) }
+    ensures step { (O : Outside) → after walk.new result ≡ step_state O walk.old.sheet.now (visit row) (state_of walk.old) }
+    ensures same { Same walk.old walk.new }
 {
-    if walk.number != 0 {
-        return walk;
+    let sheet = walk.sheet;
+    let name = word(sheet, row, column::A);
+    let found = walk.lookup(name);
+    if !is_declared(found.decl) {
+        return Err(Refusal {
+            question: undeclared(name),
+            at: row,
+            name,
+        });
     }
-    let e = walk.env;
-    let o = walk.store;
-    let m = word(sheet, row, column::A);
-    let found = lookup(sheet, e, entries, m);
-    let d = found.decl;
-    if !is_declared(d) {
-        return refuse(walk, undeclared(m), row, m);
-    }
-    let fun = e.fun;
-    let store = capture(sheet, entries, e, d, o, results, nodes);
-    let x = seen_in(sheet, d, fun, results, nodes);
-    write_use(results, row, x, found.distance);
-    with_store(walk, store)
+    capture(walk, found.decl);
+    let x = walk.seen_in(found.decl);
+    write_use(walk.results, row, x, found.distance);
+    Ok(())
 }

@@ -81,13 +81,13 @@ module _ (O : Outside) (s : Sheet) (i m : ℕ) (d : Meaning) (x : State) (z : x.
     bring_new t h = stepped O s (bring i m d) x z (rw (e, t)) h (sym (store_bring O s x.scopes x.store i m d))
 
 -- What import i brings: a name with its meaning; row k as an export under its own name; the name that row k lists, as unit u sees it.
-abbrev brought : ℕ → Named → Event
+abbrev pub brought : ℕ → Named → Event
 brought i y = bring i y.name y.means
 
-abbrev brought_row : Sheet → ℕ → ℕ → Event
+abbrev pub brought_row : Sheet → ℕ → ℕ → Event
 brought_row s i k = bring i (a s k) (export_of s k)
 
-abbrev brought_listed : Sheet → ℕ → ℕ → ℕ → Event
+abbrev pub brought_listed : Sheet → ℕ → ℕ → ℕ → Event
 brought_listed s u i k = bring i (a s k) (first (λ y. eqb y.name (a s k)) (named 0 nothing) (seen s u i)).means
 
 -- The events of row k of a child list: as an export of kind j, as a listed name, as an import.
@@ -190,7 +190,7 @@ module _ (O : Outside) (s : Sheet) (i : ℕ) where
         ∙ ap (λ (es : List Event). run_state O s es x) (sym (map_append (functions ++ classes) constants ∙ ap (λ (es : List Event). es ++ map (brought i) constants) (map_append functions classes)))
 
 -- An import of unit u: what it sees, if it says so, then what it lists.
-abbrev of_seen : Sheet → ℕ → ℕ → List Event
+abbrev pub of_seen : Sheet → ℕ → ℕ → List Event
 of_seen s u i = when eqb (b s i) 1 then map (brought i) (seen s u i) else []
 
 pub seen_listed : (O : Outside) (s : Sheet) (u i : ℕ) (x : State) {y z : State} → y ≡ run_state O s (of_seen s u i) x
@@ -210,3 +210,17 @@ module _ (O : Outside) (s : Sheet) (u i : ℕ) (x : State) (m : ℕ) (e : m ≡ 
 
     pub seen_unit : {y : State} → (n ≡ u → ⊥) → y ≡ run_state O s (map (brought i) (exports s n)) x → y ≡ run_state O s (of_seen s u i) x
     seen_unit h k = rw (← e, f, ← g, ne_eqb n u h) k
+
+-- A step of a loop over the rows of sheet s, made over the same sheet t.
+module _ (O : Outside) {s t : Sheet} (same : t ≡ s) (k : ℕ) (x : State) {y : State} where
+  pub row_brought : (i : ℕ) {m : ℕ} → m ≡ a t k → y ≡ step_state O t (bring i m (export_of t k)) x → y ≡ run_state O s (brought_row s i k ∷ []) x
+  row_brought i e h =
+      run_one O s (brought_row s i k) x
+      (h ∙ ap (λ (n : ℕ). step_state O t (bring i n (export_of t k)) x) e ∙ ap (λ (v : Sheet). step_state O v (brought_row v i k) x) same)
+
+  pub listed_brought : (u i : ℕ) {m : ℕ} {d : Meaning} → m ≡ a t k → d ≡ (first (λ n. eqb n.name m) (named 0 nothing) (seen t u i)).means → y ≡ step_state O t (bring i m d) x
+      → y ≡ run_state O s (brought_listed s u i k ∷ []) x
+  listed_brought u i {m} {d} e g h = listed_as O t u i k x m d e g h ∙ ap (λ (v : Sheet). run_state O v (brought_listed v u i k ∷ []) x) same
+
+  pub import_brought : (u : ℕ) → y ≡ run_state O t (imports t u k) x → y ≡ run_state O s (imports s u k) x
+  import_brought u h = h ∙ ap (λ (v : Sheet). run_state O v (imports v u k) x) same

@@ -16,6 +16,12 @@ use Rattle.definition.specs.Outside.{Outside}
 use Rattle.machine.specs.Machine.{Store, Node, node_word, node_at, previous, chain_to}
 use Rattle.machine.proofs.ByKind.{list_none, list_more}
 use Rattle.after.specs.Inherited.{methods_in, check_call_in}
+use Rattle.std.proofs.Common.{Result, Ok, Err}
+use Rattle.std.specs.Result.{result_and}
+use Rattle.ast.specs.Question.{question_number}
+use Rattle.ast.specs.Refused.{refusal_of, refusal_in}
+use Rattle.ast.specs.declared.question.Refusal.{Refusal as Refused}
+use Rattle.ast.proofs.QuestionLaws.{question_none}
 
 -- a call has fewer arguments than the sheet has rows, or none
 chain_few : (s : Sheet) (n k : ℕ) → length (chain n s k) ≤ n
@@ -94,11 +100,14 @@ module _ (q : List ℕ) (f : Node → Refusal) where
         below : i ≡ suc (i - 1)
         below = omega arith
 
-    pub calls_no : (y.number ≡ 0 → ⊥) → calls_to j y ≡ calls_to i x
-    calls_no g = sym (step ∙ ap (λ (t : Bool). calls_to j (when not t then y else x)) (ne_eqb y.number 0 g))
+-- an earlier no takes the place of a later one
+and_first : (y x : Result (Unit {0}) Refused) → refusal_in (result_and y x) ≡ (when is_no (refusal_in y) then refusal_in y else refusal_in x)
+and_first (Ok u) x = refl
+and_first (Err q) x = sym (ap (λ (t : Bool). when not t then refusal_of q else refusal_in x) (ne_eqb (question_number q.question) 0 (question_none q.question)))
 
-    pub calls_yes : y.number ≡ 0 → calls_to j x ≡ calls_to i x
-    calls_yes z = sym (step ∙ ap (λ (t : Bool). calls_to j (when not t then y else x)) (eq-eqb y.number 0 z))
+pub calls_step : (q : List ℕ) (f : Node → Refusal) (i : ℕ) (y x : Result (Unit {0}) Refused) → 0 < i → refusal_in y ≡ f (node_at q (i - 1))
+    → {z : Result (Unit {0}) Refused} → z ≡ result_and y x → {j : ℕ} → j ≡ previous q (i - 1) → calls_to q f j (refusal_in z) ≡ calls_to q f i (refusal_in x)
+calls_step q f i y x l e {z} h {j} b = ap (λ (r : Result (Unit {0}) Refused). calls_to q f j (refusal_in r)) h ∙ ap (calls_to q f j) (and_first y x) ∙ sym (step q f i (refusal_in x) l e b)
 
 -- The first of two: x on classes, and then the first no of a list.
 pub later_classes : (z : Refusal) {x y : Refusal} → x ≡ y → (x.number ≡ 0 → ⊥) → x ≡ first_no (y ∷ z ∷ [])

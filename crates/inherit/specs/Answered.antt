@@ -1,28 +1,23 @@
--- The program's refusal as the definition's, and the run of parents that the climb goes over.
+-- The run of parents that the climb goes over, and what is refused where it ended.
 use Rattle.std.specs.Prelude.{false, List, map, ℕ, ◌+◌, ◌-◌, ◌≤◌, get_or}
 use Rattle.definition.specs.Basics.{when◌then◌else◌, from}
 use Rattle.definition.specs.Sheet.{Sheet, a, rows}
 use Rattle.definition.specs.Outside.{Outside}
 use Rattle.definition.specs.Classes.{of_sheet}
 pub use Rattle.definition.specs.Classes.{lacks_record}
-use Rattle.definition.specs.Question.{Refusal as No, none, ask}
+use Rattle.definition.specs.Question.{Refusal, none, ask}
 use Rattle.machine.specs.Machine.{Store}
 use Rattle.after.specs.Inherited.{parent_in}
 use Rattle.std.specs.Prelude.{Ok, Err}
 use Rattle.climb.specs.declared.ClimbError.TheVariants.{Circle, NoRecord}
 use Rattle.climb.specs.Process.{Ending, NO_RECORD, ENDS}
-use Rattle.inherit.specs.declared.Refusal.{Refusal}
-
--- a refusal's three values
-abbrev pub refusal_of : Refusal → No
-refusal_of x = record { number = x.number; at = x.at; name = x.name }
 
 -- no mark is over k
 pub record Marked (k : ℕ) (m : List ℕ) : Type 0 where
   pub marks : (j : ℕ) → get_or m j 0 ≤ k
 
 -- what is refused where the climb over the run of parents ended so
-abbrev pub refusal_at : Sheet → Ending → No
+abbrev pub refusal_at : Sheet → Ending → Refusal
 refusal_at s (Ok x) = none
 refusal_at s (Err (Circle r)) = ask 18 r (a s r) false
 refusal_at s (Err (NoRecord r)) = ask 19 r (a s r) false

@@ -8,29 +8,18 @@ ghost use Rattle.outside.specs.Words.{over};
 ghost use Rattle.outside.specs.Found.{Tells};
 ghost use Rattle.store.specs.Stored.{store_of};
 ghost use Rattle.after.specs.Inherited.{parent_in, classes_refusal, methods_in, check_call_in, calls_refusal};
-ghost use Rattle.inherit.specs.Answered.{refusal_of, lacks_record, Marked, refusal_at, parent_number, parent_numbers};
+ghost use Rattle.ast.specs.Question.{question_number};
+ghost use Rattle.ast.specs.Refused.{refusal_of, refusal_in};
+ghost use Rattle.inherit.specs.Answered.{lacks_record, Marked, refusal_at, parent_number, parent_numbers};
 
-use ast::{ClassId, FIRST_CLASS, column, name, question};
+use ast::question::{Question, Refusal};
+use ast::{ClassId, FIRST_CLASS, column, name};
 use climb::{ClimbError, ENDS, NO_RECORD, climb_all};
 use outside::records::{Method, NO_METHOD, class_name, has_record, own_method};
 use sheet::{arguments, is_class_row};
 use store::nodes::{Store, node_before, node_word};
 use store::{node, result};
 use words::{put_entry, word};
-
-// A question answered no: its number, the row of its position, the name asked about. Number 0: none.
-#[derive(Clone, Copy)]
-pub struct Refusal {
-    pub number: u32,
-    pub at: u32,
-    pub name: u32,
-}
-
-const NO_REFUSAL: Refusal = Refusal {
-    number: 0,
-    at: 0,
-    name: 0,
-};
 
 // The parent of a class as the walk stored it, or class 0.
 pub fn parent_of(sheet: &[u32], results: &[u32], c: ClassId) -> ClassId
@@ -53,24 +42,24 @@ fn lacks_record(sheet: &[u32], outside: &[u32], c: ClassId) -> bool
 }
 
 // A question on the class of `row`, answered no.
-fn refuse_class(sheet: &[u32], number: u32, row: u32) -> Refusal
-    ensures { refusal_of result ≡ ask number row (a sheet.now row) false }
+fn refuse_class(sheet: &[u32], question: Question, row: u32) -> Refusal
+    ensures { refusal_of result ≡ ask (question_number question) row (a sheet.now row) false }
 {
     Refusal {
-        number: number,
+        question,
         at: row,
         name: word(sheet, row, column::A),
     }
 }
 
 // How the climb over the run of parents ended, as a no of question 18 or 19 or as none.
-fn refuse_ending(sheet: &[u32], ending: Result<(), ClimbError>) -> Refusal
-    ensures { refusal_of result ≡ refusal_at sheet.now ending }
+fn refuse_ending(sheet: &[u32], ending: Result<(), ClimbError>) -> Result<(), Refusal>
+    ensures { refusal_in result ≡ refusal_at sheet.now ending }
 {
     match ending {
-        Ok(()) => NO_REFUSAL,
-        Err(ClimbError::Circle(row)) => refuse_class(sheet, question::NO_CYCLE, row),
-        Err(ClimbError::NoRecord(row)) => refuse_class(sheet, question::PARENT_RECORD, row),
+        Ok(()) => Ok(()),
+        Err(ClimbError::Circle(row)) => Err(refuse_class(sheet, Question::NoCycle, row)),
+        Err(ClimbError::NoRecord(row)) => Err(refuse_class(sheet, Question::ParentRecord, row)),
     }
 }
 
@@ -93,11 +82,9 @@ fn list_parents(sheet: &[u32], outside: &[u32], results: &[u32], parents: &mut [
     ensures { (o : Store) (nodes : List ℕ) → parents.new
         ≡ parent_numbers (over outside.now) sheet.now (store_of o results.now nodes) }
 {
-    let mut r: u32 = 0;
-    while (r as usize) < sheet.len() / 8 {
+    for r in 0..(sheet.len() / 8) as u32 {
         let up = parent_of(sheet, results, ClassId(FIRST_CLASS + r));
         put_entry(parents, r, parent_number(sheet, outside, up));
-        r += 1;
     }
 }
 
@@ -108,10 +95,10 @@ fn check_parents(
     results: &[u32],
     parents: &mut [u32],
     climbed: &mut [u32],
-) -> Refusal
+) -> Result<(), Refusal>
     requires { (length sheet.now ≤ 16384) × (length sheet.now ≤ 8 * length climbed.old) × (Marked 0 climbed.old)
         × (8 * rows sheet.now ≡ length sheet.now) × (length parents.old ≡ rows sheet.now) }
-    ensures { (o : Store) (nodes : List ℕ) → refusal_of result
+    ensures { (o : Store) (nodes : List ℕ) → refusal_in result
         ≡ classes_refusal (over outside.now) sheet.now (store_of o results.now nodes) }
 {
     list_parents(sheet, outside, results, parents);
@@ -119,10 +106,15 @@ fn check_parents(
 }
 
 // The first no of the questions 18 and 19, classes in row order.
-fn check_classes(sheet: &[u32], outside: &[u32], results: &[u32], climbed: &mut [u32]) -> Refusal
+fn check_classes(
+    sheet: &[u32],
+    outside: &[u32],
+    results: &[u32],
+    climbed: &mut [u32],
+) -> Result<(), Refusal>
     requires { (length sheet.now ≤ 16384) × (length sheet.now ≤ 8 * length climbed.old) × (Marked 0 climbed.old)
         × (8 * rows sheet.now ≡ length sheet.now) }
-    ensures { (o : Store) (nodes : List ℕ) → refusal_of result
+    ensures { (o : Store) (nodes : List ℕ) → refusal_in result
         ≡ classes_refusal (over outside.now) sheet.now (store_of o results.now nodes) }
 {
     let mut parents = [0u32; 2048];
@@ -155,8 +147,14 @@ pub fn find_method(sheet: &[u32], outside: &[u32], results: &[u32], c: ClassId, 
 }
 
 // The questions 20 and 21 on constructor call `row` of a class. The constructor also takes the new object.
-fn check_call(sheet: &[u32], outside: &[u32], results: &[u32], row: u32, c: ClassId) -> Refusal
-    ensures { (o : Store) (nodes : List ℕ) (two : ℕ) → refusal_of result
+fn check_call(
+    sheet: &[u32],
+    outside: &[u32],
+    results: &[u32],
+    row: u32,
+    c: ClassId,
+) -> Result<(), Refusal>
+    ensures { (o : Store) (nodes : List ℕ) (two : ℕ) → refusal_in result
         ≡ check_call_in (over outside.now) sheet.now (store_of o results.now nodes)
         (record { key = row; one = c.0; two = two }) }
 {
@@ -165,20 +163,20 @@ fn check_call(sheet: &[u32], outside: &[u32], results: &[u32], row: u32, c: Clas
     let name = class_name(sheet, outside, c);
     let fun = init.fun;
     if fun.0 == 0 {
-        return Refusal {
-            number: question::INIT_THERE,
-            at: at,
-            name: name,
-        };
+        return Err(Refusal {
+            question: Question::InitThere,
+            at,
+            name,
+        });
     }
     if arguments(sheet, row) + 1 == init.params {
-        return NO_REFUSAL;
+        return Ok(());
     }
-    Refusal {
-        number: question::INIT_ARITY,
-        at: at,
-        name: name,
-    }
+    Err(Refusal {
+        question: Question::InitArity,
+        at,
+        name,
+    })
 }
 
 // The first no of the questions 20 and 21. The list is walked from the last call back, so that an earlier no replaces a later one.
@@ -188,25 +186,18 @@ fn check_ctor_calls(
     results: &[u32],
     nodes: &[u32],
     calls: u32,
-) -> Refusal
-    ensures { (o : Store) → o.calls ≡ calls → refusal_of result
+) -> Result<(), Refusal>
+    ensures { (o : Store) → o.calls ≡ calls → refusal_in result
         ≡ calls_refusal (over outside.now) sheet.now (store_of o results.now nodes.now) }
 {
-    let mut x = NO_REFUSAL;
+    let mut x = Ok(());
     let mut i = calls;
     while 0 < i {
         i -= 1;
-        let y = check_call(
-            sheet,
-            outside,
-            results,
-            node_word(nodes, i, node::KEY),
-            ClassId(node_word(nodes, i, node::ONE)),
-        );
+        let call = node_word(nodes, i, node::KEY);
+        let class = ClassId(node_word(nodes, i, node::ONE));
+        x = check_call(sheet, outside, results, call, class).and(x);
         i = node_before(nodes, i);
-        if y.number != 0 {
-            x = y;
-        }
     }
     x
 }
@@ -219,17 +210,14 @@ pub fn later_refusal(
     nodes: &[u32],
     climbed: &mut [u32],
     calls: u32,
-) -> Refusal
+) -> Result<(), Refusal>
     requires { (length sheet.now ≤ 16384) × (length sheet.now ≤ 8 * length climbed.old) × (Marked 0 climbed.old)
         × (8 * rows sheet.now ≡ length sheet.now) }
-    ensures { (o : Store) → o.calls ≡ calls → refusal_of result
+    ensures { (o : Store) → o.calls ≡ calls → refusal_in result
         ≡ first_no (classes_refusal (over outside.now) sheet.now
         (store_of o results.now nodes.now) ∷ calls_refusal (over outside.now) sheet.now
         (store_of o results.now nodes.now) ∷ []) }
 {
-    let x = check_classes(sheet, outside, results, climbed);
-    if x.number != 0 {
-        return x;
-    }
+    check_classes(sheet, outside, results, climbed)?;
     check_ctor_calls(sheet, outside, results, nodes, calls)
 }

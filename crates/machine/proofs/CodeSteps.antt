@@ -1,17 +1,15 @@
 -- Loops and stores of the program, one turn at a time: equations for the proofs of its routines.
 use mathlib.Core.Path.{◌≡◌, refl, sym, ap, ◌∙◌}
 use mathlib.Core.List.{List, [], ◌∷◌, ◌++◌}
-use mathlib.Core.Bool.{Bool, true, false, not, ◌||◌, true≢false}
+use mathlib.Core.Bool.{Bool, true, false, ◌||◌, true≢false}
 use Prim.Native.Nat.{ℕ, zero, suc, ◌+◌, ◌-◌, ◌*◌, ◌<◌, ◌≤◌}
 use native.Mathlib.Omega.{arith}
 use native.Mathlib.Numerals.{towards_suc, sub-one}
 use lib.ListN.{length, set, length-append}
 use lib.Seq.{sets}
-use lib.Dec.{eqb, leb}
-use borrow.Author.Tests.{eq-eqb, ne_eqb}
+use lib.Dec.{eqb}
 use Rattle.definition.specs.Basics.{when◌then◌else◌, any, place}
-use Rattle.definition.specs.Sheet.{Sheet, is}
-use Rattle.machine.specs.Machine.{entry_word, node_word, Node, previous, chain_back, reversed, function_marks, Store, list_at, has_key, append_node, add_capture}
+use Rattle.machine.specs.Machine.{node_word, Node, previous, chain_back, reversed, Store, list_at, has_key, append_node, add_capture}
 use Rattle.machine.proofs.Lists.{any_append, place_append}
 use Rattle.machine.proofs.Nodes.{chain_back_hit, chain_back_down}
 
@@ -22,40 +20,20 @@ five_stores v i t m x y k = simp towards_suc
 pub four_stores : (v : List ℕ) (i t m x y : ℕ) → set (set (set (set v i t) (i + 1) m) (i + 2) x) (i + 3) y ≡ sets v i (t ∷ m ∷ x ∷ y ∷ [])
 four_stores v i t m x y = simp towards_suc
 
--- Captures, from the end of the entries.
--- a capture added in the functions of the marks
-module _ (s : Sheet) (v : List ℕ) (n : ℕ) (x : Node) (o : Store) where
-  pub capture_name : leb (entry_word v n 0) 1 ≡ false → add_capture (function_marks s v (suc n)) x o ≡ add_capture (function_marks s v n) x o
-  unfolding function_marks
-  capture_name h = rw h
+-- a capture added in the functions around, the innermost first
+module _ (x : Node) (o : Store) where
+  pub capture_none : add_capture [] x o ≡ o
+  unfolding add_capture
+  capture_none = refl
 
-  pub capture_mark : leb (entry_word v n 0) 1 ≡ true → (eqb (entry_word v n 0) 0 || not (is s 6 (entry_word v n 1))) ≡ true
-      → add_capture (function_marks s v (suc n)) x o ≡ add_capture (function_marks s v n) x o
-  unfolding function_marks
-  capture_mark h g = rw h (by (eqb (entry_word v n 0) 0) (is s 6 (entry_word v n 1)) g)
-    where
-      by : (t u : Bool) → (t || not u) ≡ true
-          → add_capture
-          (when t then function_marks s v n else when u then entry_word v n 1 ∷ function_marks s v n else function_marks s v n)
-          x o
-          ≡ add_capture (function_marks s v n) x o
-      by true u g = refl
-      by false true g = absurd (true≢false (sym g))
-      by false false g = refl
+  module _ (g : ℕ) (gs : List ℕ) where
+    pub capture_ends : (eqb g x.one || has_key x.key (list_at o (8 * g + 6))) ≡ true → add_capture (g ∷ gs) x o ≡ o
+    unfolding add_capture
+    capture_ends h = rw h
 
-  pub capture_own : leb (entry_word v n 0) 1 ≡ true → eqb (entry_word v n 0) 0 ≡ false → is s 6 (entry_word v n 1) ≡ true → entry_word v n 1 ≡ x.one → add_capture (function_marks s v (suc n)) x o ≡ o
-  unfolding function_marks add_capture
-  capture_own h g f e = rw (h, g, f, eq-eqb (entry_word v n 1) x.one e)
-
-  pub capture_there : leb (entry_word v n 0) 1 ≡ true → eqb (entry_word v n 0) 0 ≡ false → is s 6 (entry_word v n 1) ≡ true → (entry_word v n 1 ≡ x.one → ⊥)
-      → has_key x.key (list_at o (8 * entry_word v n 1 + 6)) ≡ true → add_capture (function_marks s v (suc n)) x o ≡ o
-  unfolding function_marks add_capture
-  capture_there h g f e k = rw (h, g, f, ne_eqb (entry_word v n 1) x.one e, k)
-
-  pub capture_other : leb (entry_word v n 0) 1 ≡ true → eqb (entry_word v n 0) 0 ≡ false → is s 6 (entry_word v n 1) ≡ true → (entry_word v n 1 ≡ x.one → ⊥)
-      → has_key x.key (list_at o (8 * entry_word v n 1 + 6)) ≡ false → add_capture (function_marks s v (suc n)) x o ≡ add_capture (function_marks s v n) x (append_node (8 * entry_word v n 1 + 6) x o)
-  unfolding function_marks add_capture
-  capture_other h g f e k = rw (h, g, f, ne_eqb (entry_word v n 1) x.one e, k)
+    pub capture_goes : (eqb g x.one || has_key x.key (list_at o (8 * g + 6))) ≡ false → add_capture (g ∷ gs) x o ≡ add_capture gs x (append_node (8 * g + 6) x o)
+    unfolding add_capture
+    capture_goes h = rw h
 
 -- The index of a key in a list of nodes, counted while the list is walked from the last node back: 0 at the key, else one more.
 abbrev pub since : ℕ → List Node → ℕ → ℕ

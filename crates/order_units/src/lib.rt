@@ -11,7 +11,7 @@ ghost use Rattle.order_units.specs.Settled.{Fitting, Left, Listed, Settled};
 pub use answer::Answer;
 use answer::{refuse, refuse_at};
 use ast::kind::Kind;
-use ast::question::Question;
+use ast::question::{Question, Refusal};
 use first_four::first_four;
 use import_circle::lowest_circling;
 use lexer::SrcPos;
@@ -43,7 +43,7 @@ fn accept_list(n: usize, list: &mut [u32]) -> Answer
     ensures { Listed n list.old result list.new }
 {
     if list.len() < n {
-        return refuse(Question::Room.number(), list);
+        return refuse(Question::Room, list);
     }
     Answer {
         number: 0,
@@ -63,7 +63,12 @@ fn order_in(sheet: &[u32], marks: &mut [u32], list: &mut [u32]) -> Answer
     let started = start_units(sheet, marks, list);
     if some_left(sheet, marks) {
         let u = lowest_circling(sheet, started as u32, marks).unwrap();
-        return refuse_at(sheet, Question::NoCircle.number(), u, 0, list);
+        let no = Refusal {
+            question: Question::NoCircle,
+            at: u,
+            name: 0,
+        };
+        return refuse_at(sheet, no, list);
     }
     accept_list(started, list)
 }
@@ -84,6 +89,6 @@ pub fn order_units(sheet: &[u32], names: &[u8], list: &mut [u32]) -> Answer
 {
     match first_four(sheet, names) {
         Ok(()) => order_fitting(sheet, list),
-        Err(no) => refuse(no.number(), list),
+        Err(no) => refuse(no, list),
     }
 }

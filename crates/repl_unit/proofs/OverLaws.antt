@@ -3,13 +3,12 @@ use mathlib.Core.Path.{◌≡◌, sym, ap, subst, ◌∙◌}
 use mathlib.Core.List.{List}
 use Prim.Native.Nat.{ℕ}
 use lib.ListN.{replicate}
+use Rattle.definition.specs.Question.{Refusal}
 use Rattle.definition.specs.Sheet.{Sheet}
 use Rattle.definition.specs.Outside.{Outside, based}
 use Rattle.definition.specs.Outcome.{Outcome, refused_at, asked, buffer}
 use Rattle.machine.specs.Machine.{State}
 use Rattle.machine.specs.Reads.{Walked}
-use Rattle.walk.specs.declared.state.Walk.{Walk}
-use Rattle.walk.specs.WalkState.{state_of}
 use Rattle.answer.specs.declared.Answer.{Answer}
 use Rattle.answer.specs.Tells.{Tells}
 use Rattle.finish.specs.Settled.{Settled}
@@ -40,18 +39,16 @@ settled_based O z n {s} {lent} {x} h e =
     }
 
 -- a question of the walk gets a no: there is nothing to raise
-pub walk_based : (O : Outside) → O.base ≡ 0 → (n : ℕ) {s : Sheet} {lent : ℕ} (z : State) → Walked O s z → (z.refusal.number ≡ 0 → ⊥) → {x : Answer} {w : List ℕ}
-    → Tells (refused_at z.refusal.number s z.refusal.at z.refusal.name) x → w ≡ replicate lent 0 → Settled (based O n) s lent x w
-walk_based O base n {s} {lent} z h f {x} {w} t i =
+pub walk_based : (O : Outside) → O.base ≡ 0 → (n : ℕ) {s : Sheet} {lent : ℕ} (z : State) → Walked O s z → (r : Refusal) → z.refusal ≡ r → (r.number ≡ 0 → ⊥) → {x : Answer} {w : List ℕ}
+    → Tells (refused_at r.number s r.at r.name) x → w ≡ replicate lent 0 → Settled (based O n) s lent x w
+walk_based O base n {s} {lent} z h r k f {x} {w} t i =
     let e = sym (refused_based O base n lent s no) in
     record { tells = subst (λ (o : Outcome). Tells o x) e plain.tells; words = plain.words ∙ ap (buffer lent) e }
   where
     plain : Settled O s lent x w
-    plain = settled_no O base s lent x w z.refusal.number z.refusal.at z.refusal.name (sym (h.refused (λ e. f (h.accepted e)))) f t i
+    plain =
+        settled_no O base s lent x w r.number r.at r.name
+        (sym (h.refused (λ e. f (sym (ap (λ (q : Refusal). q.number) k) ∙ h.accepted e))) ∙ k) f t i
 
     no : (asked O lent s).number ≡ 0 → ⊥
     no e = f (sym t.number ∙ plain.tells.number ∙ e)
-
--- what follows the walk asks nothing of the open entries
-pub any_entries : {O : Outside} {s : Sheet} (w : Walk) {v : List ℕ} (t q : List ℕ) → Walked O s (state_of w v t q) → (u : List ℕ) → Walked O s (state_of w u t q)
-any_entries w t q h u = record { refused = h.refused; globals = h.globals; accepted = h.accepted; store = h.store; later = h.later }

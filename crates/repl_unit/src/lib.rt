@@ -5,7 +5,8 @@ ghost use Rattle.std.specs.Prelude.{◌≡◌, List, ℕ, ◌≤◌, length};
 ghost use Rattle.machine.specs.Reads.{PastFour, Walked};
 ghost use Rattle.row_events.specs.Prepared.{Ready};
 ghost use Rattle.outside.specs.Words.{over};
-ghost use Rattle.walk.specs.WalkState.{state_of};
+ghost use Rattle.ast.specs.Refused.{refusal_in};
+ghost use Rattle.walk.specs.Ended.{ended};
 ghost use Rattle.entry_walk.specs.Laid.{OneUnit, BodyWalked};
 ghost use Rattle.definition.specs.Outside.{based};
 ghost use Rattle.finish.specs.Settled.{Settled};
@@ -14,13 +15,13 @@ use answer::{Answer, refuse_at};
 use entry_walk::resolve_entry;
 use finish::finish;
 use raise::raise_rows;
-use walk::state::Walk;
+use walk::ended::Ended;
 
 // The answer, and the walk where it ended: its next global, and the open entries with what was declared.
 #[derive(Clone, Copy)]
 pub struct Resolved {
     pub answer: Answer,
-    pub walk: Walk,
+    pub walk: Ended,
 }
 
 // What follows the walk of an entry that no question of it refused. A refusal has no rows to raise.
@@ -30,12 +31,12 @@ fn finish_over(
     results: &[u32],
     nodes: &[u32],
     base: u32,
-    walk: Walk,
+    walk: Ended,
     out: &mut [u32],
 ) -> Answer
     requires { (PastFour (over outside.now) sheet.now)
-        × ((entries : List ℕ) → Walked (over outside.now) sheet.now (state_of walk entries results.now nodes.now))
-        × (walk.number ≡ 0) × (base ≤ 2048000) }
+        × ((entries : List ℕ) → Walked (over outside.now) sheet.now (ended walk entries results.now nodes.now))
+        × ((refusal_in walk.done).number ≡ 0) × (base ≤ 2048000) }
     ensures { Settled (based (over outside.now) base) sheet.now (length out.old) result out.new }
 {
     let answer = finish(sheet, outside, results, nodes, walk, out);
@@ -56,17 +57,12 @@ pub fn resolve_over(
 ) -> Resolved
     requires { (Ready (over outside.now) sheet.now classes.old entries.old results.old nodes.old) × (OneUnit sheet.now) × (base ≤ 2048000) }
     ensures { (Settled (based (over outside.now) base) sheet.now (length out.old) result.answer out.new)
-        × (BodyWalked (over outside.now) sheet.now (state_of result.walk entries.new results.new nodes.new)) }
+        × (BodyWalked (over outside.now) sheet.now (ended result.walk entries.new results.new nodes.new)) }
 {
     let walk = resolve_entry(sheet, outside, classes, entries, results, nodes);
-    if walk.number != 0 {
-        return Resolved {
-            answer: refuse_at(sheet, walk.number, walk.at, walk.name, out),
-            walk: walk,
-        };
-    }
-    Resolved {
-        answer: finish_over(sheet, outside, results, nodes, base, walk, out),
-        walk: walk,
-    }
+    let answer = match walk.done {
+        Ok(()) => finish_over(sheet, outside, results, nodes, base, walk, out),
+        Err(no) => refuse_at(sheet, no, out),
+    };
+    Resolved { answer, walk }
 }

@@ -1,2 +1,2 @@
-mod WalkLaws
+pub mod WalkLaws
 pub mod StartLaws

@@ -35,10 +35,10 @@ fn resolve_in(
     ensures { Settled (over outside.now) sheet.now (length out.old) result out.new }
 {
     let walk = resolve_units(sheet, outside, classes, entries, results, nodes);
-    if walk.number != 0 {
-        return refuse_at(sheet, walk.number, walk.at, walk.name, out);
+    match walk.done {
+        Ok(()) => finish(sheet, outside, results, nodes, walk, out),
+        Err(no) => refuse_at(sheet, no, out),
     }
-    finish(sheet, outside, results, nodes, walk, out)
 }
 
 // The walk's scratch space for up to 2,048 rows and nine names from outside: a class for each row, 7,204 open entries of five words, a table of
@@ -132,6 +132,6 @@ pub fn resolve(sheet: &[u32], names: &[u8], out: &mut [u32]) -> Answer
 {
     match first_four(sheet, names) {
         Ok(()) => resolve_plain(sheet, out),
-        Err(no) => refuse(no.number(), out),
+        Err(no) => refuse(no, out),
     }
 }

@@ -1,18 +1,20 @@
-// What happens at a row before its parts, after each of them, and after all: a routine for each sort of row.
+// What happens at a row before its parts, after each of them, and after all, by its kind.
 #![tactic(auto)]
 
-ghost use Rattle.std.specs.Prelude.{◌≡◌, true, List, ℕ, ◌≤◌, ◌<◌, length};
+ghost use Rattle.std.specs.Prelude.{◌≡◌, ◌≤◌, length};
 ghost use Rattle.definition.specs.Basics.{when◌then◌else◌};
-ghost use Rattle.definition.specs.Sheet.{kind, child, a, is};
-ghost use Rattle.definition.specs.Walk.{before, after, after_part, is_part};
+ghost use Rattle.definition.specs.Sheet.{a, is, kind};
+ghost use Rattle.definition.specs.Walk.{before, after as after_all, after_part, is_part};
 ghost use Rattle.definition.specs.Outside.{Outside};
 ghost use Rattle.outside.specs.Words.{over};
 ghost use Rattle.machine.specs.Machine.{run_state};
-ghost use Rattle.walk.specs.WalkState.{state_of};
+ghost use Rattle.walk.specs.WalkState.{after, state_of, Same};
 ghost use Rattle.row_events.specs.Prepared.{Prepared};
 
 use assign::check_assign;
-use ast::{column, kind};
+use ast::column;
+use ast::kind::Kind;
+use ast::question::Refusal;
 use calls::check_callee;
 use idents::resolve_ident;
 use imports::define_imports;
@@ -20,221 +22,134 @@ use visits::{check_instanceof, check_jump, note_literal, resolve_host_const, res
 use walk::declare::{declare, declare_kind, hoist_literals};
 use walk::scopes::{begin_loop, close_scope, open_scope};
 use walk::state::Walk;
-use words::word;
+use words::{is_kind, kind_at, word};
 
 // A unit opens a scope for its imports and classes.
-pub fn before_unit(
-    sheet: &[u32],
-    row: u32,
-    walk: Walk,
-    entries: &mut [u32],
-    results: &mut [u32],
-) -> Walk
-    requires { (length sheet.now ≤ 16384) × (kind sheet.now row ≡ 2) }
-    ensures { (O : Outside) (nodes : List ℕ) → state_of result entries.new results.new nodes
-        ≡ run_state O sheet.now (before sheet.now row)
-        (state_of walk entries.old results.old nodes) }
+fn before_unit(walk: &mut Walk<'_, '_>, row: u32) -> Result<(), Refusal>
+    requires { (length walk.old.sheet.now ≤ 16384) × (kind walk.old.sheet.now row ≡ 2) }
+    ensures step { (O : Outside) → after walk.new result ≡ run_state O walk.old.sheet.now (before walk.old.sheet.now row) (state_of walk.old) }
+    ensures same { Same walk.old walk.new }
 {
-    let a = open_scope(sheet, row, walk, entries);
-    let b = define_imports(sheet, row, a, entries);
-    declare_kind(sheet, row, kind::CLASS, b, entries, results)
+    open_scope(walk, row);
+    define_imports(walk, row)?;
+    declare_kind(walk, row, Kind::Class)
 }
 
 // A function opens a scope for its parameters.
-pub fn before_fun(
-    sheet: &[u32],
-    row: u32,
-    walk: Walk,
-    entries: &mut [u32],
-    results: &mut [u32],
-) -> Walk
-    requires { (length sheet.now ≤ 16384) × (kind sheet.now row ≡ 6) }
-    ensures { (O : Outside) (nodes : List ℕ) → state_of result entries.new results.new nodes
-        ≡ run_state O sheet.now (before sheet.now row)
-        (state_of walk entries.old results.old nodes) }
+fn before_function(walk: &mut Walk<'_, '_>, row: u32) -> Result<(), Refusal>
+    requires { (length walk.old.sheet.now ≤ 16384) × (kind walk.old.sheet.now row ≡ 6) }
+    ensures step { (O : Outside) → after walk.new result ≡ run_state O walk.old.sheet.now (before walk.old.sheet.now row) (state_of walk.old) }
+    ensures same { Same walk.old walk.new }
 {
-    let a = open_scope(sheet, row, walk, entries);
-    declare_kind(sheet, row, kind::PARAMETER, a, entries, results)
+    open_scope(walk, row);
+    declare_kind(walk, row, Kind::Parameter)
 }
 
 // A block opens a scope and declares its literal lets first.
-fn before_block(
-    sheet: &[u32],
-    row: u32,
-    walk: Walk,
-    entries: &mut [u32],
-    results: &mut [u32],
-) -> Walk
-    requires { (length sheet.now ≤ 16384) × (kind sheet.now row ≡ 25) }
-    ensures { (O : Outside) (nodes : List ℕ) → state_of result entries.new results.new nodes
-        ≡ run_state O sheet.now (before sheet.now row)
-        (state_of walk entries.old results.old nodes) }
+fn before_block(walk: &mut Walk<'_, '_>, row: u32) -> Result<(), Refusal>
+    requires { (length walk.old.sheet.now ≤ 16384) × (kind walk.old.sheet.now row ≡ 25) }
+    ensures step { (O : Outside) → after walk.new result ≡ run_state O walk.old.sheet.now (before walk.old.sheet.now row) (state_of walk.old) }
+    ensures same { Same walk.old walk.new }
 {
-    let a = open_scope(sheet, row, walk, entries);
-    hoist_literals(sheet, row, a, entries, results)
+    open_scope(walk, row);
+    hoist_literals(walk, row)
 }
 
-// A block or `for` opens a scope; a class declaration asks for its parent.
-pub fn before_stmt(
-    sheet: &[u32],
-    row: u32,
-    walk: Walk,
-    entries: &mut [u32],
-    results: &mut [u32],
-) -> Walk
-    requires { (length sheet.now ≤ 16384) × (7 < kind sheet.now row) }
-    ensures { (O : Outside) (nodes : List ℕ) → state_of result entries.new results.new nodes
-        ≡ run_state O sheet.now (before sheet.now row)
-        (state_of walk entries.old results.old nodes) }
+// Before the parts of a row: a unit, function, block or `for` opens a scope; a class declaration asks for its parent.
+pub fn before(walk: &mut Walk<'_, '_>, row: u32) -> Result<(), Refusal>
+    requires { length walk.old.sheet.now ≤ 16384 }
+    ensures step { (O : Outside) → after walk.new result ≡ run_state O walk.old.sheet.now (before walk.old.sheet.now row) (state_of walk.old) }
+    ensures same { Same walk.old walk.new }
 {
-    let kind = word(sheet, row, column::KIND);
+    let Ok(kind) = kind_at(walk.sheet, row) else {
+        return Ok(());
+    };
     match kind {
-        kind::BLOCK => before_block(sheet, row, walk, entries, results),
-        kind::FOR => open_scope(sheet, row, walk, entries),
-        kind::CLASS_DECLARATION => resolve_parent(sheet, row, walk, entries, results),
-        _ => walk,
+        Kind::Unit => before_unit(walk, row),
+        Kind::Function => before_function(walk, row),
+        Kind::Block => before_block(walk, row),
+        Kind::ClassDeclaration => resolve_parent(walk, row),
+        Kind::For => {
+            open_scope(walk, row);
+            Ok(())
+        }
+        _ => Ok(()),
     }
 }
 
 // A let declares its name, unless its value is a literal: then the block has done so, or nothing does.
-fn after_let(sheet: &[u32], row: u32, walk: Walk, entries: &mut [u32], results: &mut [u32]) -> Walk
-    requires { (length sheet.now ≤ 16384) × (kind sheet.now row ≡ 29) }
-    ensures { (O : Outside) (nodes : List ℕ) → state_of result entries.new results.new nodes
-        ≡ run_state O sheet.now (after sheet.now row)
-        (state_of walk entries.old results.old nodes) }
+fn after_let(walk: &mut Walk<'_, '_>, row: u32) -> Result<(), Refusal>
+    requires { (length walk.old.sheet.now ≤ 16384) × (kind walk.old.sheet.now row ≡ 29) }
+    ensures step { (O : Outside) → after walk.new result ≡ run_state O walk.old.sheet.now (after_all walk.old.sheet.now row) (state_of walk.old) }
+    ensures same { Same walk.old walk.new }
 {
-    if word(sheet, word(sheet, row, column::CHILD), column::KIND) == kind::LITERAL {
-        return walk;
+    if is_kind(walk.sheet, word(walk.sheet, row, column::CHILD), Kind::Literal) {
+        return Ok(());
     }
-    declare(sheet, row, walk, entries, results)
+    declare(walk, row)
 }
 
-// A block or `for` closes its scope; a let declares its name; an assignment, break or continue is asked about.
-pub fn after_stmt(
-    sheet: &[u32],
-    classes: &[u32],
-    row: u32,
-    walk: Walk,
-    entries: &mut [u32],
-    results: &mut [u32],
-    nodes: &mut [u32],
-) -> Walk
-    requires { (Prepared sheet.now classes.now) × (7 < kind sheet.now row) × (kind sheet.now row < 40) }
-    ensures { (O : Outside) → state_of result entries.new results.new nodes.new
-        ≡ run_state O sheet.now (after sheet.now row)
-        (state_of walk entries.old results.old nodes.old) }
+// After all parts of a row: a scope closes; a let declares its name; an assignment, break or continue is asked about; an identifier, host
+// constant or instanceof is looked up; a literal notes where it stands.
+pub fn after(walk: &mut Walk<'_, '_>, row: u32) -> Result<(), Refusal>
+    requires { Prepared walk.old.sheet.now walk.old.classes.now }
+    ensures step { (O : Outside) → after walk.new result ≡ run_state O walk.old.sheet.now (after_all walk.old.sheet.now row) (state_of walk.old) }
+    ensures same { Same walk.old walk.new }
 {
-    let kind = word(sheet, row, column::KIND);
+    let Ok(kind) = kind_at(walk.sheet, row) else {
+        return Ok(());
+    };
     match kind {
-        kind::ASSIGN => check_assign(sheet, classes, row, walk, entries, results, nodes),
-        kind::BREAK => check_jump(sheet, row, walk, entries),
-        kind::CONTINUE => check_jump(sheet, row, walk, entries),
-        kind::BLOCK => close_scope(walk, entries),
-        kind::FOR => close_scope(walk, entries),
-        kind::LET => after_let(sheet, row, walk, entries, results),
-        _ => walk,
-    }
-}
-
-// An identifier, host constant or instanceof is looked up; a literal notes where it stands.
-pub fn after_expr(
-    sheet: &[u32],
-    row: u32,
-    walk: Walk,
-    entries: &[u32],
-    results: &mut [u32],
-    nodes: &mut [u32],
-) -> Walk
-    requires { (length sheet.now ≤ 16384) × (39 < kind sheet.now row) }
-    ensures { (O : Outside) → state_of result entries.now results.new nodes.new
-        ≡ run_state O sheet.now (after sheet.now row)
-        (state_of walk entries.now results.old nodes.old) }
-{
-    let kind = word(sheet, row, column::KIND);
-    match kind {
-        kind::IDENTIFIER => resolve_ident(sheet, row, walk, entries, results, nodes),
-        kind::HOST_CONSTANT => resolve_host_const(sheet, row, walk, results),
-        kind::LITERAL => note_literal(sheet, row, walk, results),
-        kind::INSTANCEOF => check_instanceof(sheet, row, walk, entries, results),
-        _ => walk,
+        Kind::Unit | Kind::Function | Kind::Block | Kind::For => {
+            close_scope(walk);
+            Ok(())
+        }
+        Kind::Let => after_let(walk, row),
+        Kind::Assign => check_assign(walk, row),
+        Kind::Break | Kind::Continue => check_jump(walk, row),
+        Kind::Identifier => resolve_ident(walk, row),
+        Kind::HostConstant => resolve_host_const(walk, row),
+        Kind::Instanceof => check_instanceof(walk, row),
+        Kind::Literal => {
+            note_literal(walk, row);
+            Ok(())
+        }
+        _ => Ok(()),
     }
 }
 
 // After part `i` of `row`: the checks on a call's callee; a `for` comes to its loop after init and test.
-pub fn after_part(
-    sheet: &[u32],
-    outside: &[u32],
-    row: u32,
-    i: usize,
-    walk: Walk,
-    entries: &mut [u32],
-    results: &mut [u32],
-    nodes: &mut [u32],
-) -> Walk
-    ensures { state_of result entries.new results.new nodes.new
-        ≡ run_state (over outside.now) sheet.now (after_part sheet.now row i)
-        (state_of walk entries.old results.old nodes.old) }
+pub fn after_part(walk: &mut Walk<'_, '_>, row: u32, i: usize) -> Result<(), Refusal>
+    ensures step { after walk.new result
+        ≡ run_state (over walk.old.outside.now) walk.old.sheet.now (after_part walk.old.sheet.now row i) (state_of walk.old) }
+    ensures same { Same walk.old walk.new }
 {
-    let kind = word(sheet, row, column::KIND);
-    match kind {
-        kind::CALL => after_callee(sheet, outside, row, i, walk, entries, results, nodes),
-        kind::FOR => after_test(sheet, row, i, walk, entries),
-        _ => walk,
+    if is_kind(walk.sheet, row, Kind::Call) && i == 0 {
+        return check_callee(walk, row);
     }
+    if is_kind(walk.sheet, row, Kind::For) && i == 1 {
+        begin_loop(walk);
+    }
+    Ok(())
 }
 
-fn after_callee(
-    sheet: &[u32],
-    outside: &[u32],
-    row: u32,
-    i: usize,
-    walk: Walk,
-    entries: &[u32],
-    results: &mut [u32],
-    nodes: &mut [u32],
-) -> Walk
-    requires { kind sheet.now row ≡ 59 }
-    ensures { state_of result entries.now results.new nodes.new
-        ≡ run_state (over outside.now) sheet.now (after_part sheet.now row i)
-        (state_of walk entries.now results.old nodes.old) }
-{
-    if i == 0 {
-        return check_callee(sheet, outside, row, walk, entries, results, nodes);
-    }
-    walk
-}
-
-fn after_test(sheet: &[u32], row: u32, i: usize, walk: Walk, entries: &mut [u32]) -> Walk
-    requires { kind sheet.now row ≡ 27 }
-    ensures { (O : Outside) (results nodes : List ℕ) → state_of result entries.new results nodes
-        ≡ run_state O sheet.now (after_part sheet.now row i) (state_of walk entries.old results nodes) }
-{
-    if i == 1 {
-        return begin_loop(walk, entries);
-    }
-    walk
-}
-
-// Is row `k` walked as a part: a unit, a function, a statement, an expression or a pair?
+// Is row `k` walked as a part: a unit, a function, a statement, an expression or a pair? Statements and what follows them have the highest numbers.
 pub fn is_part(sheet: &[u32], k: u32) -> bool
     ensures { result ≡ is_part sheet.now k }
 {
     let kind = word(sheet, k, column::KIND);
-    if kind == kind::UNIT {
-        return true;
-    }
-    if kind == kind::FUNCTION {
-        return true;
-    }
-    kind::EXPRESSION_STATEMENT <= kind
+    kind == Kind::Unit as u32
+        || kind == Kind::Function as u32
+        || Kind::ExpressionStatement as u32 <= kind
 }
 
-// The first row of the list in which the parts of `row` stand: a class declaration's are the methods of its class.
-pub fn part_list(sheet: &[u32], row: u32) -> u32
-    ensures { result ≡ child sheet.now (when is sheet.now 30 row then a sheet.now row else row) }
+// The row whose children are the parts of `row`: a class declaration's are the methods of its class.
+pub fn parts_of(sheet: &[u32], row: u32) -> u32
+    ensures { result ≡ (when is sheet.now 30 row then a sheet.now row else row) }
 {
-    if word(sheet, row, column::KIND) == kind::CLASS_DECLARATION {
-        return word(sheet, word(sheet, row, column::A), column::CHILD);
+    if is_kind(sheet, row, Kind::ClassDeclaration) {
+        word(sheet, row, column::A)
+    } else {
+        row
     }
-    word(sheet, row, column::CHILD)
 }

@@ -1,17 +1,18 @@
 -- Nodes pushed to the buffer and appended to lists.
 use mathlib.Core.Path.{◌≡◌, refl, sym, ap, ◌∙◌}
-use mathlib.Core.Bool.{Bool, true, false, not, ◌&&◌, ◌||◌, true≢false}
+use mathlib.Core.Bool.{Bool, true, false, ◌&&◌, true≢false}
 use mathlib.Core.List.{List, [], ◌∷◌}
 use Prim.Native.Nat.{ℕ, suc, ◌+◌, ◌-◌, ◌*◌, ◌<◌, ◌≤◌}
 use native.Mathlib.Omega.{arith}
-use lib.Dec.{eqb, leb, ltb}
+use lib.Dec.{eqb, ltb}
 use lib.ListN.{get_or, set}
 use lib.Seq.{sets}
-use borrow.Author.Tests.{lt-ltb, le-ltb, le-leb, leb-true, eq-eqb, ne_eqb, eqb-true, eqb-false}
+use borrow.Author.Tests.{lt-ltb, le-ltb, eq-eqb, ne_eqb, eqb-true, eqb-false}
 use Rattle.definition.specs.Basics.{when◌then◌else◌}
-use Rattle.definition.specs.Sheet.{Sheet, is, word}
-use Rattle.machine.specs.Machine.{entry_word, node_room, chain_to, list_at, has_key, Store, Node, function_marks, appended, appended_call, append_node, append_call, add_new, add_capture}
-use Rattle.machine.proofs.CodeSteps.{four_stores, capture_name, capture_mark, capture_own, capture_there, capture_other}
+use Rattle.definition.specs.Sheet.{Sheet, is, kind, word}
+use Rattle.machine.specs.Machine.{entry_word, node_room, chain_to, list_at, has_key, Store, Node, function_marks, appended, appended_call, append_node, append_call, add_new}
+use Rattle.machine.proofs.CodeSteps.{four_stores}
+use Rattle.symbols.proofs.EnvLaws.{marks_function, marks_scope, marks_other, marks_none}
 use Rattle.store.specs.Stored.{used_pushed, nodes_pushed}
 
 -- a node pushed where there is room, and where there is none
@@ -92,65 +93,30 @@ module _ (s : Sheet) (v : List ℕ) (i : ℕ) where
   pub function_none : (entry_word v i 0 ≡ 1 → ⊥) → false ≡ is_function s v i
   function_none f = rw (ne_eqb (entry_word v i 0) 1 f)
 
--- a mark that is no function's: of a loop, or of another scope
-other_mark : (t u w : Bool) → false ≡ (t && u) → (t ≡ false → w ≡ true) → (w || not u) ≡ true
-other_mark true true w h f = absurd (true≢false (sym h))
-other_mark true false true h f = refl
-other_mark true false false h f = refl
-other_mark false u w h f = ap (λ (b : Bool). b || not u) (f refl)
-
 both : (t u : Bool) → true ≡ (t && u) → (t ≡ true) × (u ≡ true)
 both true u h = (refl, sym h)
 both false u h = absurd (true≢false h)
 
--- a capture, one entry at a time from the last
-module _ (s : Sheet) (v : List ℕ) (i : ℕ) (x : Node) (o : Store) (l : 0 < i) where
-  at : add_capture (function_marks s v i) x o ≡ add_capture (function_marks s v (suc (i - 1))) x o
-  at = let e : i ≡ suc (i - 1) = omega arith in ap (λ (n : ℕ). add_capture (function_marks s v n) x o) e
-
+-- the functions around, one entry at a time from the last
+module _ (s : Sheet) (v : List ℕ) (i : ℕ) (l : 0 < i) where
   abbrev tag : ℕ
   tag = entry_word v (i - 1) 0
 
   abbrev row : ℕ
   row = entry_word v (i - 1) 1
 
-  pub capture_skip : false ≡ is_function s v (i - 1) → add_capture (function_marks s v (i - 1)) x o ≡ add_capture (function_marks s v i) x o
-  capture_skip h = sym (at ∙ go (leb tag 1) refl)
+  pub functions_there : {f : ℕ} → true ≡ is_function s v (i - 1) → f ≡ row → function_marks s v i ≡ f ∷ function_marks s v (i - 1)
+  functions_there h e =
+      let d = both (eqb tag 1) (is s 6 row) h in
+      marks_function s v i l (eqb-true tag 1 d.0) (eqb-true (kind s row) 6 d.1) ∙ ap (λ (f : ℕ). f ∷ function_marks s v (i - 1)) (sym e)
+
+  pub functions_skip : false ≡ is_function s v (i - 1) → function_marks s v i ≡ function_marks s v (i - 1)
+  functions_skip h = go (eqb tag 1) refl
     where
-      tag_loop : leb tag 1 ≡ true → eqb tag 1 ≡ false → eqb tag 0 ≡ true
-      tag_loop e d = let g : tag ≡ 1 → ⊥ = eqb-false tag 1 d in let m : tag ≤ 1 = leb-true tag 1 e in eq-eqb tag 0 (omega arith)
+      go : (b : Bool) → eqb tag 1 ≡ b → function_marks s v i ≡ function_marks s v (i - 1)
+      go true e = marks_scope s v i l (eqb-true tag 1 e) (eqb-false (kind s row) 6 (sym (h ∙ ap (λ (b : Bool). b && is s 6 row) e)))
+      go false e = marks_other s v i l (eqb-false tag 1 e)
 
-      go : (b : Bool) → leb tag 1 ≡ b → add_capture (function_marks s v (suc (i - 1))) x o ≡ add_capture (function_marks s v (i - 1)) x o
-      go false e = capture_name s v (i - 1) x o e
-      go true e = capture_mark s v (i - 1) x o e (other_mark (eqb tag 1) (is s 6 row) (eqb tag 0) h (tag_loop e))
-
-  module _ (h : true ≡ is_function s v (i - 1)) where
-    tag_one : tag ≡ 1
-    tag_one = eqb-true tag 1 (both (eqb tag 1) (is s 6 row) h).0
-
-    tag_low : leb tag 1 ≡ true
-    tag_low = let e : tag ≡ 1 = tag_one in le-leb tag 1 (omega arith)
-
-    tag_scope : eqb tag 0 ≡ false
-    tag_scope = let e : tag ≡ 1 = tag_one in ne_eqb tag 0 (λ z. omega arith)
-
-    pub capture_last : {f : ℕ} → f ≡ row → f ≡ x.one → o ≡ add_capture (function_marks s v i) x o
-    capture_last e d = sym (at ∙ capture_own s v (i - 1) x o tag_low tag_scope (both (eqb tag 1) (is s 6 row) h).1 (sym e ∙ d))
-
-    -- the last node of a function's list tells whether its list has the key
-    key_in : {f p : ℕ} (b : Bool) → f ≡ row → p ≡ get_or o.table (8 * f + 6) 0 → b ≡ has_key x.key (chain_to o.nodes p) → has_key x.key (list_at o (8 * row + 6)) ≡ b
-    unfolding list_at
-    key_in b e w k = rw (← e, ← w) (sym k)
-
-    pub capture_found : {f p : ℕ} → f ≡ row → (f ≡ x.one → ⊥) → p ≡ get_or o.table (8 * f + 6) 0 → true ≡ has_key x.key (chain_to o.nodes p) → o ≡ add_capture (function_marks s v i) x o
-    capture_found e d w k = sym (at ∙ capture_there s v (i - 1) x o tag_low tag_scope (both (eqb tag 1) (is s 6 row) h).1 (λ y. d (e ∙ y)) (key_in true e w k))
-
-    pub capture_in : {f p : ℕ} {z : Store} → f ≡ row → (f ≡ x.one → ⊥) → p ≡ get_or o.table (8 * f + 6) 0 → false ≡ has_key x.key (chain_to o.nodes p)
-        → z ≡ append_node (8 * f + 6) x o → add_capture (function_marks s v (i - 1)) x z ≡ add_capture (function_marks s v i) x o
-    capture_in {f} e d w k g =
-        sym (at ∙ capture_other s v (i - 1) x o tag_low tag_scope (both (eqb tag 1) (is s 6 row) h).1 (λ y. d (e ∙ y)) (key_in false e w k)
-        ∙ sym (ap (add_capture (function_marks s v (i - 1)) x) (g ∙ ap (λ (j : ℕ). append_node (8 * j + 6) x o) e)))
-
-pub capture_end : (s : Sheet) (v : List ℕ) (i : ℕ) (x : Node) (o : Store) → i ≤ 0 → o ≡ add_capture (function_marks s v i) x o
-unfolding function_marks add_capture
-capture_end s v i x o l = let e : i ≡ 0 = omega arith in sym (ap (λ (n : ℕ). add_capture (function_marks s v n) x o) e)
+pub functions_end : (s : Sheet) (v : List ℕ) (i : ℕ) → i ≤ 0 → function_marks s v i ≡ []
+unfolding function_marks
+functions_end s v i l = marks_none s v i l

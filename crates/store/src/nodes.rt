@@ -1,10 +1,10 @@
 // Nodes of four words in a lent buffer: the node before it in its list, a key, two values. A list is told by its last node, and is
 // walked from there back.
-ghost use Rattle.std.specs.Prelude.{◌≡◌, List, [], ◌∷◌, ◌&&◌, ℕ, ◌+◌, ◌*◌, length, eqb};
+ghost use Rattle.std.specs.Prelude.{◌≡◌, List, [], ◌∷◌, ◌&&◌, ℕ, ◌+◌, ◌*◌, ◌<◌, length, eqb, Some};
 ghost use Rattle.definition.specs.Basics.{place};
 ghost use Rattle.definition.specs.Sheet.{is};
-ghost use Rattle.machine.specs.Machine.{entry_word, node_word, previous, chain_to, has_key, function_marks, append_node, append_call, add_new, add_capture, field_node};
-ghost use Rattle.store.specs.Stored.{store_of, node_of, used_pushed, nodes_pushed};
+ghost use Rattle.machine.specs.Machine.{entry_word, node_word, previous, chain_to, has_key, function_marks, append_node, append_call, add_new, field_node};
+ghost use Rattle.store.specs.Stored.{store_of, node_of, used_pushed, nodes_pushed, functions_from};
 
 use crate::{node, result};
 use ast::{column, kind};
@@ -110,7 +110,7 @@ fn push_node(nodes: &mut [u32], used: u32, before: u32, n: Node) -> u32
 }
 
 // A node appended to the list of word `c` of `row`, if there is room.
-fn append_node(
+pub fn append_node(
     store: Store,
     results: &mut [u32],
     nodes: &mut [u32],
@@ -170,38 +170,27 @@ fn marks_function(sheet: &[u32], entries: &[u32], i: u32) -> bool
     false
 }
 
-// A captured local or argument, stored in the functions among the first `n` entries, from the innermost out to its own function.
-// It ends at a function that has it: an identifier in that function lies in those further out too, so they have it.
-pub fn reg_captured(
-    sheet: &[u32],
-    entries: &[u32],
-    n: u32,
-    x: Node,
-    store: Store,
-    results: &mut [u32],
-    nodes: &mut [u32],
-) -> Store
-    ensures { store_of result results.new nodes.new
-        ≡ add_capture (function_marks sheet.now entries.now n) (node_of x)
-        (store_of store results.old nodes.old) }
+// Where the scope of a function opens: the place of its mark, and the function.
+#[derive(Clone, Copy)]
+pub struct FunctionMark {
+    pub at: u32,
+    pub fun: u32,
+}
+
+// The innermost function whose scope mark is among the first `n` entries.
+pub fn innermost_function(sheet: &[u32], entries: &[u32], n: u32) -> Option<FunctionMark>
+    ensures marks { function_marks sheet.now entries.now n ≡ functions_from sheet.now entries.now result }
+    ensures before { (m : FunctionMark) → result ≡ Some m → m.at < n }
 {
-    let mut w = store;
-    let mut i = n;
-    while 0 < i {
-        i -= 1;
-        if marks_function(sheet, entries, i) {
-            let fun = entry_word(entries, i, entry::NAME);
-            if fun == x.one {
-                return w;
-            }
-            let last = word(results, fun, result::CAPTURES);
-            if has_key(nodes, last, x.key) {
-                return w;
-            }
-            w = append_node(w, results, nodes, fun, result::CAPTURES, x);
+    for at in (0..n).rev() {
+        if marks_function(sheet, entries, at) {
+            return Some(FunctionMark {
+                at,
+                fun: entry_word(entries, at, entry::NAME),
+            });
         }
     }
-    w
+    None
 }
 
 // A new field's name, stored in the list of its class.

@@ -1,2 +1,2 @@
-mod EnvLaws
+pub mod EnvLaws
 pub mod DeclLaws

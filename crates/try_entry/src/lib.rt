@@ -4,18 +4,18 @@
 ghost use Rattle.std.specs.Prelude.{◌≡◌, ◌*◌, ◌≤◌, length, get_or};
 ghost use Rattle.row_events.specs.Prepared.{Ready};
 ghost use Rattle.outside.specs.Words.{over};
-ghost use Rattle.walk.specs.WalkState.{state_of};
+ghost use Rattle.walk.specs.Ended.{ended};
 ghost use Rattle.entry_walk.specs.Laid.{OneUnit, BodyWalked};
 ghost use Rattle.try_entry.specs.Tried.{AddedBy, TriedOver};
 
 use answer::{Answer, refuse};
-use ast::question;
+use ast::question::Question;
 use entry_classes::count_classes;
 use lay_over::count_laid;
 use outside::layout;
 use repl_unit::resolve_over;
 use session_room::{Added, has_room};
-use walk::state::Walk;
+use walk::ended::Ended;
 use words::{word, word_at};
 
 // How far the numbers of one entry's functions and classes lie above those of the entry before.
@@ -25,7 +25,7 @@ const ENTRY_NUMBERS: u32 = session::layout::ENTRY_NUMBERS as u32;
 #[derive(Clone, Copy)]
 pub struct Tried {
     pub answer: Answer,
-    pub walk: Walk,
+    pub walk: Ended,
     pub added: Added,
 }
 
@@ -73,7 +73,7 @@ fn added_by(
     let classes = count_classes(out, rows);
     Added {
         names: new,
-        bytes: bytes,
+        bytes,
         laid: count_laid(entries, first, count) as usize,
         classes: classes.classes,
         members: classes.members,
@@ -97,7 +97,7 @@ pub fn try_over(
     requires { (Ready (over outside.now) sheet.now classes.old entries.old results.old nodes.old) × (OneUnit sheet.now)
         × (get_or words.now 1 0 ≤ 1000) }
     ensures { (TriedOver words.now outside.now sheet.now new bytes (length out.old) result out.new)
-        × (BodyWalked (over outside.now) sheet.now (state_of result.walk entries.new results.new nodes.new)) }
+        × (BodyWalked (over outside.now) sheet.now (ended result.walk entries.new results.new nodes.new)) }
 {
     let tried = resolve_over(
         sheet,
@@ -109,12 +109,11 @@ pub fn try_over(
         nodes,
         out,
     );
-    let answer = tried.answer;
-    let walk = tried.walk;
+    let (answer, walk) = (tried.answer, tried.walk);
     if answer.number != 0 {
         return Tried {
-            answer: answer,
-            walk: walk,
+            answer,
+            walk,
             added: NOTHING,
         };
     }
@@ -122,14 +121,14 @@ pub fn try_over(
     let added = added_by(outside, entries, env.count, out, answer.rows, new, bytes);
     if !has_room(words, added) {
         return Tried {
-            answer: refuse(question::SESSION_ROOM, out),
-            walk: walk,
-            added: added,
+            answer: refuse(Question::SessionRoom, out),
+            walk,
+            added,
         };
     }
     Tried {
-        answer: answer,
-        walk: walk,
-        added: added,
+        answer,
+        walk,
+        added,
     }
 }

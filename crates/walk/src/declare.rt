@@ -1,7 +1,9 @@
 // Declarations: the names of classes, parameters and lets.
 ghost use Rattle.std.specs.Prelude.{◌≡◌, ◌&&◌, not, true, List, [], ◌∷◌, map, ℕ, ◌≤◌, length};
 ghost use Rattle.definition.specs.Basics.{when◌then◌else◌, filter};
-ghost use Rattle.definition.specs.Sheet.{is, kids, kids_of};
+ghost use Rattle.definition.specs.Sheet.{is, kids as kids_in, kids_of as kids_of_in};
+ghost use Rattle.ast.specs.Kind.{kind_number};
+ghost use Rattle.ast.specs.Question.{question_number};
 ghost use Rattle.definition.specs.Meaning.{is_declared};
 ghost use Rattle.definition.specs.Slots.{is_local};
 ghost use Rattle.definition.specs.Walk.{literal_let, declare};
@@ -10,38 +12,35 @@ ghost use Rattle.machine.specs.Machine.{one_more, new_meaning, raise_locals, ste
 ghost use Rattle.symbols.specs.OpenScopes.{scopes_of};
 ghost use Rattle.symbols.specs.OpenDecls.{means, entry_for};
 ghost use Rattle.store.specs.Stored.{store_of};
-ghost use Rattle.walk.specs.WalkState.{state_of};
+ghost use Rattle.walk.specs.WalkState.{after, state_of, Same};
 
-use crate::state::{Walk, refuse, with_env};
-use ast::{column, kind, question};
+use crate::state::Walk;
+use ast::column;
+use ast::kind::Kind;
+use ast::question::{Question, Refusal};
+use sheet::{kids, kids_of};
 use store::code::code_of;
 use store::nodes::Store;
 use store::table::{raise_locals, write_decl};
 use symbols::decl::{OpenDecl, declared_by, define, is_local};
-use symbols::env::{Env, has_local};
-use words::{one_more, word};
+use symbols::env::Env;
+use words::{is_kind, one_more, word};
 
 // Is `row` a let whose value is a function literal?
 fn is_literal_let(sheet: &[u32], row: u32) -> bool
     ensures { result ≡ literal_let sheet.now row }
 {
-    if word(sheet, row, column::KIND) != kind::LET {
-        return false;
-    }
-    word(sheet, word(sheet, row, column::CHILD), column::KIND) == kind::LITERAL
+    is_kind(sheet, row, Kind::Let) && is_kind(sheet, word(sheet, row, column::CHILD), Kind::Literal)
 }
 
-// The question on a name that is taken: 7 for a let whose value is no function literal, 16 for any other row.
-fn declare_question(sheet: &[u32], row: u32) -> u32
-    ensures { result ≡ (when is sheet.now 29 row && not (literal_let sheet.now row) then 7 else 16) }
+// The question on a name that is taken: one of its own for a let whose value is no function literal.
+fn declare_question(sheet: &[u32], row: u32) -> Question
+    ensures { question_number result ≡ (when is sheet.now 29 row && not (literal_let sheet.now row) then 7 else 16) }
 {
-    if word(sheet, row, column::KIND) != kind::LET {
-        return question::NAME_FREE;
-    }
-    if is_literal_let(sheet, row) {
-        question::NAME_FREE
+    if is_kind(sheet, row, Kind::Let) && !is_literal_let(sheet, row) {
+        Question::LetFree
     } else {
-        question::LET_FREE
+        Question::NameFree
     }
 }
 
@@ -65,129 +64,58 @@ fn store_let(sheet: &[u32], row: u32, env: Env, d: OpenDecl, results: &mut [u32]
         → store_of o results.new nodes
         ≡ step_store O sheet.now (declare row) (scopes_of env entries) (store_of o results.old nodes) }
 {
-    if word(sheet, row, column::KIND) != kind::LET {
+    if !is_kind(sheet, row, Kind::Let) {
         return;
     }
     count_local(sheet, env, d, results);
     write_decl(results, row, code_of(sheet, d));
 }
 
-// `row` declares its name: questions 7 and 16.
-pub fn declare(
-    sheet: &[u32],
-    row: u32,
-    walk: Walk,
-    entries: &mut [u32],
-    results: &mut [u32],
-) -> Walk
-    requires { length sheet.now ≤ 16384 }
-    ensures { (O : Outside) (nodes : List ℕ) → state_of result entries.new results.new nodes
-        ≡ step_state O sheet.now (declare row) (state_of walk entries.old results.old nodes) }
+// `row` declares its name, if that is free in its scope.
+pub fn declare(walk: &mut Walk<'_, '_>, row: u32) -> Result<(), Refusal>
+    requires { length walk.old.sheet.now ≤ 16384 }
+    ensures step { (O : Outside) → after walk.new result ≡ step_state O walk.old.sheet.now (declare row) (state_of walk.old) }
+    ensures same { Same walk.old walk.new }
 {
-    if walk.number != 0 {
-        return walk;
+    let (sheet, env) = (walk.sheet, walk.env);
+    let name = word(sheet, row, column::A);
+    if walk.has_local(name) {
+        return Err(Refusal {
+            question: declare_question(sheet, row),
+            at: row,
+            name,
+        });
     }
-    let e = walk.env;
-    let m = word(sheet, row, column::A);
-    if has_local(entries, m, e.count) {
-        return refuse(walk, declare_question(sheet, row), row, m);
-    }
-    let d = declared_by(sheet, row, e);
-    store_let(sheet, row, e, d, results);
-    let env = define(sheet, m, d, e, entries);
-    with_env(walk, env)
-}
-
-// Declares row `k`, if it is of a kind.
-fn declare_if(
-    sheet: &[u32],
-    k: u32,
-    kind: u32,
-    walk: Walk,
-    entries: &mut [u32],
-    results: &mut [u32],
-) -> Walk
-    requires { length sheet.now ≤ 16384 }
-    ensures { (O : Outside) (nodes : List ℕ) → state_of result entries.new results.new nodes
-        ≡ run_state O sheet.now (when is sheet.now kind k then declare k ∷ [] else [])
-        (state_of walk entries.old results.old nodes) }
-{
-    if word(sheet, k, column::KIND) != kind {
-        return walk;
-    }
-    declare(sheet, k, walk, entries, results)
+    let d = declared_by(sheet, row, env);
+    store_let(sheet, row, env, d, walk.results);
+    walk.env = define(sheet, name, d, env, walk.entries);
+    Ok(())
 }
 
 // Declares the children of `row` that are of a kind: the classes of a unit, the parameters of a function.
-pub fn declare_kind(
-    sheet: &[u32],
-    row: u32,
-    kind: u32,
-    walk: Walk,
-    entries: &mut [u32],
-    results: &mut [u32],
-) -> Walk
-    requires { length sheet.now ≤ 16384 }
-    ensures { (O : Outside) (nodes : List ℕ) → state_of result entries.new results.new nodes
-        ≡ run_state O sheet.now (map declare (kids_of sheet.now kind row))
-        (state_of walk entries.old results.old nodes) }
+pub fn declare_kind(walk: &mut Walk<'_, '_>, row: u32, kind: Kind) -> Result<(), Refusal>
+    requires { length walk.old.sheet.now ≤ 16384 }
+    ensures step { (O : Outside) → after walk.new result
+        ≡ run_state O walk.old.sheet.now (map declare (kids_of_in walk.old.sheet.now (kind_number kind) row)) (state_of walk.old) }
+    ensures same { Same walk.old walk.new }
 {
-    let mut n = sheet.len() / 8;
-    let mut k = word(sheet, row, column::CHILD);
-    let mut a = walk;
-    while 0 < n {
-        if k == 0 {
-            return a;
-        }
-        a = declare_if(sheet, k, kind, a, entries, results);
-        k = word(sheet, k, column::NEXT);
-        n -= 1;
+    for child in kids_of(walk.sheet, row, kind) {
+        declare(walk, child)?;
     }
-    a
-}
-
-// Declares row `k`, if it is a let whose value is a function literal.
-fn declare_literal(
-    sheet: &[u32],
-    k: u32,
-    walk: Walk,
-    entries: &mut [u32],
-    results: &mut [u32],
-) -> Walk
-    requires { length sheet.now ≤ 16384 }
-    ensures { (O : Outside) (nodes : List ℕ) → state_of result entries.new results.new nodes
-        ≡ run_state O sheet.now (when literal_let sheet.now k then declare k ∷ [] else [])
-        (state_of walk entries.old results.old nodes) }
-{
-    if !is_literal_let(sheet, k) {
-        return walk;
-    }
-    declare(sheet, k, walk, entries, results)
+    Ok(())
 }
 
 // Declares the lets of block `row` whose values are function literals: they come first.
-pub fn hoist_literals(
-    sheet: &[u32],
-    row: u32,
-    walk: Walk,
-    entries: &mut [u32],
-    results: &mut [u32],
-) -> Walk
-    requires { length sheet.now ≤ 16384 }
-    ensures { (O : Outside) (nodes : List ℕ) → state_of result entries.new results.new nodes
-        ≡ run_state O sheet.now (map declare (filter (literal_let sheet.now) (kids sheet.now row)))
-        (state_of walk entries.old results.old nodes) }
+pub fn hoist_literals(walk: &mut Walk<'_, '_>, row: u32) -> Result<(), Refusal>
+    requires { length walk.old.sheet.now ≤ 16384 }
+    ensures step { (O : Outside) → after walk.new result
+        ≡ run_state O walk.old.sheet.now (map declare (filter (literal_let walk.old.sheet.now) (kids_in walk.old.sheet.now row))) (state_of walk.old) }
+    ensures same { Same walk.old walk.new }
 {
-    let mut n = sheet.len() / 8;
-    let mut k = word(sheet, row, column::CHILD);
-    let mut a = walk;
-    while 0 < n {
-        if k == 0 {
-            return a;
+    for child in kids(walk.sheet, row) {
+        if is_literal_let(walk.sheet, child) {
+            declare(walk, child)?;
         }
-        a = declare_literal(sheet, k, a, entries, results);
-        k = word(sheet, k, column::NEXT);
-        n -= 1;
     }
-    a
+    Ok(())
 }

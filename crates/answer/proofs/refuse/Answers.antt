@@ -4,4 +4,4 @@ use Rattle.answer.proofs.refuse.Goals as goal
 
 pub returns : goal.returns
 returns c =
-    (told_refused c.args.number _ refl, c.clear.ensures)
+    (rw (← c.number.ensures) (told_refused c.number.result _ refl), c.clear.ensures)

@@ -1,6 +1,6 @@
 use Prim.Native.Nat.{◌*◌}
 use lib.ListN.{get_or}
-use Rattle.walk.specs.WalkState.{state_of}
+use Rattle.walk.specs.Ended.{ended}
 use Rattle.try_entry.proofs.TryLaws.{walk_accepted, rows_held}
 use Rattle.enter_entry.proofs.LayLaws.{entered_refused, entered_accepted}
 use Rattle.enter_entry.proofs.enter_in.Goals as goal
@@ -11,7 +11,7 @@ try_over-tried-requires c =
 
 pub returns-then-answer-ne0 : goal.returns-then-answer-ne0
 returns-then-answer-ne0 c =
-    entered_refused c.try_over-tried.ensures.0 {v = state_of _ _ _ _} c.try_over-tried.ensures.1 c.if-answer-ne0.true c.keep_globals.ensures
+    entered_refused c.try_over-tried.ensures.0 {v = ended _ _ _ _} c.try_over-tried.ensures.1 c.if-answer-ne0.true c.keep_globals.ensures
 
 pub lay_down-requires : goal.lay_down-requires
 lay_down-requires c =
@@ -29,4 +29,4 @@ lay_down-requires c =
 
 pub returns : goal.returns
 returns c =
-    entered_accepted c.try_over-tried.ensures.0 {v = state_of _ _ _ _} c.try_over-tried.ensures.1 c.if-answer-ne0.false c.lay_down.ensures
+    entered_accepted c.try_over-tried.ensures.0 {v = ended _ _ _ _} c.try_over-tried.ensures.1 c.if-answer-ne0.false c.lay_down.ensures

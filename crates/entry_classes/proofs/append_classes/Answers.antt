@@ -1,5 +1,5 @@
 use Rattle.machine.proofs.Theorems.{rows_few}
-use Rattle.walk.specs.WalkState.{state_of}
+use Rattle.walk.specs.Ended.{ended}
 use Rattle.entry_classes.proofs.ToldLaws.{held_fit, all_written}
 use Rattle.entry_classes.proofs.append_classes.Goals as goal
 
@@ -13,6 +13,6 @@ append_heads-requires c =
 
 pub returns : goal.returns
 returns c =
-    λ walk entries nodes w z. all_written c.requires.4 c.args.base c.requires.5 (state_of walk entries c.args.results.now nodes) w z
+    λ walk entries nodes w z. all_written c.requires.4 c.args.base c.requires.5 (ended walk entries c.args.results.now nodes) w z
     c.args.words.now c.args.classes c.args.members
     (c.append_members.ensures walk.store nodes) (c.append_heads.ensures walk.store nodes)

@@ -1,47 +1,31 @@
-use Rattle.walk.proofs.RunLaws.{chain_next}
-use Rattle.imports.proofs.ImportLaws.{of_import, imports_start}
-use Rattle.walk.proofs.RunLaws.{chain_none, chain_end}
+use Rattle.std.proofs.Common.{ap, refl, ◌∙◌, rules}
+use Rattle.definition.specs.Basics.{concat_map}
+use Rattle.definition.specs.Walk.{imports}
+use Rattle.sheet.specs.Rest.{kind_left}
 use Rattle.walk.specs.WalkState.{state_of}
-use native.Mathlib.Omega.{arith}
-use mathlib.Core.Path.{refl, ◌∙◌}
+use Rattle.walk.proofs.StepLaws.{after_err, is_refused}
+use Rattle.walk.proofs.RunLaws.{loop_on, loop_no, loop_end}
+use Rattle.imports.proofs.ImportLaws.{import_brought}
 use Rattle.imports.proofs.define_imports.Goals as goal
 
-pub loop-n-init : goal.loop-n-init
-loop-n-init c = (λ O t q. refl, refl)
+pub loop-import-preserved : goal.loop-import-preserved
+loop-import-preserved c =
+    let s = c.args.walk.now.sheet.now in
+    let same = ap (λ b. b.now) c.loop-import.invariant.1.sheet in (
+      λ O. loop_on O s s (imports s c.args.u c.in-Some.import) (concat_map (imports s c.args.u) (kind_left c.next.new.self)) (state_of c.loop-import.walk) _ refl
+          (ap (concat_map (imports s c.args.u)) c.in-Some.ensures.steps) (import_brought O same c.in-Some.import _ c.args.u (c.in_ok-import_one.ensures.step O)) (c.loop-import.invariant.0 O),
+      search rules,
+    )
 
-pub shape_of-entries-then-k-eq0 : goal.shape_of-entries-then-k-eq0
-shape_of-entries-then-k-eq0 c = c.loop-n.invariant.1
+pub returns-in_err-import_one-clause-step : goal.returns-in_err-import_one-clause-step
+returns-in_err-import_one-clause-step c =
+    let s = c.args.walk.now.sheet.now in
+    let same = ap (λ b. b.now) c.loop-import.invariant.1.sheet in
+    λ O. after_err c.import_one.new.walk _ c.in_err-import_one.field-0.0 c.from_residual.ensures.1
+    ∙ loop_no O s s (imports s c.args.u c.in-Some.import) (concat_map (imports s c.args.u) (kind_left c.next.new.self)) (state_of c.loop-import.walk) _ refl
+    (ap (concat_map (imports s c.args.u)) c.in-Some.ensures.steps) (import_brought O same c.in-Some.import _ c.args.u (c.in_err-import_one.ensures.step O)) (c.loop-import.invariant.0 O) (is_refused c.in_err-import_one.field-0.0)
 
-pub returns-then-k-eq0 : goal.returns-then-k-eq0
-returns-then-k-eq0 c =
-    λ O t q. chain_end O c.args.sheet.now (of_import c.args.sheet.now c.args.u) c.loop-n.n
-    c.loop-n.k (state_of c.loop-n.x c.loop-n.entries t q) c.if-k-eq0.true
-    ∙ c.loop-n.invariant.0 O t q
-    ∙ imports_start O c.args.sheet.now c.word-k.result
-    (state_of c.args.walk c.args.entries.now t q) c.args.u c.word-k.ensures
-
-pub overflow_sub-n : goal.overflow_sub-n
-overflow_sub-n c = omega (arith, c.loop-n-test.true)
-
-pub loop-n-smaller : goal.loop-n-smaller
-loop-n-smaller c = omega (arith, c.loop-n-test.true)
-
-pub loop-n-preserved : goal.loop-n-preserved
-loop-n-preserved c = (
-  λ O t q. chain_next O c.args.sheet.now (of_import c.args.sheet.now c.args.u) c.loop-n.n
-      c.loop-n.k (state_of c.loop-n.x c.loop-n.entries t q) c.loop-n-test.true c.if-k-eq0.false c.word-k-in-loop-n.ensures
-      (c.import_if-x.ensures O t q)
-      ∙ c.loop-n.invariant.0 O t q,
-  omega (arith, c.import_if-x.auto, c.loop-n.invariant.1),
-)
-
-pub shape_of-entries : goal.shape_of-entries
-shape_of-entries c = c.loop-n.invariant.1
-
-pub returns : goal.returns
-returns c =
-    λ O t q. chain_none O c.args.sheet.now (of_import c.args.sheet.now c.args.u) c.loop-n.n
-    c.loop-n.k (state_of c.loop-n.x c.loop-n.entries t q) c.loop-n-test.false
-    ∙ c.loop-n.invariant.0 O t q
-    ∙ imports_start O c.args.sheet.now c.word-k.result
-    (state_of c.args.walk c.args.entries.now t q) c.args.u c.word-k.ensures
+pub returns-clause-step : goal.returns-clause-step
+returns-clause-step c =
+    λ O. loop_end O c.args.walk.now.sheet.now (state_of c.loop-import.walk) (ap (concat_map (imports c.args.walk.now.sheet.now c.args.u)) c.in-None.ensures.steps.0)
+    (c.loop-import.invariant.0 O)

@@ -1,21 +1,16 @@
-use Rattle.imports.proofs.ImportLaws.{of_import}
-use Rattle.walk.specs.WalkState.{state_of}
-use Rattle.machine.specs.Machine.{run_state}
-use Rattle.definition.specs.Sheet.{rows, chain}
+use Rattle.std.proofs.Common.{◌≡◌}
 use Rattle.definition.specs.Basics.{concat_map}
 use Rattle.definition.specs.Outside.{Outside}
-use lib.ListN.{length}
-use Prim.Native.Nat.{ℕ}
-use mathlib.Core.List.{List}
-use mathlib.Core.Path.{◌≡◌}
+use Rattle.definition.specs.Sheet.{kids_of}
+use Rattle.definition.specs.Walk.{imports}
+use Rattle.machine.specs.Machine.{run_state}
+use Rattle.sheet.specs.Rest.{kind_left}
+use Rattle.walk.specs.WalkState.{state_of, Same}
 use Rattle.imports.proofs.define_imports.Given as goal
 
-abbrev pub invariant-loop-n : goal.invariant-loop-n
-invariant-loop-n l =
-    ((O : Outside) (t q : List ℕ)
-    → run_state O l.sheet (concat_map (of_import l.sheet l.u) (chain l.n l.sheet l.k)) (state_of l.x l.entries t q)
-    ≡ run_state O l.sheet (concat_map (of_import l.sheet l.u) (chain (rows l.sheet) l.sheet l.initial.k)) (state_of l.initial.x l.initial.entries t q))
-    × (length l.entries ≡ length l.initial.entries)
-
-abbrev pub decreases-loop-n : goal.decreases-loop-n
-decreases-loop-n l = l.n
+abbrev pub invariant-loop-import : goal.invariant-loop-import
+invariant-loop-import l =
+    ((O : Outside)
+    → run_state O l.initial.walk.sheet.now (concat_map (imports l.initial.walk.sheet.now l.fn.u) (kind_left l.import-iterator)) (state_of l.walk)
+    ≡ run_state O l.initial.walk.sheet.now (concat_map (imports l.initial.walk.sheet.now l.fn.u) (kids_of l.initial.walk.sheet.now 3 l.fn.u)) (state_of l.initial.walk))
+    × Same l.initial.walk l.walk

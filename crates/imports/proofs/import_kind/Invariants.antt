@@ -1,21 +1,16 @@
-use Rattle.imports.proofs.ImportLaws.{of_kind}
-use Rattle.walk.specs.WalkState.{state_of}
-use Rattle.machine.specs.Machine.{run_state}
-use Rattle.definition.specs.Sheet.{rows, chain}
-use Rattle.definition.specs.Basics.{concat_map}
+use Rattle.std.proofs.Common.{◌≡◌, map}
 use Rattle.definition.specs.Outside.{Outside}
-use lib.ListN.{length}
-use Prim.Native.Nat.{ℕ}
-use mathlib.Core.List.{List}
-use mathlib.Core.Path.{◌≡◌}
+use Rattle.definition.specs.Sheet.{kids_of}
+use Rattle.ast.specs.Kind.{kind_number}
+use Rattle.machine.specs.Machine.{run_state}
+use Rattle.sheet.specs.Rest.{kind_left}
+use Rattle.walk.specs.WalkState.{state_of, Same}
+use Rattle.imports.proofs.ImportLaws.{brought_row}
 use Rattle.imports.proofs.import_kind.Given as goal
 
-abbrev pub invariant-loop-n : goal.invariant-loop-n
-invariant-loop-n l =
-    ((O : Outside) (t q : List ℕ)
-    → run_state O l.sheet (concat_map (of_kind l.sheet l.kind l.i) (chain l.n l.sheet l.k)) (state_of l.x l.entries t q)
-    ≡ run_state O l.sheet (concat_map (of_kind l.sheet l.kind l.i) (chain (rows l.sheet) l.sheet l.initial.k)) (state_of l.initial.x l.initial.entries t q))
-    × (length l.entries ≡ length l.initial.entries)
-
-abbrev pub decreases-loop-n : goal.decreases-loop-n
-decreases-loop-n l = l.n
+abbrev pub invariant-loop-export : goal.invariant-loop-export
+invariant-loop-export l =
+    ((O : Outside)
+    → run_state O l.initial.walk.sheet.now (map (brought_row l.initial.walk.sheet.now l.fn.i) (kind_left l.export-iterator)) (state_of l.walk)
+    ≡ run_state O l.initial.walk.sheet.now (map (brought_row l.initial.walk.sheet.now l.fn.i) (kids_of l.initial.walk.sheet.now (kind_number l.fn.kind) l.fn.u)) (state_of l.initial.walk))
+    × Same l.initial.walk l.walk

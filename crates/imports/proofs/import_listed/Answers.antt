@@ -1,50 +1,30 @@
-use Rattle.walk.proofs.RunLaws.{chain_next}
-use Rattle.imports.proofs.ImportLaws.{of_listed, listed_start}
-use Rattle.walk.proofs.RunLaws.{chain_none, chain_end}
+use Rattle.std.proofs.Common.{ap, refl, map, ◌∙◌, [], ◌∷◌, rules}
+use Rattle.sheet.specs.Exports.{export_of}
+use Rattle.sheet.specs.Rest.{rows_left}
 use Rattle.walk.specs.WalkState.{state_of}
-use native.Mathlib.Omega.{arith}
-use mathlib.Core.Path.{refl, ◌∙◌}
+use Rattle.walk.proofs.StepLaws.{after_err, is_refused}
+use Rattle.walk.proofs.RunLaws.{loop_on, loop_no, loop_end}
+use Rattle.imports.proofs.ImportLaws.{brought_listed, listed_brought}
 use Rattle.imports.proofs.import_listed.Goals as goal
 
-pub loop-n-init : goal.loop-n-init
-loop-n-init c = (λ O t q. refl, refl)
+pub loop-listed-preserved : goal.loop-listed-preserved
+loop-listed-preserved c =
+    let s = c.args.walk.now.sheet.now in
+    let same = ap (λ b. b.now) c.loop-listed.invariant.1.sheet in (
+      λ O. loop_on O s s (brought_listed s c.args.u c.args.i c.in-Some.listed ∷ []) (map (brought_listed s c.args.u c.args.i) (rows_left c.next.new.self)) (state_of c.loop-listed.walk) _ refl
+          (ap (map (brought_listed s c.args.u c.args.i)) c.in-Some.ensures.steps) (listed_brought O same c.in-Some.listed _ c.args.u c.args.i c.word-name.ensures (ap (export_of c.loop-listed.walk.sheet.now) c.unwrap_or-export.ensures ∙ c.find_export.ensures) (c.in_ok-bring.ensures.step O)) (c.loop-listed.invariant.0 O),
+      search rules,
+    )
 
-pub shape_of-entries-then-k-eq0 : goal.shape_of-entries-then-k-eq0
-shape_of-entries-then-k-eq0 c = c.loop-n.invariant.1
+pub returns-in_err-bring-clause-step : goal.returns-in_err-bring-clause-step
+returns-in_err-bring-clause-step c =
+    let s = c.args.walk.now.sheet.now in
+    let same = ap (λ b. b.now) c.loop-listed.invariant.1.sheet in
+    λ O. after_err c.bring.new.walk _ c.in_err-bring.field-0.0 c.from_residual.ensures.1
+    ∙ loop_no O s s (brought_listed s c.args.u c.args.i c.in-Some.listed ∷ []) (map (brought_listed s c.args.u c.args.i) (rows_left c.next.new.self)) (state_of c.loop-listed.walk) _ refl
+    (ap (map (brought_listed s c.args.u c.args.i)) c.in-Some.ensures.steps) (listed_brought O same c.in-Some.listed _ c.args.u c.args.i c.word-name.ensures (ap (export_of c.loop-listed.walk.sheet.now) c.unwrap_or-export.ensures ∙ c.find_export.ensures) (c.in_err-bring.ensures.step O)) (c.loop-listed.invariant.0 O) (is_refused c.in_err-bring.field-0.0)
 
-pub returns-then-k-eq0 : goal.returns-then-k-eq0
-returns-then-k-eq0 c =
-    λ O t q. chain_end O c.args.sheet.now
-    (of_listed c.args.sheet.now c.args.u c.args.i) c.loop-n.n c.loop-n.k
-    (state_of c.loop-n.x c.loop-n.entries t q) c.if-k-eq0.true
-    ∙ c.loop-n.invariant.0 O t q
-    ∙ listed_start O c.args.sheet.now c.word-k.result
-    (state_of c.args.walk c.args.entries.now t q) c.args.u c.args.i c.word-k.ensures
-
-pub overflow_sub-n : goal.overflow_sub-n
-overflow_sub-n c = omega (arith, c.loop-n-test.true)
-
-pub loop-n-smaller : goal.loop-n-smaller
-loop-n-smaller c = omega (arith, c.loop-n-test.true)
-
-pub loop-n-preserved : goal.loop-n-preserved
-loop-n-preserved c = (
-  λ O t q. chain_next O c.args.sheet.now
-      (of_listed c.args.sheet.now c.args.u c.args.i) c.loop-n.n c.loop-n.k
-      (state_of c.loop-n.x c.loop-n.entries t q) c.loop-n-test.true c.if-k-eq0.false c.word-k-in-loop-n.ensures
-      (c.bring_listed-x.ensures O t q)
-      ∙ c.loop-n.invariant.0 O t q,
-  omega (arith, c.bring_listed-x.auto, c.loop-n.invariant.1),
-)
-
-pub shape_of-entries : goal.shape_of-entries
-shape_of-entries c = c.loop-n.invariant.1
-
-pub returns : goal.returns
-returns c =
-    λ O t q. chain_none O c.args.sheet.now
-    (of_listed c.args.sheet.now c.args.u c.args.i) c.loop-n.n c.loop-n.k
-    (state_of c.loop-n.x c.loop-n.entries t q) c.loop-n-test.false
-    ∙ c.loop-n.invariant.0 O t q
-    ∙ listed_start O c.args.sheet.now c.word-k.result
-    (state_of c.args.walk c.args.entries.now t q) c.args.u c.args.i c.word-k.ensures
+pub returns-clause-step : goal.returns-clause-step
+returns-clause-step c =
+    λ O. loop_end O c.args.walk.now.sheet.now (state_of c.loop-listed.walk) (ap (map (brought_listed c.args.walk.now.sheet.now c.args.u c.args.i)) c.in-None.ensures.steps.0)
+    (c.loop-listed.invariant.0 O)

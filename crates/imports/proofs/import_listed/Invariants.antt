@@ -1,21 +1,15 @@
-use Rattle.imports.proofs.ImportLaws.{of_listed}
-use Rattle.walk.specs.WalkState.{state_of}
-use Rattle.machine.specs.Machine.{run_state}
-use Rattle.definition.specs.Sheet.{rows, chain}
-use Rattle.definition.specs.Basics.{concat_map}
+use Rattle.std.proofs.Common.{◌≡◌, map}
 use Rattle.definition.specs.Outside.{Outside}
-use lib.ListN.{length}
-use Prim.Native.Nat.{ℕ}
-use mathlib.Core.List.{List}
-use mathlib.Core.Path.{◌≡◌}
+use Rattle.definition.specs.Sheet.{kids}
+use Rattle.machine.specs.Machine.{run_state}
+use Rattle.sheet.specs.Rest.{rows_left}
+use Rattle.walk.specs.WalkState.{state_of, Same}
+use Rattle.imports.proofs.ImportLaws.{brought_listed}
 use Rattle.imports.proofs.import_listed.Given as goal
 
-abbrev pub invariant-loop-n : goal.invariant-loop-n
-invariant-loop-n l =
-    ((O : Outside) (t q : List ℕ)
-    → run_state O l.sheet (concat_map (of_listed l.sheet l.u l.i) (chain l.n l.sheet l.k)) (state_of l.x l.entries t q)
-    ≡ run_state O l.sheet (concat_map (of_listed l.sheet l.u l.i) (chain (rows l.sheet) l.sheet l.initial.k)) (state_of l.initial.x l.initial.entries t q))
-    × (length l.entries ≡ length l.initial.entries)
-
-abbrev pub decreases-loop-n : goal.decreases-loop-n
-decreases-loop-n l = l.n
+abbrev pub invariant-loop-listed : goal.invariant-loop-listed
+invariant-loop-listed l =
+    ((O : Outside)
+    → run_state O l.initial.walk.sheet.now (map (brought_listed l.initial.walk.sheet.now l.fn.u l.fn.i) (rows_left l.listed-iterator)) (state_of l.walk)
+    ≡ run_state O l.initial.walk.sheet.now (map (brought_listed l.initial.walk.sheet.now l.fn.u l.fn.i) (kids l.initial.walk.sheet.now l.fn.i)) (state_of l.initial.walk))
+    × Same l.initial.walk l.walk

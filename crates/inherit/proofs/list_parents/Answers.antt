@@ -10,18 +10,8 @@ use Rattle.inherit.proofs.list_parents.Goals as goal
 pub loop-r-init : goal.loop-r-init
 loop-r-init c = (λ o q j l. absurd (omega arith), refl, omega arith)
 
-pub overflow_cast-r : goal.overflow_cast-r
-overflow_cast-r c = omega (arith, c.requires.0, c.loop-r.invariant.2)
-
 pub overflow_add-r : goal.overflow_add-r
 overflow_add-r c = omega (arith, c.requires.0, c.loop-r.invariant.2)
-
-pub overflow_add-r-in-loop-r : goal.overflow_add-r-in-loop-r
-overflow_add-r-in-loop-r c =
-    omega (arith, c.requires.0, c.loop-r.invariant.2)
-
-pub loop-r-smaller : goal.loop-r-smaller
-loop-r-smaller c = omega (arith, c.loop-r-test.true)
 
 pub loop-r-preserved : goal.loop-r-preserved
 loop-r-preserved c =

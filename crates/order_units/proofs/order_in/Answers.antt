@@ -37,7 +37,7 @@ returns-then-some_left c =
     let long = c.start_units-started.auto.list ∙ c.clear.auto.words in
     settled_circle c.args.sheet.now c.requires.0 _ c.start_units-started.ensures.marks c.some_left.result c.some_left.ensures (length c.args.list.now) c.if-some_left.true
     c.unwrap-u.result (sym (ap (λ (o : Option ℕ). unwrap_or o 0) c.unwrap-u.ensures) ∙ c.lowest_circling.ensures)
-    (rw (← c.number.ensures) c.refuse_at.ensures.0, c.refuse_at.ensures.1 ∙ ap (λ (k : ℕ). replicate k 0) long)
+    (c.refuse_at.ensures.0, c.refuse_at.ensures.1 ∙ ap (λ (k : ℕ). replicate k 0) long)
 
 pub returns : goal.returns
 returns c =

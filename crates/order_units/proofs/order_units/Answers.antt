@@ -6,7 +6,7 @@ use Rattle.order_units.proofs.order_units.Goals as goal
 
 pub returns-in-Err : goal.returns-in-Err
 returns-in-Err c =
-    ordered_no c.args.sheet.now c.args.names.now (length c.args.list.now) (c.number.ensures ∙ c.in-Err.ensures) (λ z. question_none _ (sym c.number.ensures ∙ z)) c.refuse.ensures
+    ordered_no c.args.sheet.now c.args.names.now (length c.args.list.now) c.in-Err.ensures (question_none _) c.refuse.ensures
 
 pub order_fitting-requires : goal.order_fitting-requires
 order_fitting-requires c = fitting c.args.sheet.now c.args.names.now (sym c.in-Ok.ensures)

@@ -1,13 +1,12 @@
 use Rattle.resolver.proofs.OutcomeLaws.{past_four, answered_four, answered_no}
 use Rattle.ast.proofs.QuestionLaws.{question_none}
-use mathlib.Core.Path.{sym, ◌∙◌}
+use mathlib.Core.Path.{sym}
 use Rattle.resolver.proofs.resolve.Goals as goal
 
 pub returns-in-Err : goal.returns-in-Err
 returns-in-Err c =
     let no = c.refuse.ensures in
-    answered_no c.args.sheet.now c.args.names.now _ _ _ _ (c.number.ensures ∙ c.in-Err.ensures) (λ z. question_none _ (sym c.number.ensures ∙ z)) no.0
-    no.1
+    answered_no c.args.sheet.now c.args.names.now _ _ _ _ c.in-Err.ensures (question_none _) no.0 no.1
 
 pub resolve_plain-requires : goal.resolve_plain-requires
 resolve_plain-requires c =

@@ -1,27 +1,26 @@
-use mathlib.Core.Path.{sym, ◌∙◌}
-use Rattle.definition.specs.Walk.{after_part}
+use Rattle.std.proofs.Common.{sym, ◌∙◌}
+use borrow.Author.Tests.{eqb-true}
+use Rattle.definition.specs.Walk.{visit, loop, after_part}
 use Rattle.outside.specs.Words.{over}
 use Rattle.walk.specs.WalkState.{state_of}
-use Rattle.row_events.proofs.RowLaws.{runs_none, part_none}
+use Rattle.row_events.proofs.RowLaws.{runs_none, runs_one, part_callee, part_test, part_idle}
 use Rattle.row_events.proofs.after_part.Goals as goal
 
-pub after_callee-requires : goal.after_callee-requires
-after_callee-requires c =
-    sym c.word-kind.ensures ∙ c.in-59.is
+pub returns-then-i-eq0-clause-step : goal.returns-then-i-eq0-clause-step
+returns-then-i-eq0-clause-step c =
+    let s = c.args.walk.now.sheet.now in
+    runs_one (over c.args.walk.now.outside.now) s (after_part s c.args.row c.args.i) (visit c.args.row) (state_of c.args.walk.now)
+    (part_callee s c.args.row c.args.i (eqb-true _ _ (sym c.is_kind.ensures ∙ c.if-is_kind.true)) c.if-i-eq0.true) c.check_callee.ensures.step
 
-pub after_test-requires : goal.after_test-requires
-after_test-requires c = sym c.word-kind.ensures ∙ c.in-27.is
+pub returns-then-i-eq1-clause-step : goal.returns-then-i-eq1-clause-step
+returns-then-i-eq1-clause-step c =
+    let s = c.args.walk.now.sheet.now in
+    let O = over c.args.walk.now.outside.now in
+    runs_one O s (after_part s c.args.row c.args.i) loop (state_of c.args.walk.now)
+    (part_test s c.args.row c.args.i (eqb-true _ _ (sym c.is_kind-2.ensures ∙ c.if-is_kind-2.true)) c.if-i-eq1.true) (c.begin_loop.ensures.step O)
 
-pub returns-in-59 : goal.returns-in-59
-returns-in-59 c = c.after_callee.ensures
-
-pub returns-in-27 : goal.returns-in-27
-returns-in-27 c = c.after_test.ensures _ _ _
-
-pub returns-in_default : goal.returns-in_default
-returns-in_default c =
-    runs_none (over c.args.outside.now) c.args.sheet.now
-    (after_part c.args.sheet.now c.args.row c.args.i)
-    (state_of c.args.walk c.args.entries.now c.args.results.now c.args.nodes.now)
-    (part_none c.args.sheet.now c.args.row c.args.i
-    (λ e. c.in_default.in_default-own.rest.0.1 (c.word-kind.ensures ∙ e)) (λ e. c.in_default.in_default-own.rest.1 (c.word-kind.ensures ∙ e)))
+pub returns-else-is_kind-2-clause-step : goal.returns-else-is_kind-2-clause-step
+returns-else-is_kind-2-clause-step c =
+    let s = c.args.walk.now.sheet.now in
+    runs_none (over c.args.walk.now.outside.now) s (after_part s c.args.row c.args.i) (state_of c.args.walk.now)
+    (part_idle s c.args.row c.args.i c.is_kind.ensures c.is_kind-2.ensures c.else-is_kind.either c.else-is_kind-2.either)

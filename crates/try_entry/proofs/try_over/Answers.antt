@@ -3,7 +3,7 @@ use Prim.Native.Nat.{ℕ}
 use lib.ListN.{replicate}
 use mathlib.Core.Path.{refl}
 use native.Mathlib.Omega.{arith}
-use Rattle.walk.specs.WalkState.{state_of}
+use Rattle.walk.specs.Ended.{ended}
 use Rattle.try_entry.proofs.TryLaws.{rows_held, try_refused, try_full, try_accepted}
 use mathlib.Core.Path.{sym, ◌∙◌}
 use Rattle.try_entry.proofs.try_over.Goals as goal
@@ -26,7 +26,7 @@ shape_of-classes-then-not-has_room c =
 pub returns-then-not-has_room : goal.returns-then-not-has_room
 returns-then-not-has_room c = (
   try_full c.args.words.now c.args.outside.now c.args.sheet.now c.args.new c.args.bytes _ c.base_of.result
-      c.base_of.ensures.0 c.resolve_over-tried.ensures.0 c.if-answer-ne0.false {v = state_of _ _ _ _} c.resolve_over-tried.ensures.1 c.added_by-added.ensures
+      c.base_of.ensures.0 c.resolve_over-tried.ensures.0 c.if-answer-ne0.false {v = ended _ _ _ _} c.resolve_over-tried.ensures.1 c.added_by-added.ensures
       (sym c.has_room.ensures ∙ c.if-not-has_room.true) c.refuse.ensures.0
       (c.refuse.ensures.1 ∙ ap (λ (k : ℕ). replicate k 0) c.resolve_over-tried.auto.out),
   c.resolve_over-tried.ensures.1,
@@ -35,7 +35,7 @@ returns-then-not-has_room c = (
 pub returns : goal.returns
 returns c = (
   try_accepted c.args.words.now c.args.outside.now c.args.sheet.now c.args.new c.args.bytes _ c.base_of.result
-      c.base_of.ensures.0 c.resolve_over-tried.ensures.0 c.if-answer-ne0.false {v = state_of _ _ _ _} c.resolve_over-tried.ensures.1 c.added_by-added.ensures refl refl
+      c.base_of.ensures.0 c.resolve_over-tried.ensures.0 c.if-answer-ne0.false {v = ended _ _ _ _} c.resolve_over-tried.ensures.1 c.added_by-added.ensures refl refl
       (sym c.has_room.ensures ∙ c.if-not-has_room.false),
   c.resolve_over-tried.ensures.1,
 )

@@ -1,22 +1,10 @@
-use Rattle.definition.specs.Walk.{visit}
+use Rattle.std.proofs.Common.{refl}
 use Rattle.walk.specs.WalkState.{state_of}
-use Rattle.walk.proofs.VisitLaws.{host_yes, host_no}
-use Rattle.walk.proofs.StepLaws.{idle}
+use Rattle.walk.proofs.VisitLaws.{host_no, host_yes}
 use Rattle.visits.proofs.resolve_host_const.Goals as goal
 
-pub returns-then-walk-ne0 : goal.returns-then-walk-ne0
-returns-then-walk-ne0 c =
-    λ O v q. idle O c.args.sheet.now (visit c.args.row)
-    (state_of c.args.walk v c.args.results.now q) c.if-walk-ne0.true
+pub returns-then-name-ne-MAIN_UNIT-clause-step : goal.returns-then-name-ne-MAIN_UNIT-clause-step
+returns-then-name-ne-MAIN_UNIT-clause-step c = λ O. host_no O c.args.walk.now.sheet.now c.args.row (state_of c.args.walk.now) refl c.requires _ c.word-name.ensures c.if-name-ne-MAIN_UNIT.true refl
 
-pub returns-then-m-ne-MAIN_UNIT : goal.returns-then-m-ne-MAIN_UNIT
-returns-then-m-ne-MAIN_UNIT c =
-    λ O v q. host_no O c.args.sheet.now c.args.row
-    (state_of c.args.walk v c.args.results.now q) c.if-walk-ne0.false c.requires _
-    c.word-m.ensures c.if-m-ne-MAIN_UNIT.true (c.refuse.ensures v c.args.results.now q)
-
-pub returns : goal.returns
-returns c =
-    λ O v q. host_yes O c.args.sheet.now c.args.row
-    (state_of c.args.walk v c.args.results.now q) c.if-walk-ne0.false c.requires _ c.word-m.ensures _ _
-    c.if-m-ne-MAIN_UNIT.false c.main_unit_code-code.ensures (c.write_row.ensures _ q)
+pub returns-clause-step : goal.returns-clause-step
+returns-clause-step c = λ O. host_yes O c.args.walk.now.sheet.now c.args.row (state_of c.args.walk.now) refl c.requires _ c.word-name.ensures _ _ c.if-name-ne-MAIN_UNIT.false c.main_unit_code-code.ensures (c.write_row.ensures _ _)

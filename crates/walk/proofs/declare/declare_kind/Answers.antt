@@ -1,55 +1,24 @@
-use Rattle.walk.proofs.DeclareLaws.{each_start, each_none, each_end, each_more}
+use Rattle.std.proofs.Common.{ap, map, ◌∙◌, [], ◌∷◌, rules}
+use Rattle.definition.specs.Walk.{declare}
+use Rattle.sheet.specs.Rest.{kind_left}
 use Rattle.walk.specs.WalkState.{state_of}
-use Rattle.definition.specs.Sheet.{is}
-use mathlib.Core.Path.{refl, ◌∙◌}
-use native.Mathlib.Omega.{arith}
+use Rattle.walk.proofs.StepLaws.{after_err, is_refused}
+use Rattle.walk.proofs.RunLaws.{run_one, loop_on, loop_no, loop_end}
 use Rattle.walk.proofs.declare.declare_kind.Goals as goal
 
-pub loop-n-init : goal.loop-n-init
-loop-n-init c = (
-  (λ O q. each_start O c.args.sheet.now (is c.args.sheet.now c.args.kind)
-      c.args.row _ _ (state_of c.args.walk c.args.entries.now c.args.results.now q)
-      c.word-k.ensures refl),
-  refl,
-  refl,
+pub loop-child-preserved : goal.loop-child-preserved
+loop-child-preserved c = (
+  λ O. loop_on O c.args.walk.now.sheet.now c.loop-child.walk.sheet.now (declare c.in-Some.child ∷ []) (map declare (kind_left c.next.new.self)) (state_of c.loop-child.walk) _
+      (ap (λ b. b.now) c.loop-child.invariant.1.sheet) (ap (map declare) c.in-Some.ensures.steps) (run_one O _ _ _ (c.in_ok-declare.ensures.step O)) (c.loop-child.invariant.0 O),
+  search rules,
 )
 
-pub shape_of-entries-then-k-eq0 : goal.shape_of-entries-then-k-eq0
-shape_of-entries-then-k-eq0 c = c.loop-n.invariant.1
+pub returns-in_err-declare-clause-step : goal.returns-in_err-declare-clause-step
+returns-in_err-declare-clause-step c =
+    λ O. after_err c.declare.new.walk _ c.in_err-declare.field-0.0 c.from_residual.ensures.1
+    ∙ loop_no O c.args.walk.now.sheet.now c.loop-child.walk.sheet.now (declare c.in-Some.child ∷ []) (map declare (kind_left c.next.new.self)) (state_of c.loop-child.walk) _
+    (ap (λ b. b.now) c.loop-child.invariant.1.sheet) (ap (map declare) c.in-Some.ensures.steps) (run_one O _ _ _ (c.in_err-declare.ensures.step O)) (c.loop-child.invariant.0 O)
+    (is_refused c.in_err-declare.field-0.0)
 
-pub shape_of-results-then-k-eq0 : goal.shape_of-results-then-k-eq0
-shape_of-results-then-k-eq0 c = c.loop-n.invariant.2
-
-pub returns-then-k-eq0 : goal.returns-then-k-eq0
-returns-then-k-eq0 c =
-    λ O q. each_end O c.args.sheet.now (is c.args.sheet.now c.args.kind) c.loop-n.n c.loop-n.k
-    (state_of c.loop-n.a c.loop-n.entries c.loop-n.results q) c.if-k-eq0.true
-    ∙ c.loop-n.invariant.0 O q
-
-pub overflow_sub-n : goal.overflow_sub-n
-overflow_sub-n c = omega (arith, c.loop-n-test.true)
-
-pub loop-n-smaller : goal.loop-n-smaller
-loop-n-smaller c = omega (arith, c.loop-n-test.true)
-
-pub loop-n-preserved : goal.loop-n-preserved
-loop-n-preserved c = (
-  (λ O q. each_more O c.args.sheet.now (is c.args.sheet.now c.args.kind) c.loop-n.n
-      c.loop-n.k _ (state_of c.loop-n.a c.loop-n.entries c.loop-n.results q) _ c.loop-n-test.true c.if-k-eq0.false
-      (c.declare_if-a.ensures O q) c.word-k-in-loop-n.ensures
-      ∙ c.loop-n.invariant.0 O q),
-  omega (arith, c.declare_if-a.auto, c.loop-n.invariant.1),
-  omega (arith, c.declare_if-a.auto, c.loop-n.invariant.2),
-)
-
-pub shape_of-entries : goal.shape_of-entries
-shape_of-entries c = c.loop-n.invariant.1
-
-pub shape_of-results : goal.shape_of-results
-shape_of-results c = c.loop-n.invariant.2
-
-pub returns : goal.returns
-returns c =
-    λ O q. each_none O c.args.sheet.now (is c.args.sheet.now c.args.kind) c.loop-n.n c.loop-n.k
-    (state_of c.loop-n.a c.loop-n.entries c.loop-n.results q) c.loop-n-test.false
-    ∙ c.loop-n.invariant.0 O q
+pub returns-clause-step : goal.returns-clause-step
+returns-clause-step c = λ O. loop_end O c.args.walk.now.sheet.now (state_of c.loop-child.walk) (ap (map declare) c.in-None.ensures.steps.0) (c.loop-child.invariant.0 O)

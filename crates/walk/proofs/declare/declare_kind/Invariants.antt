@@ -1,21 +1,16 @@
-use Rattle.walk.proofs.DeclareLaws.{declare_each}
-use Rattle.walk.specs.WalkState.{state_of}
-use Rattle.machine.specs.Machine.{run_state}
-use Rattle.definition.specs.Walk.{declare}
-use Rattle.definition.specs.Sheet.{is, kids_of}
+use Rattle.std.proofs.Common.{◌≡◌, map}
+use Rattle.ast.specs.Kind.{kind_number}
 use Rattle.definition.specs.Outside.{Outside}
-use lib.ListN.{length}
-use Prim.Native.Nat.{ℕ}
-use mathlib.Core.List.{List, map}
-use mathlib.Core.Path.{◌≡◌}
+use Rattle.definition.specs.Sheet.{kids_of}
+use Rattle.definition.specs.Walk.{declare}
+use Rattle.machine.specs.Machine.{run_state}
+use Rattle.sheet.specs.Rest.{kind_left}
+use Rattle.walk.specs.WalkState.{state_of, Same}
 use Rattle.walk.proofs.declare.declare_kind.Given as goal
 
-abbrev pub invariant-loop-n : goal.invariant-loop-n
-invariant-loop-n l =
-    ((O : Outside) (q : List ℕ)
-    → declare_each O l.sheet (is l.sheet l.kind) l.n l.k (state_of l.a l.entries l.results q)
-    ≡ run_state O l.sheet (map declare (kids_of l.sheet l.kind l.row)) (state_of l.initial.a l.initial.entries l.initial.results q))
-    × (length l.entries ≡ length l.initial.entries) × (length l.results ≡ length l.initial.results)
-
-abbrev pub decreases-loop-n : goal.decreases-loop-n
-decreases-loop-n l = l.n
+abbrev pub invariant-loop-child : goal.invariant-loop-child
+invariant-loop-child l =
+    ((O : Outside)
+    → run_state O l.initial.walk.sheet.now (map declare (kind_left l.child-iterator)) (state_of l.walk)
+    ≡ run_state O l.initial.walk.sheet.now (map declare (kids_of l.initial.walk.sheet.now (kind_number l.fn.kind) l.fn.row)) (state_of l.initial.walk))
+    × Same l.initial.walk l.walk

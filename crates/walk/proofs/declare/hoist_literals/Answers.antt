@@ -1,55 +1,36 @@
-use Rattle.walk.proofs.DeclareLaws.{each_start, each_none, each_end, each_more}
+use Rattle.std.proofs.Common.{◌≡◌, true, sym, ap, map, ◌∙◌, [], ◌∷◌, rules}
+use Rattle.definition.specs.Basics.{filter}
+use Rattle.definition.specs.Sheet.{Sheet}
+use Rattle.definition.specs.Walk.{declare, literal_let}
+use Rattle.sheet.specs.Rest.{rows_left}
 use Rattle.walk.specs.WalkState.{state_of}
-use Rattle.definition.specs.Walk.{literal_let}
-use mathlib.Core.Path.{refl, ◌∙◌}
-use native.Mathlib.Omega.{arith}
+use Rattle.walk.proofs.StepLaws.{after_err, is_refused}
+use Rattle.walk.proofs.RunLaws.{run_one, loop_on, loop_no, loop_end}
+use Rattle.walk.proofs.DeclareLaws.{literal_first}
 use Rattle.walk.proofs.declare.hoist_literals.Goals as goal
 
-pub loop-n-init : goal.loop-n-init
-loop-n-init c = (
-  (λ O q. each_start O c.args.sheet.now (literal_let c.args.sheet.now) c.args.row _ _
-      (state_of c.args.walk c.args.entries.now c.args.results.now q) c.word-k.ensures
-      refl),
-  refl,
-  refl,
-)
+pub loop-child-preserved-in-Continue-1 : goal.loop-child-preserved-in-Continue-1
+loop-child-preserved-in-Continue-1 c =
+    let s = c.args.walk.now.sheet.now in
+    let same = ap (λ b. b.now) c.loop-child.invariant.1.sheet in
+    let here : literal_let s c.in-Some.child ≡ true = ap (λ (t : Sheet). literal_let t c.in-Some.child) (sym same) ∙ sym c.is_literal_let.ensures ∙ c.if-is_literal_let.true in
+    (
+      λ O. loop_on O s c.loop-child.walk.sheet.now (declare c.in-Some.child ∷ []) (map declare (filter (literal_let s) (rows_left c.next.new.self))) (state_of c.loop-child.walk) _
+          same (literal_first s c.in-Some.child (rows_left c.next.new.self) c.in-Some.ensures.steps here) (run_one O _ _ _ (c.in_ok-declare.ensures.step O)) (c.loop-child.invariant.0 O),
+      search rules,
+    )
 
-pub shape_of-entries-then-k-eq0 : goal.shape_of-entries-then-k-eq0
-shape_of-entries-then-k-eq0 c = c.loop-n.invariant.1
+pub returns-in_err-declare-clause-step : goal.returns-in_err-declare-clause-step
+returns-in_err-declare-clause-step c =
+    let s = c.args.walk.now.sheet.now in
+    let same = ap (λ b. b.now) c.loop-child.invariant.1.sheet in
+    let here : literal_let s c.in-Some.child ≡ true = ap (λ (t : Sheet). literal_let t c.in-Some.child) (sym same) ∙ sym c.is_literal_let.ensures ∙ c.if-is_literal_let.true in
+    λ O. after_err c.declare.new.walk _ c.in_err-declare.field-0.0 c.from_residual.ensures.1
+    ∙ loop_no O s c.loop-child.walk.sheet.now (declare c.in-Some.child ∷ []) (map declare (filter (literal_let s) (rows_left c.next.new.self))) (state_of c.loop-child.walk) _
+    same (literal_first s c.in-Some.child (rows_left c.next.new.self) c.in-Some.ensures.steps here) (run_one O _ _ _ (c.in_err-declare.ensures.step O)) (c.loop-child.invariant.0 O)
+    (is_refused c.in_err-declare.field-0.0)
 
-pub shape_of-results-then-k-eq0 : goal.shape_of-results-then-k-eq0
-shape_of-results-then-k-eq0 c = c.loop-n.invariant.2
-
-pub returns-then-k-eq0 : goal.returns-then-k-eq0
-returns-then-k-eq0 c =
-    λ O q. each_end O c.args.sheet.now (literal_let c.args.sheet.now) c.loop-n.n c.loop-n.k
-    (state_of c.loop-n.a c.loop-n.entries c.loop-n.results q) c.if-k-eq0.true
-    ∙ c.loop-n.invariant.0 O q
-
-pub overflow_sub-n : goal.overflow_sub-n
-overflow_sub-n c = omega (arith, c.loop-n-test.true)
-
-pub loop-n-smaller : goal.loop-n-smaller
-loop-n-smaller c = omega (arith, c.loop-n-test.true)
-
-pub loop-n-preserved : goal.loop-n-preserved
-loop-n-preserved c = (
-  (λ O q. each_more O c.args.sheet.now (literal_let c.args.sheet.now) c.loop-n.n c.loop-n.k _
-      (state_of c.loop-n.a c.loop-n.entries c.loop-n.results q) _ c.loop-n-test.true c.if-k-eq0.false
-      (c.declare_literal-a.ensures O q) c.word-k-in-loop-n.ensures
-      ∙ c.loop-n.invariant.0 O q),
-  omega (arith, c.declare_literal-a.auto, c.loop-n.invariant.1),
-  omega (arith, c.declare_literal-a.auto, c.loop-n.invariant.2),
-)
-
-pub shape_of-entries : goal.shape_of-entries
-shape_of-entries c = c.loop-n.invariant.1
-
-pub shape_of-results : goal.shape_of-results
-shape_of-results c = c.loop-n.invariant.2
-
-pub returns : goal.returns
-returns c =
-    λ O q. each_none O c.args.sheet.now (literal_let c.args.sheet.now) c.loop-n.n c.loop-n.k
-    (state_of c.loop-n.a c.loop-n.entries c.loop-n.results q) c.loop-n-test.false
-    ∙ c.loop-n.invariant.0 O q
+pub returns-clause-step : goal.returns-clause-step
+returns-clause-step c =
+    λ O. loop_end O c.args.walk.now.sheet.now (state_of c.loop-child.walk) (ap (λ ks. map declare (filter (literal_let c.args.walk.now.sheet.now) ks)) c.in-None.ensures.steps.0)
+    (c.loop-child.invariant.0 O)

@@ -1,22 +1,16 @@
-use Rattle.walk.proofs.DeclareLaws.{declare_each}
-use Rattle.walk.specs.WalkState.{state_of}
-use Rattle.machine.specs.Machine.{run_state}
-use Rattle.definition.specs.Walk.{declare, literal_let}
-use Rattle.definition.specs.Sheet.{kids}
+use Rattle.std.proofs.Common.{◌≡◌, map}
 use Rattle.definition.specs.Basics.{filter}
 use Rattle.definition.specs.Outside.{Outside}
-use lib.ListN.{length}
-use Prim.Native.Nat.{ℕ}
-use mathlib.Core.List.{List, map}
-use mathlib.Core.Path.{◌≡◌}
+use Rattle.definition.specs.Sheet.{kids}
+use Rattle.definition.specs.Walk.{declare, literal_let}
+use Rattle.machine.specs.Machine.{run_state}
+use Rattle.sheet.specs.Rest.{rows_left}
+use Rattle.walk.specs.WalkState.{state_of, Same}
 use Rattle.walk.proofs.declare.hoist_literals.Given as goal
 
-abbrev pub invariant-loop-n : goal.invariant-loop-n
-invariant-loop-n l =
-    ((O : Outside) (q : List ℕ)
-    → declare_each O l.sheet (literal_let l.sheet) l.n l.k (state_of l.a l.entries l.results q)
-    ≡ run_state O l.sheet (map declare (filter (literal_let l.sheet) (kids l.sheet l.row))) (state_of l.initial.a l.initial.entries l.initial.results q))
-    × (length l.entries ≡ length l.initial.entries) × (length l.results ≡ length l.initial.results)
-
-abbrev pub decreases-loop-n : goal.decreases-loop-n
-decreases-loop-n l = l.n
+abbrev pub invariant-loop-child : goal.invariant-loop-child
+invariant-loop-child l =
+    ((O : Outside)
+    → run_state O l.initial.walk.sheet.now (map declare (filter (literal_let l.initial.walk.sheet.now) (rows_left l.child-iterator))) (state_of l.walk)
+    ≡ run_state O l.initial.walk.sheet.now (map declare (filter (literal_let l.initial.walk.sheet.now) (kids l.initial.walk.sheet.now l.fn.row))) (state_of l.initial.walk))
+    × Same l.initial.walk l.walk

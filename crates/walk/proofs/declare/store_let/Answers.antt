@@ -3,19 +3,19 @@ use Rattle.store.proofs.CodeLaws.{told_four}
 use Rattle.store.specs.Stored.{store_of}
 use Rattle.symbols.specs.OpenScopes.{scopes_of}
 use Rattle.machine.proofs.ByKind.{store_other}
-use borrow.Author.Tests.{ne_eqb}
+use borrow.Author.Tests.{eqb-true}
 use mathlib.Core.Path.{sym, ◌∙◌}
 use Rattle.walk.proofs.declare.store_let.Goals as goal
 
-pub returns-then-word-ne-LET : goal.returns-then-word-ne-LET
-returns-then-word-ne-LET c =
+pub returns-then-not-is_kind : goal.returns-then-not-is_kind
+returns-then-not-is_kind c =
     λ O o v q e. sym (store_other O c.args.sheet.now (scopes_of c.args.env v)
     (store_of o c.args.results.now q) c.args.row
-    (rw (← c.word.ensures) (ne_eqb _ 29 c.if-word-ne-LET.true)))
+    (sym c.is_kind.ensures ∙ c.if-not-is_kind.true))
 
 pub returns : goal.returns
 returns c =
     λ O o v q e. let_stored O c.args.sheet.now c.args.row (scopes_of c.args.env v)
-    (store_of o c.args.results.now q) c.args.d _ _ _ (sym c.word.ensures ∙ c.if-word-ne-LET.false) e
+    (store_of o c.args.results.now q) c.args.d _ _ _ (eqb-true _ 29 (sym c.is_kind.ensures ∙ c.if-not-is_kind.false)) e
     (c.count_local.ensures o q) (told_four c.code_of.result ∙ c.code_of.ensures)
     (c.write_decl.ensures o q)

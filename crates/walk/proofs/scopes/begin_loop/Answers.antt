@@ -1,15 +1,7 @@
-use mathlib.Core.Path.{◌∙◌}
-use Rattle.definition.specs.Walk.{loop}
+use Rattle.std.proofs.Common.{refl}
 use Rattle.walk.specs.WalkState.{state_of}
-use Rattle.walk.proofs.StepLaws.{idle, looped}
+use Rattle.walk.proofs.StepLaws.{looped}
 use Rattle.walk.proofs.scopes.begin_loop.Goals as goal
 
-pub returns-then-walk-ne0 : goal.returns-then-walk-ne0
-returns-then-walk-ne0 c =
-    λ O s t q. idle O s loop (state_of c.args.walk c.args.entries.now t q) c.if-walk-ne0.true
-
-pub returns : goal.returns
-returns c =
-    λ O s t q. c.with_env.ensures _ t q
-    ∙ looped O s (state_of c.args.walk c.args.entries.now t q) c.if-walk-ne0.false
-    (c.push_loop-env.ensures s)
+pub returns-clause-step : goal.returns-clause-step
+returns-clause-step c = λ O. looped O c.args.walk.now.sheet.now (state_of c.args.walk.now) refl (c.push_loop-walk.ensures c.args.walk.now.sheet.now)
