@@ -7,20 +7,18 @@ ghost use Rattle.definition.specs.Outside.{core};
 ghost use Rattle.session.specs.Session.{past_rows};
 ghost use Rattle.session.specs.Words.{whole, laid_place, laid_in};
 ghost use Rattle.session_outside.specs.Written.{name_row, seen, name_rows, names_below, visible_names, core_name};
-ghost use Rattle.session_outside.specs.Readable.{Readable};
 ghost use Rattle.session_outside.specs.Told.{told};
 
 use crate::layout;
+use crate::runs::SessionRuns;
 use crate::rows::put_row;
 use ast::code::Code;
 use ast::{
     ARRAY_ID, AUDIO_DATA_ID, AUDIO_NEEDED_ID, BYTEARRAY_ID, DICT_ID, FIRST_CLASS, FLOAT64_ID,
     INT64_ID, STRING_ID, UIEVENT_ID,
 };
+use session::layout::MARKS;
 use words::{entry_at, put_entry};
-
-// A mark for each name number, 0 to 24 + 1,024.
-const MARKS: usize = 1049;
 
 // The classes of names 1 to 9.
 const CORE_CLASSES: [u32; 9] = [
@@ -118,14 +116,13 @@ fn lay_name(x: SeenName, row: u32, marks: &mut [u32], out: &mut [u32]) -> u32
 }
 
 // Lays the declarations, the latest first, from row 1 on.
-fn lay_declared(session: &[u32], marks: &mut [u32], out: &mut [u32]) -> u32
-    requires { Readable session.now }
+fn lay_declared(runs: SessionRuns<'_>, marks: &mut [u32], out: &mut [u32]) -> u32
     ensures { (result ≤ 4097) × (name_rows result marks.new out.new core.names
-        ≡ name_rows 1 marks.old out.old (names_below session.now (get_or session.now 5 0))) }
+        ≡ name_rows 1 marks.old out.old (names_below runs.entry.words.now (get_or runs.entry.words.now 5 0))) }
 {
     let mut row: u32 = 1;
-    for i in (0..entry_at(session, layout::LAID_COUNT)).rev() {
-        row = lay_name(declared_name(session, i), row, marks, out);
+    for i in (0..entry_at(runs.words, layout::LAID_COUNT)).rev() {
+        row = lay_name(declared_name(runs.words, i), row, marks, out);
     }
     row
 }
@@ -143,20 +140,19 @@ fn lay_core(first: u32, marks: &mut [u32], out: &mut [u32]) -> u32
 }
 
 // The rows of all names, with lent marks.
-fn lay_names(session: &[u32], marks: &mut [u32], out: &mut [u32]) -> u32
-    requires { (Readable session.now) × (marks.old ≡ replicate 1049 0) }
-    ensures { (result ≡ suc (length (visible_names session.now)))
-        × (out.new ≡ sets out.old 8 (concat_map name_row (visible_names session.now))) }
+fn lay_names(runs: SessionRuns<'_>, marks: &mut [u32], out: &mut [u32]) -> u32
+    requires { marks.old ≡ replicate 1049 0 }
+    ensures { (result ≡ suc (length (visible_names runs.entry.words.now)))
+        × (out.new ≡ sets out.old 8 (concat_map name_row (visible_names runs.entry.words.now))) }
 {
-    lay_core(lay_declared(session, marks, out), marks, out)
+    lay_core(lay_declared(runs, marks, out), marks, out)
 }
 
 // Writes the rows of the visible names from row 1 on. Answers the next row.
-pub fn name_rows(session: &[u32], out: &mut [u32]) -> u32
-    requires { Readable session.now }
-    ensures { (result ≡ suc (length (visible_names session.now)))
-        × (out.new ≡ sets out.old 8 (concat_map name_row (visible_names session.now))) }
+pub fn name_rows(runs: SessionRuns<'_>, out: &mut [u32]) -> u32
+    ensures { (result ≡ suc (length (visible_names runs.entry.words.now)))
+        × (out.new ≡ sets out.old 8 (concat_map name_row (visible_names runs.entry.words.now))) }
 {
     let mut marks = [0u32; MARKS];
-    lay_names(session, &mut marks, out)
+    lay_names(runs, &mut marks, out)
 }
