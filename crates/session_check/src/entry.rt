@@ -81,7 +81,7 @@ impl Entry<'_> {
         false
     }
 
-    // Is what a declaration means there: a function or class of the entry, or a global below the count?
+    // Is what a declaration means there: a function or class of the entry, or a global below the count? `code` is a word, which may be no code.
     #[tactic(auto, unfolding(crate::specs::Clauses::means_right), using(crate::proofs::ClauseLaws::means_nothing))]
     fn means_fit(self, code: u32, x: usize, mutable: usize) -> bool
         ensures { result ≡ means_right self.entry.words.now self.entry.number code x mutable }

@@ -55,5 +55,5 @@ pub fn outside_words(runs: SessionRuns<'_>, out: &mut [u32])
     let records_end = names_end + entry_at(runs.words, layout::CLASS_COUNT) + CORE_RECORDS;
     record_rows(runs, names_end, 8 * records_end, out);
     member_runs(runs, 8 * records_end, out);
-    put_row(out, 0, names_end, records_end, 0, 0, 0, 0);
+    put_row(out, 0, [names_end, records_end, 0, 0, 0, 0, 0, 0]);
 }

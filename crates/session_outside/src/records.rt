@@ -27,12 +27,7 @@ fn class_row(runs: SessionRuns<'_>, i: u32, row: u32, place: u32, out: &mut [u32
     put_row(
         out,
         row,
-        number,
-        name,
-        place,
-        fields,
-        place + fields,
-        methods,
+        [number, name, place, fields, place + fields, methods, 0, 0],
     );
     place + fields + 3 * methods
 }
@@ -56,26 +51,20 @@ fn core_rows(row: u32, place: u32, out: &mut [u32])
     requires { (row ≤ 16384) × (place ≤ 131072) }
     ensures { out.new ≡ sets out.old (8 * row) (record_rows place core.records) }
 {
-    put_row(out, row, UIEVENT_ID.0, 7, place, 9, place + 9, 0);
+    put_row(
+        out,
+        row,
+        [UIEVENT_ID.0, 7, place, 9, place + 9, 0, 0, 0],
+    );
     put_row(
         out,
         row + 1,
-        AUDIO_NEEDED_ID.0,
-        8,
-        place + 9,
-        3,
-        place + 12,
-        0,
+        [AUDIO_NEEDED_ID.0, 8, place + 9, 3, place + 12, 0, 0, 0],
     );
     put_row(
         out,
         row + 2,
-        AUDIO_DATA_ID.0,
-        9,
-        place + 12,
-        2,
-        place + 14,
-        0,
+        [AUDIO_DATA_ID.0, 9, place + 12, 2, place + 14, 0, 0, 0],
     );
 }
 

@@ -37,7 +37,7 @@ const CORE_CLASSES: [u32; 9] = [
 #[derive(Clone, Copy, Debug, PartialEq, Eq)]
 struct SeenName {
     name: u32,
-    code: u32,
+    code: Code,
     number: u32,
     mutable: u32,
 }
@@ -55,35 +55,35 @@ fn earlier_class(c: u32) -> u32
 }
 
 // Declaration `i`.
-fn declared_name(session: &[u32], i: u32) -> SeenName
-    requires { (i < 4096) × (get_or session.now (laid_place whole i + 2) 0 < 4294965248) }
-    ensures { told result ≡ name_row (seen (laid_in whole session.now [] i)) }
+fn declared_name(runs: SessionRuns<'_>, i: u32) -> SeenName
+    requires { i < get_or runs.words.now 5 0 }
+    ensures { told result ≡ name_row (seen (laid_in whole runs.entry.words.now [] i)) }
 {
     let p = layout::LAID + layout::LAID_WORDS * i;
-    let name = entry_at(session, p);
-    let number = entry_at(session, p + layout::NUMBER);
-    let code = entry_at(session, p + layout::CODE);
+    let name = entry_at(runs.words, p);
+    let number = entry_at(runs.words, p + layout::NUMBER);
+    let code = entry_at(runs.words, p + layout::CODE);
     // By number: any other code is a global's, and one that is no code too.
     if code == Code::Fun as u32 {
         SeenName {
             name: name,
-            code: Code::Fun as u32,
+            code: Code::Fun,
             number: number + layout::PAST_ROWS,
             mutable: 0,
         }
     } else if code == Code::Class as u32 {
         SeenName {
             name: name,
-            code: Code::Class as u32,
+            code: Code::Class,
             number: earlier_class(number),
             mutable: 0,
         }
     } else {
         SeenName {
             name: name,
-            code: Code::Global as u32,
+            code: Code::Global,
             number: number,
-            mutable: entry_at(session, p + layout::MUTABLE),
+            mutable: entry_at(runs.words, p + layout::MUTABLE),
         }
     }
 }
@@ -95,7 +95,7 @@ fn core_name(i: u32) -> SeenName
 {
     SeenName {
         name: i + 1,
-        code: Code::Class as u32,
+        code: Code::Class,
         number: CORE_CLASSES[i as usize],
         mutable: 0,
     }
@@ -111,7 +111,11 @@ fn lay_name(x: SeenName, row: u32, marks: &mut [u32], out: &mut [u32]) -> u32
         return row;
     }
     put_entry(marks, x.name, 1);
-    put_row(out, row, x.name, x.code, x.number, x.mutable, 0, 0);
+    put_row(
+        out,
+        row,
+        [x.name, x.code.number(), x.number, x.mutable, 0, 0, 0, 0],
+    );
     row + 1
 }
 
@@ -122,7 +126,7 @@ fn lay_declared(runs: SessionRuns<'_>, marks: &mut [u32], out: &mut [u32]) -> u3
 {
     let mut row: u32 = 1;
     for i in (0..entry_at(runs.words, layout::LAID_COUNT)).rev() {
-        row = lay_name(declared_name(runs.words, i), row, marks, out);
+        row = lay_name(declared_name(runs, i), row, marks, out);
     }
     row
 }

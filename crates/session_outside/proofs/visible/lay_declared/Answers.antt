@@ -14,9 +14,7 @@ loop-i-init c =
     (omega (arith, e), omega (arith, e), refl, refl, ap (λ (k : ℕ). name_rows 1 c.args.marks.now c.args.out.now (names_below c.args.runs.words.now k)) e)
 
 pub declared_name-requires : goal.declared_name-requires
-declared_name-requires c =
-    let l = c.loop-i.i in
-    (omega (arith, c.args.runs.readable.few_laid), c.args.runs.readable.laid_low (l - 1) (omega arith))
+declared_name-requires c = omega arith
 
 pub lay_name-row-requires : goal.lay_name-row-requires
 lay_name-row-requires c = omega (arith, c.args.runs.readable.few_laid)
