@@ -15,6 +15,7 @@ use entry_names::{entry_sheet, number_names};
 use entry_ready::ask_entry;
 use session::lent::LentSession;
 use session_check::check_session;
+use session_names::space::{NameSpace, PLACES, STARTS};
 use session_outside::outside_words;
 use session_outside::runs::SessionRuns;
 
@@ -55,9 +56,13 @@ pub fn prepare(
     requires { 1024 ≤ length numbers.old }
     ensures { PreparedFor session.entry.words.now session.entry.bytes.now sheet.now names.now result numbers.new }
 {
-    let mut table = [0u32; 1025];
-    let mut index = [0u32; 2048];
-    let Some(list) = check_session(session, &mut table, &mut index) else {
+    let mut starts = [0u32; STARTS];
+    let mut index = [0u32; PLACES];
+    let space = NameSpace {
+        starts: &mut starts,
+        index: &mut index,
+    };
+    let Some(list) = check_session(session, space) else {
         return refused(Question::Session.number());
     };
     if let Err(no) = ask_entry(session.words, sheet, names) {

@@ -2,7 +2,7 @@
 // numbers (crate session_rows) are asked about first; a class is then found by halving. Names on show are counted last (crate names_shown).
 #![tactic(auto)]
 
-ghost use Rattle.std.specs.Prelude.{◌≡◌, length, get_or, replicate, eqb};
+ghost use Rattle.std.specs.Prelude.{◌≡◌, length, get_or, eqb};
 ghost use Rattle.session_rows.specs.Rows.{Limited, Ordered};
 ghost use Rattle.session_outside.specs.Written.{visible_names};
 ghost use Rattle.session_check.specs.Checked.{RunsChecked, Checked};
@@ -13,6 +13,7 @@ use name_index::NameIndex;
 use session::layout;
 use session::layout::MARKS;
 use session::lent::LentSession;
+use session_names::space::NameSpace;
 use session_outside::runs::SessionRuns;
 use session_rows::number_at;
 
@@ -52,18 +53,13 @@ fn numbers_fit(words: &[u32], starts: &[u32]) -> bool
 }
 
 // All of question 23 but the names on show. The listed names with their index, if it gets a yes.
-fn check_runs<'a>(
-    session: LentSession<'a>,
-    starts: &'a mut [u32],
-    index: &'a mut [u32],
-) -> Option<NameIndex<'a>>
-    requires { (length starts.old ≡ 1025) × (index.old ≡ replicate 2048 0) }
+fn check_runs<'a>(session: LentSession<'a>, space: NameSpace<'a>) -> Option<NameIndex<'a>>
     ensures { RunsChecked session.entry.words.now session.entry.bytes.now result }
 {
     if !session_rows::counts_fit(session) {
         return None;
     }
-    let list = session_names::read_names(session, starts, index)?;
+    let list = session_names::read_names(session, space)?;
     if !numbers_fit(session.words, list.listed.table) {
         return None;
     }
@@ -78,15 +74,10 @@ fn shown_fits(runs: SessionRuns<'_>) -> bool
 }
 
 // Question 23 of a session. Its listed names with their index, if it gets a yes.
-pub fn check_session<'a>(
-    session: LentSession<'a>,
-    starts: &'a mut [u32],
-    index: &'a mut [u32],
-) -> Option<NameIndex<'a>>
-    requires { (length starts.old ≡ 1025) × (index.old ≡ replicate 2048 0) }
+pub fn check_session<'a>(session: LentSession<'a>, space: NameSpace<'a>) -> Option<NameIndex<'a>>
     ensures { Checked session.entry.words.now session.entry.bytes.now result }
 {
-    let list = check_runs(session, starts, index)?;
+    let list = check_runs(session, space)?;
     let words = session.words;
     if !shown_fits(SessionRuns { words }) {
         return None;

@@ -1,7 +1,7 @@
 // The names of a session in its bytes: the fixed ones, and then the listed ones past question 2.
 #![tactic(auto)]
 
-ghost use Rattle.std.specs.Prelude.{◌≡◌, ◌≤◌, length, get_or, take, replicate};
+ghost use Rattle.std.specs.Prelude.{◌≡◌, ◌≤◌, length, get_or, take};
 ghost use Rattle.definition.specs.Names.{same_name};
 ghost use Rattle.session.specs.Words.{whole, fixed_bytes, name_bytes, session_names_fit};
 ghost use Rattle.session_names.specs.Listing.{Listing};
@@ -10,6 +10,9 @@ use name_index::NameIndex;
 use session::layout;
 use session::lent::LentSession;
 use session_rows::number_at;
+use space::NameSpace;
+
+pub mod space;
 
 // Do the bytes begin with the fixed names?
 fn is_fixed(bytes: &[u8]) -> bool
@@ -20,15 +23,12 @@ fn is_fixed(bytes: &[u8]) -> bool
 }
 
 // Are the names the fixed ones and then a list past question 2, of as many as the session says? The listed ones with their index, if so.
-pub fn read_names<'a>(
-    session: LentSession<'a>,
-    starts: &'a mut [u32],
-    index: &'a mut [u32],
-) -> Option<NameIndex<'a>>
-    requires { (get_or session.words.now 4 0 ≤ 32768) × (32936 ≤ length session.bytes.now) × (length starts.old ≡ 1025) × (index.old ≡ replicate 2048 0) }
+pub fn read_names<'a>(session: LentSession<'a>, space: NameSpace<'a>) -> Option<NameIndex<'a>>
+    requires { (get_or session.words.now 4 0 ≤ 32768) × (32936 ≤ length session.bytes.now) }
     ensures { Listing (session_names_fit whole session.entry.words.now session.entry.bytes.now)
         (name_bytes whole session.entry.words.now session.entry.bytes.now) result }
 {
+    let NameSpace { starts, index } = space;
     if !is_fixed(session.bytes) {
         return None;
     }

@@ -17,6 +17,7 @@ use names_shown::count_shown;
 use session::layout;
 use session::lent::LentSession;
 use session_check::check_session;
+use session_names::space::{NameSpace, PLACES, STARTS};
 use session_outside::runs::SessionRuns;
 use session_rows::{count, count_before, number_at};
 use words::{put_at, put_words, word_at};
@@ -25,9 +26,13 @@ use words::{put_at, put_words, word_at};
 fn ask_withdrawal(session: LentSession<'_>) -> Result<(), Question>
     ensures { no_of result ≡ withdraw_no whole session.entry.words.now session.entry.bytes.now }
 {
-    let mut table = [0u32; 1025];
-    let mut index = [0u32; 2048];
-    check_session(session, &mut table, &mut index).ok_or(Question::Session)?;
+    let mut starts = [0u32; STARTS];
+    let mut index = [0u32; PLACES];
+    let space = NameSpace {
+        starts: &mut starts,
+        index: &mut index,
+    };
+    check_session(session, space).ok_or(Question::Session)?;
     if word_at(session.words, layout::ENTRIES) == 0 {
         return Err(Question::EntryLeft);
     }

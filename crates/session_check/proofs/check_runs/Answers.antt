@@ -11,7 +11,7 @@ returns-then-not-counts_fit c =
 pub read_names-requires : goal.read_names-requires
 read_names-requires c =
     let sizes = room c.args.session.words.now c.args.session.bytes.now c.counts_fit.ensures (ap not c.if-not-counts_fit.false) in
-    (sizes.0, sizes.1, c.requires.0, c.requires.1)
+    (sizes.0, sizes.1)
 
 pub returns-in_err-list : goal.returns-in_err-list
 returns-in_err-list c =
