@@ -1,5 +1,6 @@
 // The codes of answer rows.
-ghost use Rattle.ast.specs.Code.{ReadsCode};
+ghost use Rattle.std.specs.Prelude.{◌≡◌};
+ghost use Rattle.ast.specs.Code.{ReadsCode, code_number};
 
 #[derive(Clone, Copy, Debug, PartialEq, Eq)]
 pub enum Code {
@@ -18,6 +19,14 @@ pub enum Code {
     ClassCounts = 22,
     Field = 23,
     Method = 24,
+}
+
+impl Code {
+    pub fn number(self) -> u32
+        ensures { result ≡ code_number self }
+    {
+        self as u32
+    }
 }
 
 // A number that is no code.

@@ -19,6 +19,7 @@ ghost use Rattle.enter_entry.specs.EnteredOver.{Enterable, kept_words, leaving, 
 use answer::Answer;
 use entry_classes::append_classes;
 use lay_over::append_laid;
+use lay_over::left::Left;
 use session::layout;
 use session_room::write_counts;
 use try_entry::{Tried, base_of, outside_names, try_over};
@@ -98,15 +99,12 @@ fn lay_down(
         answer.rows,
         base,
     );
-    append_laid(
-        words,
-        laid,
+    let left = Left {
         sheet,
         entries,
-        outside_names(outside),
-        env.count,
         base,
-    );
+    };
+    append_laid(words, laid, left, outside_names(outside), env.count);
     write_counts(words, answer.globals, tried.added);
 }
 

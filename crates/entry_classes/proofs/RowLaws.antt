@@ -2,7 +2,8 @@
 use mathlib.Core.Path.{◌≡◌, refl, ap, ◌∙◌}
 use mathlib.Core.List.{List, [], ◌∷◌}
 use mathlib.Core.Bool.{Bool, true, false, ◌||◌}
-use Prim.Native.Nat.{ℕ, ◌+◌, ◌*◌, ◌<◌}
+use Prim.Native.Nat.{ℕ, ◌+◌, ◌*◌, ◌<◌, ◌≤◌}
+use native.Mathlib.Omega.{arith}
 use lib.ListN.{length, get_or}
 use lib.Seq.{sets}
 use lib.Dec.{eqb, ltb, T}
@@ -14,7 +15,18 @@ use Rattle.definition.specs.Answer.{raised_class}
 use Rattle.definition.proofs.Lists.Tests.{true_of}
 use Rattle.machine.specs.Machine.{Store}
 use Rattle.after.specs.Inherited.{parent_in}
-use Rattle.entry_classes.specs.Told.{row_fits, tells_class, tells_member, method_told, told_member, told_class, member_in, class_in}
+use Rattle.entry_classes.specs.Told.{row_fits, tells_class, tells_member, method_told, told_member, told_class, member_in, class_in, part_words}
+use Rattle.entry_classes.specs.declared.Part.{Part}
+use Rattle.entry_classes.specs.declared.Part.TheVariants.{Members, Classes}
+
+-- how many words are written of a row, and of the rows passed
+pub part_few : (k : Part) → part_words k ≤ 5
+part_few Members = omega arith
+part_few Classes = omega arith
+
+pub passed_near : (k : Part) {i n : ℕ} → i < n → part_words k * i ≤ part_words k * n
+passed_near Members l = omega arith
+passed_near Classes l = omega arith
 
 -- the row of a sheet
 pub row_below : (x : List ℕ) → T (row_fits x) → get_or x 0 0 < 2048

@@ -1,5 +1,6 @@
 -- The words of a class and of a member in a session, as they are made of the answer row that tells it.
-use Rattle.std.specs.Prelude.{Bool, ◌||◌, List, [], ◌∷◌, ℕ, ◌+◌, get_or, eqb, ltb}
+use Rattle.std.specs.Prelude.{◌≡◌, Bool, ◌||◌, List, [], ◌∷◌, ℕ, ◌+◌, length, get_or, eqb, ltb}
+use Rattle.std.proofs.lemmas.List.Edits.{sets}
 use Rattle.definition.specs.Basics.{when◌then◌else◌}
 use Rattle.definition.specs.Sheet.{Sheet, a, rows}
 use Rattle.definition.specs.Outside.{Outside, Method}
@@ -9,6 +10,8 @@ use Rattle.machine.specs.Machine.{Store}
 use Rattle.after.specs.Inherited.{parent_in, methods_in}
 use Rattle.entry_classes.specs.declared.Class.{Class}
 use Rattle.entry_classes.specs.declared.Member.{Member}
+use Rattle.entry_classes.specs.declared.Part.{Part}
+use Rattle.entry_classes.specs.declared.Part.TheVariants.{Members, Classes}
 
 -- the words of a class and of a member as the program holds them
 abbrev pub class_of : Class → List ℕ
@@ -46,3 +49,17 @@ member_in O s o n x = when tells_member x then told_member O s o n x else []
 
 unfoldable pub class_in : Sheet → Store → ℕ → List ℕ → List ℕ
 class_in s o n x = when tells_class x then told_class s o n x else []
+
+-- the words of a part that answer row x tells, and how many they are at most
+abbrev pub part_in : Part → Outside → Sheet → Store → ℕ → List ℕ → List ℕ
+part_in Members O s o n x = member_in O s o n x
+part_in Classes O s o n x = class_in s o n x
+
+abbrev pub part_words : Part → ℕ
+part_words Members = 3
+part_words Classes = 5
+
+-- Words xs are written from a place of w on, which gives w', and k is how many they are.
+pub record IsPut (xs : List ℕ) (place : ℕ) (w : List ℕ) (k : ℕ) (w' : List ℕ) : Type 0 where
+  pub size : k ≡ length xs
+  pub put : w' ≡ sets w place xs

@@ -5,7 +5,7 @@
 ghost use Rattle.std.specs.Prelude.{◌≡◌, ◌||◌, List, ℕ, ◌+◌, ◌*◌, ◌<◌, ◌≤◌, eqb, T, length};
 ghost use Rattle.std.proofs.lemmas.List.Edits.{sets};
 ghost use Rattle.definition.specs.Basics.{all, bit, concat_map, total};
-ghost use Rattle.definition.specs.Sheet.{Sheet, rows as rows_of};
+ghost use Rattle.definition.specs.Sheet.{Sheet};
 ghost use Rattle.definition.specs.Outside.{Outside, based};
 ghost use Rattle.definition.specs.Scope.{history};
 ghost use Rattle.definition.specs.Answer.{answers, raised};
@@ -18,16 +18,19 @@ ghost use Rattle.walk.specs.Ended.{ended};
 ghost use Rattle.session.specs.Session.{member_count};
 ghost use Rattle.session.specs.Enter.{classes_by};
 ghost use Rattle.session.specs.Words.{class_words, member_words};
-ghost use Rattle.entry_classes.specs.Told.{class_of, member_of, row_fits, tells_class, tells_member, method_told, told_member, told_class, member_in, class_in};
+ghost use Rattle.entry_classes.specs.Told.{class_of, member_of, row_fits, tells_class, tells_member, method_told, told_member, told_class, member_in, class_in, part_words, part_in, IsPut};
 
 use ast::code::Code;
 use ast::{ClassId, FIRST_CLASS, column};
 use inherit::{find_method, parent_of};
 use raise::{raised_class, raised_function};
 use session::layout;
+use source::Source;
 use store::nodes::Store;
 use walk::ended::Ended;
 use words::{put_words, word};
+
+mod source;
 
 // A class: its number and name, its parent's number or 0, how many fields and methods it has.
 #[derive(Clone, Copy, Debug, PartialEq, Eq)]
@@ -68,6 +71,13 @@ pub struct Counted {
     pub members: usize,
 }
 
+// What is written of answer rows: the fields and methods that they tell, or the classes.
+#[derive(Clone, Copy)]
+pub enum Part {
+    Members,
+    Classes,
+}
+
 // Does an answer row of this code tell a field or a method?
 fn is_member(c: u32) -> bool
     ensures { result ≡ (eqb c 23 || eqb c 24) }
@@ -96,32 +106,26 @@ pub fn count_classes(out: &[u32], rows: usize) -> Counted
 
 // The method of a name that the class of a sheet row has, its own or inherited. Its function is raised from the number that the walk has: over base 0 the
 // answer rows are left as they are.
-fn method_of(
-    sheet: &[u32],
-    outside: &[u32],
-    results: &[u32],
-    row: u32,
-    name: u32,
-    base: u32,
-) -> Member
-    requires { (base ≤ 2048000) × (row < 2048) × (rows_of sheet.now ≤ 2048) }
+fn method_of(source: Source<'_>, row: u32, name: u32) -> Member
+    requires { row < 2048 }
     ensures { (o : Store) (nodes : List ℕ) → member_of result
-        ≡ method_told (over outside.now) sheet.now (store_of o results.now nodes) base row name }
+        ≡ method_told (over source.entry.outside.now) source.entry.sheet.now (store_of o source.entry.results.now nodes) source.entry.base row name }
 {
-    let found = find_method(sheet, outside, results, ClassId(FIRST_CLASS + row), name);
+    let class = ClassId(FIRST_CLASS + row);
+    let found = find_method(source.sheet, source.outside, source.results, class, name);
     let fun = found.fun;
     Member {
         name: name,
-        fun: raised_function(base, fun.0),
+        fun: raised_function(source.base, fun.0),
         params: found.params as u32,
     }
 }
 
 // The member that an answer row tells.
-fn member_of(sheet: &[u32], outside: &[u32], results: &[u32], row: &[u32], base: u32) -> Member
-    requires { (base ≤ 2048000) × (length row.now ≡ 8) × T (row_fits row.now) × (rows_of sheet.now ≤ 2048) }
+fn member_of(source: Source<'_>, row: &[u32]) -> Member
+    requires { (length row.now ≡ 8) × T (row_fits row.now) }
     ensures { (o : Store) (nodes : List ℕ) → member_of result
-        ≡ told_member (over outside.now) sheet.now (store_of o results.now nodes) base row.now }
+        ≡ told_member (over source.entry.outside.now) source.entry.sheet.now (store_of o source.entry.results.now nodes) source.entry.base row.now }
 {
     if row[CODE] == Code::Field as u32 {
         return Member {
@@ -130,22 +134,22 @@ fn member_of(sheet: &[u32], outside: &[u32], results: &[u32], row: &[u32], base:
             params: 0,
         };
     }
-    method_of(sheet, outside, results, row[ROW], row[FIRST], base)
+    method_of(source, row[ROW], row[FIRST])
 }
 
 // The class that an answer row tells. Its parent is raised from the number that the walk stored, as a method's function is.
-fn class_of(sheet: &[u32], results: &[u32], row: &[u32], base: u32) -> Class
-    requires { (base ≤ 2048000) × (length row.now ≡ 8) × T (row_fits row.now) }
+fn class_of(source: Source<'_>, row: &[u32]) -> Class
+    requires { (length row.now ≡ 8) × T (row_fits row.now) }
     ensures { (o : Store) (nodes : List ℕ) → class_of result
-        ≡ told_class sheet.now (store_of o results.now nodes) base row.now }
+        ≡ told_class source.entry.sheet.now (store_of o source.entry.results.now nodes) source.entry.base row.now }
 {
     let r = row[ROW];
     let c = ClassId(FIRST_CLASS + r);
-    let parent = parent_of(sheet, results, c);
+    let parent = parent_of(source.sheet, source.results, c);
     Class {
-        number: raised_class(base, c.0),
-        name: word(sheet, r, column::A),
-        parent: raised_class(base, parent.0),
+        number: raised_class(source.base, c.0),
+        name: word(source.sheet, r, column::A),
+        parent: raised_class(source.base, parent.0),
         fields: row[FIELDS],
         methods: row[METHODS],
     }
@@ -172,95 +176,69 @@ fn put_class(words: &mut [u32], place: usize, c: Class)
 }
 
 // Writes the member that an answer row tells, if it tells one, and answers how many words that are.
-fn append_member(
-    words: &mut [u32],
-    place: usize,
-    sheet: &[u32],
-    outside: &[u32],
-    results: &[u32],
-    row: &[u32],
-    base: u32,
-) -> usize
-    requires { (place ≤ 4611686018427387904) × (base ≤ 2048000) × (length row.now ≡ 8) × T (row_fits row.now) × (rows_of sheet.now ≤ 2048) }
+fn append_member(words: &mut [u32], place: usize, source: Source<'_>, row: &[u32]) -> usize
+    requires { (place ≤ 4611686018427387904) × (length row.now ≡ 8) × T (row_fits row.now) }
     ensures { (result ≡ 3 * bit (tells_member row.now))
         × ((o : Store) (nodes : List ℕ) → words.new ≡ sets words.old place
-        (member_in (over outside.now) sheet.now (store_of o results.now nodes) base row.now)) }
+        (member_in (over source.entry.outside.now) source.entry.sheet.now (store_of o source.entry.results.now nodes) source.entry.base row.now)) }
 {
     if !is_member(row[CODE]) {
         return 0;
     }
-    put_member(words, place, member_of(sheet, outside, results, row, base));
+    put_member(words, place, member_of(source, row));
     layout::MEMBER_WORDS
 }
 
 // Writes the class that an answer row tells, if it tells one, and answers how many words that are.
-fn append_class(
-    words: &mut [u32],
-    place: usize,
-    sheet: &[u32],
-    results: &[u32],
-    row: &[u32],
-    base: u32,
-) -> usize
-    requires { (place ≤ 4611686018427387904) × (base ≤ 2048000) × (length row.now ≡ 8) × T (row_fits row.now) }
+fn append_class(words: &mut [u32], place: usize, source: Source<'_>, row: &[u32]) -> usize
+    requires { (place ≤ 4611686018427387904) × (length row.now ≡ 8) × T (row_fits row.now) }
     ensures { (result ≡ 5 * bit (tells_class row.now))
         × ((o : Store) (nodes : List ℕ) → words.new ≡ sets words.old place
-        (class_in sheet.now (store_of o results.now nodes) base row.now)) }
+        (class_in source.entry.sheet.now (store_of o source.entry.results.now nodes) source.entry.base row.now)) }
 {
     if row[CODE] != Code::ClassCounts as u32 {
         return 0;
     }
-    put_class(words, place, class_of(sheet, results, row, base));
+    put_class(words, place, class_of(source, row));
     layout::CLASS_WORDS
 }
 
-// Writes the members that answer rows tell, one after another from a place on.
-fn append_members(
+// Writes what an answer row tells of a part, and answers how many words that are.
+fn append_row(
     words: &mut [u32],
     place: usize,
-    sheet: &[u32],
-    outside: &[u32],
-    results: &[u32],
-    out: &[u32],
-    rows: usize,
-    base: u32,
-)
-    requires { (place + 3 * rows ≤ 4611686018427387904) × (base ≤ 2048000) × (8 * rows ≤ length out.now) × T (all row_fits (rows_of_words rows out.now))
-        × (rows_of sheet.now ≤ 2048) }
-    ensures { (o : Store) (nodes : List ℕ) → words.new ≡ sets words.old place
-        (concat_map (member_in (over outside.now) sheet.now (store_of o results.now nodes) base) (rows_of_words rows out.now)) }
+    part: Part,
+    source: Source<'_>,
+    row: &[u32],
+) -> usize
+    requires { (place ≤ 4611686018427387904) × (length row.now ≡ 8) × T (row_fits row.now) }
+    ensures { (result ≤ part_words part)
+        × ((o : Store) (nodes : List ℕ) → IsPut (part_in part (over source.entry.outside.now) source.entry.sheet.now
+        (store_of o source.entry.results.now nodes) source.entry.base row.now) place words.old result words.new) }
 {
-    let mut p = place;
-    for i in 0..rows {
-        p += append_member(
-            words,
-            p,
-            sheet,
-            outside,
-            results,
-            &out[8 * i..8 * i + 8],
-            base,
-        );
+    match part {
+        Part::Members => append_member(words, place, source, row),
+        Part::Classes => append_class(words, place, source, row),
     }
 }
 
-// Writes the classes that answer rows tell, one after another from a place on.
-fn append_heads(
+// Writes what answer rows tell of a part, one after another from a place on.
+fn append_part(
     words: &mut [u32],
     place: usize,
-    sheet: &[u32],
-    results: &[u32],
+    part: Part,
+    source: Source<'_>,
     out: &[u32],
     rows: usize,
-    base: u32,
 )
-    requires { (place + 5 * rows ≤ 4611686018427387904) × (base ≤ 2048000) × (8 * rows ≤ length out.now) × T (all row_fits (rows_of_words rows out.now)) }
+    requires { (place + part_words part * rows ≤ 4611686018427387904) × (8 * rows ≤ length out.now) × T (all row_fits (rows_of_words rows out.now)) }
     ensures { (o : Store) (nodes : List ℕ) → words.new ≡ sets words.old place
-        (concat_map (class_in sheet.now (store_of o results.now nodes) base) (rows_of_words rows out.now)) }
+        (concat_map (part_in part (over source.entry.outside.now) source.entry.sheet.now (store_of o source.entry.results.now nodes) source.entry.base)
+        (rows_of_words rows out.now)) }
 {
     let mut p = place;
     for i in 0..rows {
-        p += append_class(words, p, sheet, results, &out[8 * i..8 * i + 8], base);
+        p += append_row(words, p, part, source, &out[8 * i..8 * i + 8]);
     }
 }
 
@@ -286,6 +264,12 @@ pub fn append_classes(
         ≡ sets (sets words.old members (concat_map member_words (classes_by (based (over outside.now) base) sheet.now)))
         classes (concat_map class_words (classes_by (based (over outside.now) base) sheet.now)) }
 {
-    append_members(words, members, sheet, outside, results, out, rows, base);
-    append_heads(words, classes, sheet, results, out, rows, base);
+    let source = Source {
+        sheet,
+        outside,
+        results,
+        base,
+    };
+    append_part(words, members, Part::Members, source, out, rows);
+    append_part(words, classes, Part::Classes, source, out, rows);
 }

@@ -3,7 +3,7 @@
 
 ghost use Rattle.std.specs.Prelude.{◌≡◌, ℕ, ◌+◌, ◌-◌, ◌≤◌, eqb, length};
 ghost use Rattle.std.proofs.lemmas.List.Edits.{sets};
-ghost use Rattle.definition.specs.Basics.{bit, concat_map};
+ghost use Rattle.definition.specs.Basics.{concat_map};
 ghost use Rattle.definition.specs.Meaning.{named};
 ghost use Rattle.definition.specs.Sheet.{Sheet, b};
 ghost use Rattle.machine.specs.Machine.{entry_word};
@@ -13,64 +13,67 @@ ghost use Rattle.lay_over.specs.LaidWords.{laid_of};
 
 use ast::code::Code;
 use ast::{column, flag};
+use left::Left;
 use raise::{raised_class, raised_function};
 use symbols::env::entry_word;
 use symbols::{entry, tag};
 use words::{put_words, word};
 
+pub mod left;
+
 // A declaration laid over: its name, the code of what it means, the number of that, 1 if it is mutable.
 #[derive(Clone, Copy, Debug, PartialEq, Eq)]
 pub struct Laid {
     pub name: u32,
-    pub code: u32,
+    pub code: Code,
     pub number: u32,
     pub mutable: u32,
 }
 
-// 1 if the let of a row is mutable.
-fn mutable_let(sheet: &[u32], row: u32) -> u32
-    ensures { result ≡ bit (eqb (b sheet.now row) 1) }
+// Is the let of a row mutable?
+fn is_mutable(sheet: &[u32], row: u32) -> bool
+    ensures { result ≡ eqb (b sheet.now row) 1 }
 {
-    (word(sheet, row, column::B) == flag::MUTABLE) as u32
+    word(sheet, row, column::B) == flag::MUTABLE
 }
 
 // What open entry `i`, which is no mark, means to later entries.
-fn left_at(sheet: &[u32], entries: &[u32], i: u32, base: u32) -> Laid
-    requires { base ≤ 2048000 }
-    ensures { laid_of result ≡ laid_words (named (entry_word entries.now i 1)
-        (left_by sheet.now base (entry_word entries.now i 0) (entry_word entries.now i 2) (entry_word entries.now i 3))) }
+fn left_at(left: Left<'_>, i: u32) -> Laid
+    ensures { laid_of result ≡ laid_words (named (entry_word left.entry.entries.now i 1)
+        (left_by left.entry.sheet.now left.entry.base (entry_word left.entry.entries.now i 0)
+        (entry_word left.entry.entries.now i 2) (entry_word left.entry.entries.now i 3))) }
 {
-    let name = entry_word(entries, i, entry::NAME);
-    let first = entry_word(entries, i, entry::FIRST);
-    let second = entry_word(entries, i, entry::SECOND);
-    match entry_word(entries, i, entry::TAG) {
+    let name = entry_word(left.entries, i, entry::NAME);
+    let first = entry_word(left.entries, i, entry::FIRST);
+    let second = entry_word(left.entries, i, entry::SECOND);
+    match entry_word(left.entries, i, entry::TAG) {
         tag::FUN => Laid {
             name: name,
-            code: Code::Fun as u32,
-            number: raised_function(base, first),
+            code: Code::Fun,
+            number: raised_function(left.base, first),
             mutable: 0,
         },
         tag::CLASS => Laid {
             name: name,
-            code: Code::Class as u32,
-            number: raised_class(base, first),
+            code: Code::Class,
+            number: raised_class(left.base, first),
             mutable: 0,
         },
         tag::GLOBAL => Laid {
             name: name,
-            code: Code::Global as u32,
+            code: Code::Global,
             number: first,
             mutable: second,
         },
         tag::TOPLEVEL => Laid {
             name: name,
-            code: Code::Global as u32,
+            code: Code::Global,
             number: second,
-            mutable: mutable_let(sheet, first),
+            mutable: is_mutable(left.sheet, first) as u32,
         },
         _ => Laid {
             name: name,
-            code: Code::Nothing as u32,
+            code: Code::Nothing,
             number: 0,
             mutable: 0,
         },
@@ -82,7 +85,11 @@ fn put_laid(words: &mut [u32], place: usize, d: Laid)
     requires { place ≤ 34359738368 }
     ensures { words.new ≡ sets words.old place (laid_of d) }
 {
-    put_words(words, place, &[d.name, d.code, d.number, d.mutable]);
+    put_words(
+        words,
+        place,
+        &[d.name, d.code.number(), d.number, d.mutable],
+    );
 }
 
 // How many declarations open entry `i` leaves: none, if it is a mark.
@@ -104,41 +111,26 @@ pub fn count_laid(entries: &[u32], first: u32, end: u32) -> u32
 }
 
 // Writes what open entry `i` leaves, and answers how many words that are.
-fn put_left(
-    words: &mut [u32],
-    place: usize,
-    sheet: &[u32],
-    entries: &[u32],
-    i: u32,
-    base: u32,
-) -> usize
-    requires { (base ≤ 2048000) × (place ≤ 34359738368) }
-    ensures { (words.new ≡ sets words.old place (concat_map laid_words (left_in sheet.now base entries.now i)))
-        × (result ≡ length (concat_map laid_words (left_in sheet.now base entries.now i))) }
+fn put_left(words: &mut [u32], place: usize, left: Left<'_>, i: u32) -> usize
+    requires { place ≤ 34359738368 }
+    ensures { (words.new ≡ sets words.old place (concat_map laid_words (left_in left.entry.sheet.now left.entry.base left.entry.entries.now i)))
+        × (result ≡ length (concat_map laid_words (left_in left.entry.sheet.now left.entry.base left.entry.entries.now i))) }
 {
-    if entry_word(entries, i, entry::TAG) <= tag::SCOPE {
+    if entry_word(left.entries, i, entry::TAG) <= tag::SCOPE {
         return 0;
     }
-    put_laid(words, place, left_at(sheet, entries, i, base));
+    put_laid(words, place, left_at(left, i));
     4
 }
 
 // Writes what the open entries from `first` to `end` leave, one declaration after another from a place on.
-pub fn append_laid(
-    words: &mut [u32],
-    place: usize,
-    sheet: &[u32],
-    entries: &[u32],
-    first: u32,
-    end: u32,
-    base: u32,
-)
-    requires { (base ≤ 2048000) × (place ≤ 65536) }
+pub fn append_laid(words: &mut [u32], place: usize, left: Left<'_>, first: u32, end: u32)
+    requires { place ≤ 65536 }
     ensures { words.new
-        ≡ sets words.old place (concat_map laid_words (left_from sheet.now base entries.now first (end - first))) }
+        ≡ sets words.old place (concat_map laid_words (left_from left.entry.sheet.now left.entry.base left.entry.entries.now first (end - first))) }
 {
     let mut p = place;
     for i in first..end {
-        p += put_left(words, p, sheet, entries, i, base);
+        p += put_left(words, p, left, i);
     }
 }

@@ -13,8 +13,11 @@ use ast::name;
 use ast::question::Question;
 use entry_names::{entry_sheet, number_names};
 use entry_ready::ask_entry;
+use session::lent::LentSession;
 use session_check::check_session;
+use session_names::space::{NameSpace, PLACES, STARTS};
 use session_outside::outside_words;
+use session_outside::runs::SessionRuns;
 
 // The words of what a small session is to an entry: what is entered or previewed chooses its scratch space by them, and by its sheet.
 pub const SMALL_OUTSIDE: usize = 2048;
@@ -45,21 +48,24 @@ fn refused(no: u32) -> Prepared
 
 // Asks session and entry what is asked before the walk, in the order of document 02, and tells the entry's names by the session's numbers.
 pub fn prepare(
-    words: &[u32],
-    bytes: &[u8],
+    session: LentSession<'_>,
     sheet: &[u32],
     names: &[u8],
     numbers: &mut [u32],
 ) -> Prepared
     requires { 1024 ≤ length numbers.old }
-    ensures { PreparedFor words.now bytes.now sheet.now names.now result numbers.new }
+    ensures { PreparedFor session.entry.words.now session.entry.bytes.now sheet.now names.now result numbers.new }
 {
-    let mut table = [0u32; 1025];
-    let mut index = [0u32; 2048];
-    let Some(list) = check_session(words, bytes, &mut table, &mut index) else {
+    let mut starts = [0u32; STARTS];
+    let mut index = [0u32; PLACES];
+    let space = NameSpace {
+        starts: &mut starts,
+        index: &mut index,
+    };
+    let Some(list) = check_session(session, space) else {
         return refused(Question::Session.number());
     };
-    if let Err(no) = ask_entry(words, sheet, names) {
+    if let Err(no) = ask_entry(session.words, sheet, names) {
         return refused(no.number());
     }
     let told = number_names(list, names, numbers);
@@ -84,6 +90,6 @@ pub fn write_entry(
         × (rows_fit sheet.now ≡ true) × (length copy.old ≡ length sheet.now) }
     ensures { Written words.now sheet.now numbers.now outside.new copy.new }
 {
-    outside_words(words, outside);
+    outside_words(SessionRuns { words }, outside);
     entry_sheet(sheet, numbers, copy);
 }

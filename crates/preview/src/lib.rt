@@ -12,6 +12,7 @@ ghost use Rattle.preview.specs.Previewed.{AskedTold, Previewed};
 use answer::{Answer, refuse};
 use entry_names::entry_number;
 use prepare_entry::{Prepared, SMALL_OUTSIDE, prepare, write_entry};
+use session::lent::LentSession;
 use session_outside::outside_size;
 use try_entry::try_over;
 use walk_space::is_small;
@@ -166,7 +167,8 @@ pub fn preview(words: &[u32], bytes: &[u8], sheet: &[u32], names: &[u8], out: &m
         out.new }
 {
     let mut numbers = [0u32; 1024];
-    let entry = prepare(words, bytes, sheet, names, &mut numbers);
+    let session = LentSession { words, bytes };
+    let entry = prepare(session, sheet, names, &mut numbers);
     if entry.no != 0 {
         return refuse(entry.no, out);
     }

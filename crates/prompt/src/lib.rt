@@ -13,6 +13,8 @@ use entry_space::enter_sheet;
 use names_shown::count_shown;
 use prepare_entry::{Prepared, prepare};
 use session::layout;
+use session::lent::LentSession;
+use session_outside::runs::SessionRuns;
 use words::{put_at, word_at};
 
 // An entry that is prepared, its names told by the session's numbers.
@@ -37,7 +39,8 @@ fn enter_told(
         return answer;
     }
     append_names(names, numbers, entry.first, bytes, at);
-    put_at(words, layout::SHOWN, count_shown(words));
+    let shown = count_shown(SessionRuns { words });
+    put_at(words, layout::SHOWN, shown);
     answer
 }
 
@@ -54,7 +57,8 @@ pub fn enter(
         words.new bytes.new }
 {
     let mut numbers = [0u32; 1024];
-    let entry = prepare(words, bytes, sheet, names, &mut numbers);
+    let session = LentSession { words, bytes };
+    let entry = prepare(session, sheet, names, &mut numbers);
     if entry.no != 0 {
         return refuse(entry.no, out);
     }

@@ -1,5 +1,5 @@
 // How a session is laid out (specs/Words.antt): eight counts, then the rows of entries, declarations, classes and members, with room for as many as there may be.
-use ast::limit;
+use ast::{limit, name};
 
 // The counts.
 pub const GLOBALS: usize = 0;
@@ -90,3 +90,6 @@ pub const BYTES: usize = FIXED_BYTES + limit::LIST_BYTES;
 
 // Functions and classes of an entry have numbers that much above those of the entry before it.
 pub const ENTRY_NUMBERS: usize = 2048;
+
+// A mark for each name number, fixed or listed, and for 0.
+pub const MARKS: usize = name::LAST_FIXED + limit::NAMES + 1;

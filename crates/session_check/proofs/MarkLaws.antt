@@ -160,6 +160,3 @@ zeros_under n = record { each = λ i. omega (arith, zero_at n i) }
     zero_at zero i = refl
     zero_at (suc n) zero = refl
     zero_at (suc n) (suc i) = zero_at n i
-
-pub zeros_many : (n : ℕ) {k : ℕ} → k < n → k < length {A = ℕ} (replicate n 0)
-zeros_many n l = rw (length-replicate {A = ℕ} n 0) l

@@ -5,9 +5,9 @@ ghost use Rattle.definition.specs.Basics.{concat_map, from};
 ghost use Rattle.definition.specs.Outside.{core};
 ghost use Rattle.session.specs.Words.{whole, member_place};
 ghost use Rattle.session_outside.specs.Written.{method_words, member_run, records_from, earlier_method_in};
-ghost use Rattle.session_outside.specs.Readable.{Readable};
 
 use crate::layout;
+use crate::runs::SessionRuns;
 use words::{entry_at, put_entry, put_words};
 
 // The fields of the core's records, by name number.
@@ -52,20 +52,20 @@ fn copy_methods(session: &[u32], first: u32, count: u32, at: u32, out: &mut [u32
 }
 
 // Writes the members of all classes, one class's after another's. Answers the place after them.
-fn class_members(session: &[u32], start: u32, out: &mut [u32]) -> u32
-    requires { (Readable session.now) × (start ≤ 65536) }
+fn class_members(runs: SessionRuns<'_>, start: u32, out: &mut [u32]) -> u32
+    requires { start ≤ 65536 }
     ensures { (result ≤ start + 24576) × (sets out.new result (concat_map member_run core.records)
-        ≡ sets out.old start (concat_map member_run (records_from session.now 0))) }
+        ≡ sets out.old start (concat_map member_run (records_from runs.entry.words.now 0))) }
 {
-    let classes = entry_at(session, layout::CLASS_COUNT);
+    let classes = entry_at(runs.words, layout::CLASS_COUNT);
     let mut at = start;
     let mut member: u32 = 0;
     for i in 0..classes {
         let p = layout::CLASSES + layout::CLASS_WORDS * i;
-        let fields = entry_at(session, p + layout::FIELDS);
-        let methods = entry_at(session, p + layout::METHODS);
-        copy_fields(session, member, fields, at, out);
-        copy_methods(session, member + fields, methods, at + fields, out);
+        let fields = entry_at(runs.words, p + layout::FIELDS);
+        let methods = entry_at(runs.words, p + layout::METHODS);
+        copy_fields(runs.words, member, fields, at, out);
+        copy_methods(runs.words, member + fields, methods, at + fields, out);
         member += fields + methods;
         at += fields + 3 * methods;
     }
@@ -81,9 +81,9 @@ fn core_fields(at: u32, out: &mut [u32])
 }
 
 // Writes the members of all records from `start` on.
-pub fn member_runs(session: &[u32], start: u32, out: &mut [u32])
-    requires { (Readable session.now) × (start ≤ 65536) }
-    ensures { out.new ≡ sets out.old start (concat_map member_run (records_from session.now 0)) }
+pub fn member_runs(runs: SessionRuns<'_>, start: u32, out: &mut [u32])
+    requires { start ≤ 65536 }
+    ensures { out.new ≡ sets out.old start (concat_map member_run (records_from runs.entry.words.now 0)) }
 {
-    core_fields(class_members(session, start, out), out);
+    core_fields(class_members(runs, start, out), out);
 }

@@ -7,20 +7,18 @@ ghost use Rattle.definition.specs.Outside.{core};
 ghost use Rattle.session.specs.Session.{past_rows};
 ghost use Rattle.session.specs.Words.{whole, laid_place, laid_in};
 ghost use Rattle.session_outside.specs.Written.{name_row, seen, name_rows, names_below, visible_names, core_name};
-ghost use Rattle.session_outside.specs.Readable.{Readable};
 ghost use Rattle.session_outside.specs.Told.{told};
 
 use crate::layout;
+use crate::runs::SessionRuns;
 use crate::rows::put_row;
 use ast::code::Code;
 use ast::{
     ARRAY_ID, AUDIO_DATA_ID, AUDIO_NEEDED_ID, BYTEARRAY_ID, DICT_ID, FIRST_CLASS, FLOAT64_ID,
     INT64_ID, STRING_ID, UIEVENT_ID,
 };
+use session::layout::MARKS;
 use words::{entry_at, put_entry};
-
-// A mark for each name number, 0 to 24 + 1,024.
-const MARKS: usize = 1049;
 
 // The classes of names 1 to 9.
 const CORE_CLASSES: [u32; 9] = [
@@ -39,7 +37,7 @@ const CORE_CLASSES: [u32; 9] = [
 #[derive(Clone, Copy, Debug, PartialEq, Eq)]
 struct SeenName {
     name: u32,
-    code: u32,
+    code: Code,
     number: u32,
     mutable: u32,
 }
@@ -57,35 +55,35 @@ fn earlier_class(c: u32) -> u32
 }
 
 // Declaration `i`.
-fn declared_name(session: &[u32], i: u32) -> SeenName
-    requires { (i < 4096) × (get_or session.now (laid_place whole i + 2) 0 < 4294965248) }
-    ensures { told result ≡ name_row (seen (laid_in whole session.now [] i)) }
+fn declared_name(runs: SessionRuns<'_>, i: u32) -> SeenName
+    requires { i < get_or runs.words.now 5 0 }
+    ensures { told result ≡ name_row (seen (laid_in whole runs.entry.words.now [] i)) }
 {
     let p = layout::LAID + layout::LAID_WORDS * i;
-    let name = entry_at(session, p);
-    let number = entry_at(session, p + layout::NUMBER);
-    let code = entry_at(session, p + layout::CODE);
+    let name = entry_at(runs.words, p);
+    let number = entry_at(runs.words, p + layout::NUMBER);
+    let code = entry_at(runs.words, p + layout::CODE);
     // By number: any other code is a global's, and one that is no code too.
     if code == Code::Fun as u32 {
         SeenName {
             name: name,
-            code: Code::Fun as u32,
+            code: Code::Fun,
             number: number + layout::PAST_ROWS,
             mutable: 0,
         }
     } else if code == Code::Class as u32 {
         SeenName {
             name: name,
-            code: Code::Class as u32,
+            code: Code::Class,
             number: earlier_class(number),
             mutable: 0,
         }
     } else {
         SeenName {
             name: name,
-            code: Code::Global as u32,
+            code: Code::Global,
             number: number,
-            mutable: entry_at(session, p + layout::MUTABLE),
+            mutable: entry_at(runs.words, p + layout::MUTABLE),
         }
     }
 }
@@ -97,7 +95,7 @@ fn core_name(i: u32) -> SeenName
 {
     SeenName {
         name: i + 1,
-        code: Code::Class as u32,
+        code: Code::Class,
         number: CORE_CLASSES[i as usize],
         mutable: 0,
     }
@@ -113,19 +111,22 @@ fn lay_name(x: SeenName, row: u32, marks: &mut [u32], out: &mut [u32]) -> u32
         return row;
     }
     put_entry(marks, x.name, 1);
-    put_row(out, row, x.name, x.code, x.number, x.mutable, 0, 0);
+    put_row(
+        out,
+        row,
+        [x.name, x.code.number(), x.number, x.mutable, 0, 0, 0, 0],
+    );
     row + 1
 }
 
 // Lays the declarations, the latest first, from row 1 on.
-fn lay_declared(session: &[u32], marks: &mut [u32], out: &mut [u32]) -> u32
-    requires { Readable session.now }
+fn lay_declared(runs: SessionRuns<'_>, marks: &mut [u32], out: &mut [u32]) -> u32
     ensures { (result ≤ 4097) × (name_rows result marks.new out.new core.names
-        ≡ name_rows 1 marks.old out.old (names_below session.now (get_or session.now 5 0))) }
+        ≡ name_rows 1 marks.old out.old (names_below runs.entry.words.now (get_or runs.entry.words.now 5 0))) }
 {
     let mut row: u32 = 1;
-    for i in (0..entry_at(session, layout::LAID_COUNT)).rev() {
-        row = lay_name(declared_name(session, i), row, marks, out);
+    for i in (0..entry_at(runs.words, layout::LAID_COUNT)).rev() {
+        row = lay_name(declared_name(runs, i), row, marks, out);
     }
     row
 }
@@ -143,20 +144,19 @@ fn lay_core(first: u32, marks: &mut [u32], out: &mut [u32]) -> u32
 }
 
 // The rows of all names, with lent marks.
-fn lay_names(session: &[u32], marks: &mut [u32], out: &mut [u32]) -> u32
-    requires { (Readable session.now) × (marks.old ≡ replicate 1049 0) }
-    ensures { (result ≡ suc (length (visible_names session.now)))
-        × (out.new ≡ sets out.old 8 (concat_map name_row (visible_names session.now))) }
+fn lay_names(runs: SessionRuns<'_>, marks: &mut [u32], out: &mut [u32]) -> u32
+    requires { marks.old ≡ replicate 1049 0 }
+    ensures { (result ≡ suc (length (visible_names runs.entry.words.now)))
+        × (out.new ≡ sets out.old 8 (concat_map name_row (visible_names runs.entry.words.now))) }
 {
-    lay_core(lay_declared(session, marks, out), marks, out)
+    lay_core(lay_declared(runs, marks, out), marks, out)
 }
 
 // Writes the rows of the visible names from row 1 on. Answers the next row.
-pub fn name_rows(session: &[u32], out: &mut [u32]) -> u32
-    requires { Readable session.now }
-    ensures { (result ≡ suc (length (visible_names session.now)))
-        × (out.new ≡ sets out.old 8 (concat_map name_row (visible_names session.now))) }
+pub fn name_rows(runs: SessionRuns<'_>, out: &mut [u32]) -> u32
+    ensures { (result ≡ suc (length (visible_names runs.entry.words.now)))
+        × (out.new ≡ sets out.old 8 (concat_map name_row (visible_names runs.entry.words.now))) }
 {
     let mut marks = [0u32; MARKS];
-    lay_names(session, &mut marks, out)
+    lay_names(runs, &mut marks, out)
 }

@@ -2,13 +2,14 @@
 // finds a class by halving, since the numbers asked about here rise.
 #![tactic(auto)]
 
-ghost use Rattle.std.specs.Prelude.{◌≡◌, ◌&&◌, List, [], ℕ, suc, ◌/◌, ◌^◌, ◌<◌, ◌≤◌, eqb, leb, length, get_or};
+ghost use Rattle.std.specs.Prelude.{◌≡◌, ◌&&◌, [], suc, ◌/◌, ◌^◌, ◌<◌, ◌≤◌, eqb, leb, get_or};
 ghost use Rattle.session.specs.Words.{whole, counts_fit, is_function_up_to};
 ghost use Rattle.session_rows.specs.Rows.{five_right, after, count_rises, counts_rise, row_right, rows_right, last_right};
 ghost use Rattle.session_rows.specs.Rows.{number_of, number_rises, numbers_rise, all_rise, order_right};
 
 use ast::limit;
 use session::layout;
+use session::lent::LentSession;
 
 pub mod count;
 
@@ -36,16 +37,17 @@ fn five_fit(words: &[u32]) -> bool
     (0..layout::ENTRY_WORDS).all(|c| is_within(words, layout::COUNTS + c, layout::MOST[c]))
 }
 
-// Is no count over its limit, and is there room for all? `bytes` is how many bytes are lent.
+// Is no count over its limit, and is there room for all?
 #[tactic(auto, using(crate::proofs::OrderLaws::counts_split))]
-pub fn counts_fit(words: &[u32], bytes: usize) -> bool
-    ensures { (n : List ℕ) → length n ≡ bytes → result ≡ counts_fit whole words.now n }
+pub fn counts_fit(session: LentSession<'_>) -> bool
+    ensures { result ≡ counts_fit whole session.entry.words.now session.entry.bytes.now }
 {
+    let words = session.words;
     is_within(words, layout::GLOBALS, layout::MOST_GLOBALS)
         && is_within(words, layout::ENTRIES, layout::MOST_ENTRIES)
         && five_fit(words)
         && layout::WORDS <= words.len()
-        && layout::BYTES <= bytes
+        && layout::BYTES <= session.bytes.len()
 }
 
 // Count c in the row of entry e.

@@ -8,6 +8,11 @@ use lib.ListN.{length, get_or, set}
 use lib.Seq.{sets}
 use lib.Dec.{eqb, T, leb→le}
 use borrow.Author.Tests.{ne_eqb, eqb-false}
+use Rattle.std.specs.Prelude.{Option, Some, None, Result, Ok, Err}
+use Rattle.std.specs.Option.{ok_or}
+use Rattle.ast.specs.declared.question.Question.{Question}
+use Rattle.ast.specs.Question.{question_number}
+use Rattle.ast.proofs.QuestionLaws.{question_none}
 use Rattle.definition.specs.Basics.{when◌then◌else◌}
 use Rattle.definition.specs.Outcome.{refused}
 use Rattle.definition.proofs.Lists.Tests.{T_true, pick}
@@ -26,6 +31,18 @@ use Rattle.session_outside.specs.Readable.{Readable}
 use Rattle.session_outside.proofs.WholeLaws.{names_shown_lem}
 use Rattle.session_outside.proofs.ReadableLaws.{runs_readable}
 use Rattle.withdrawal.specs.Withdrawn.{Withdrawn}
+
+-- the question in place of what is not there
+pub no_found : {A : Type 0} (r : Option A) (q p : Question) → ◌≡◌ {A = Result A Question} (Err p) (ok_or r q) → question_number p ≡ question_number q
+no_found {A} r q p e = go r (ap told e)
+  where
+    told : Result A Question → ℕ
+    told (Ok x) = 0
+    told (Err k) = question_number k
+
+    go : (r : Option A) → question_number p ≡ told (ok_or r q) → question_number p ≡ question_number q
+    go None f = f
+    go (Some x) f = absurd (question_none p f)
 
 module _ (w n : List ℕ) where
   -- the question, by whether the session passes 23 and has an entry
@@ -62,13 +79,10 @@ module _ (w n : List ℕ) where
       ne_zero k f = omega (arith, f)
 
   -- the answer x and the words w', by what is told and written
-  pub withdrawn_by : (x : Answer) {w' : List ℕ} {k : ℕ} → k ≡ withdraw_no whole w n → x ≡ record { number = k; pos = record { 0 = 0 }; name = 0; rows = 0; globals = 0 }
-      → w' ≡ withdraw_words whole w n → Withdrawn w n x w'
+  pub withdrawn_by : (x : Answer) {w' : List ℕ} {k : ℕ} → k ≡ withdraw_no whole w n → Tells (refused k) x → w' ≡ withdraw_words whole w n → Withdrawn w n x w'
   withdrawn_by x {w'} {k} e told s =
       record {
-        tells =
-            subst (Tells (refused (withdraw_no whole w n))) (sym told)
-            (record { number = e; file = file_none; line = line_none; column = column_none; name = refl; rows = refl; globals = refl });
+        tells = subst (λ (j : ℕ). Tells (refused j) x) e told;
         session = s;
         fits = λ h. ap (λ (v : List ℕ). session_fits whole v n) s ∙ withdraw_fits whole w n h;
         held = λ h. ap (λ (v : List ℕ). session_in whole v n) s ∙ withdraw_held whole w n h;

@@ -3,32 +3,40 @@
 #![tactic(auto)]
 
 ghost use Rattle.std.specs.Prelude.{◌≡◌, [], ◌<◌, ◌≤◌, get_or};
+ghost use Rattle.ast.specs.Question.{no_of};
+ghost use Rattle.definition.specs.Outcome.{refused};
+ghost use Rattle.answer.specs.Tells.{Tells};
 ghost use Rattle.session.specs.Words.{whole};
 ghost use Rattle.session.specs.Withdraw.{words_without, withdraw_no};
 ghost use Rattle.withdrawal.specs.Withdrawn.{Withdrawn};
 
 use answer::Answer;
-use ast::question;
+use ast::question::Question;
 use lexer::SrcPos;
 use names_shown::count_shown;
 use session::layout;
+use session::lent::LentSession;
 use session_check::check_session;
+use session_names::space::{NameSpace, PLACES, STARTS};
+use session_outside::runs::SessionRuns;
 use session_rows::{count, count_before, number_at};
 use words::{put_at, put_words, word_at};
 
-// The question that gets a no, or 0.
-fn ask_withdrawal(words: &[u32], bytes: &[u8]) -> u32
-    ensures { result ≡ withdraw_no whole words.now bytes.now }
+// The questions of a withdrawal; the error is the first that gets a no.
+fn ask_withdrawal(session: LentSession<'_>) -> Result<(), Question>
+    ensures { no_of result ≡ withdraw_no whole session.entry.words.now session.entry.bytes.now }
 {
-    let mut table = [0u32; 1025];
-    let mut index = [0u32; 2048];
-    if check_session(words, bytes, &mut table, &mut index).is_none() {
-        return question::SESSION;
+    let mut starts = [0u32; STARTS];
+    let mut index = [0u32; PLACES];
+    let space = NameSpace {
+        starts: &mut starts,
+        index: &mut index,
+    };
+    check_session(session, space).ok_or(Question::Session)?;
+    if word_at(session.words, layout::ENTRIES) == 0 {
+        return Err(Question::EntryLeft);
     }
-    if word_at(words, layout::ENTRIES) == 0 {
-        return question::ENTRY_LEFT;
-    }
-    0
+    Ok(())
 }
 
 // Writes one entry less, and the counts that the row before the latest one tells.
@@ -57,21 +65,29 @@ fn cut_counts(words: &mut [u32])
     );
 }
 
-// Withdraws the latest accepted entry of the session of the lent words and bytes. For every input the answer and every word of the session are those of document
-// 02; no byte is written.
-pub fn withdraw(words: &mut [u32], bytes: &[u8]) -> Answer
-    ensures { Withdrawn words.old bytes.now result words.new }
+// The answer of a withdrawal: the question that got a no, or 0.
+fn answer_of(number: u32) -> Answer
+    ensures { Tells (refused number) result }
 {
-    let no = ask_withdrawal(words, bytes);
-    if no == 0 {
-        cut_counts(words);
-        put_at(words, layout::SHOWN, count_shown(words));
-    }
     Answer {
-        number: no,
+        number: number,
         pos: SrcPos(0),
         name: 0,
         rows: 0,
         globals: 0,
     }
+}
+
+// Withdraws the latest accepted entry of the session of the lent words and bytes. For every input the answer and every word of the session are those of document
+// 02; no byte is written.
+pub fn withdraw(words: &mut [u32], bytes: &[u8]) -> Answer
+    ensures { Withdrawn words.old bytes.now result words.new }
+{
+    if let Err(no) = ask_withdrawal(LentSession { words, bytes }) {
+        return answer_of(no.number());
+    }
+    cut_counts(words);
+    let shown = count_shown(SessionRuns { words });
+    put_at(words, layout::SHOWN, shown);
+    answer_of(0)
 }

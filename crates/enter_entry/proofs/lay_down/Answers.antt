@@ -23,9 +23,11 @@ append_classes-requires c =
           ∙ ap (λ (k : ℕ). raised k (answers O c.args.sheet.now (history O c.args.sheet.now))) (sym c.base_of-base.ensures.0),
     )
 
+pub invariant_of-left : goal.invariant_of-left
+invariant_of-left c = record { low = c.base_of-base.ensures.1 }
+
 pub append_laid-requires : goal.append_laid-requires
-append_laid-requires c =
-    (c.base_of-base.ensures.1, omega (arith, c.laid_place-laid.ensures, c.requires.0.laid))
+append_laid-requires c = omega (arith, c.laid_place-laid.ensures, c.requires.0.laid)
 
 pub write_counts-requires : goal.write_counts-requires
 write_counts-requires c =

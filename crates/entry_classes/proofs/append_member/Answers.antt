@@ -13,8 +13,8 @@ pub returns-then-not-is_member : goal.returns-then-not-is_member
 returns-then-not-is_member c =
     let e = sym c.is_member.ensures ∙ c.if-not-is_member.true in (
       ap (λ (t : Bool). 3 * bit t) (sym e),
-      λ o q. member_none c.args.sheet.now (store_of o c.args.results.now q) c.args.base c.args.row.now
-          (over c.args.outside.now) c.args.words.now c.args.place e,
+      λ o q. member_none c.args.source.sheet.now (store_of o c.args.source.results.now q) c.args.source.base c.args.row.now
+          (over c.args.source.outside.now) c.args.words.now c.args.place e,
     )
 
 pub returns : goal.returns
@@ -23,5 +23,5 @@ returns c =
       ap (λ (t : Bool). 3 * bit t) (sym e),
       λ o q. c.put_member.ensures
           ∙ ap (λ (ws : List ℕ). sets c.args.words.now c.args.place ws) (c.member_of.ensures o q
-          ∙ member_in_lem c.args.sheet.now (store_of o c.args.results.now q) c.args.base c.args.row.now (over c.args.outside.now) e),
+          ∙ member_in_lem c.args.source.sheet.now (store_of o c.args.source.results.now q) c.args.source.base c.args.row.now (over c.args.source.outside.now) e),
     )

@@ -6,13 +6,13 @@ use Rattle.entry_classes.proofs.member_of.Goals as goal
 
 pub returns-then-row : goal.returns-then-row
 returns-then-row c =
-    λ o q. field_told c.args.sheet.now (store_of o c.args.results.now q) c.args.base c.args.row.now (over c.args.outside.now) c.if-row.true
+    λ o q. field_told c.args.source.sheet.now (store_of o c.args.source.results.now q) c.args.source.base c.args.row.now (over c.args.source.outside.now) c.if-row.true
 
 pub method_of-requires : goal.method_of-requires
 method_of-requires c =
-    (c.requires.0, row_below c.args.row.now c.requires.2, c.requires.3)
+    row_below c.args.row.now c.requires.1
 
 pub returns : goal.returns
 returns c =
     λ o q. c.method_of.ensures o q
-    ∙ method_told_lem c.args.sheet.now (store_of o c.args.results.now q) c.args.base c.args.row.now (over c.args.outside.now) c.if-row.false
+    ∙ method_told_lem c.args.source.sheet.now (store_of o c.args.source.results.now q) c.args.source.base c.args.row.now (over c.args.source.outside.now) c.if-row.false

@@ -13,18 +13,18 @@ use Rattle.entry_classes.proofs.method_of.Goals as goal
 
 pub overflow_cast-result : goal.overflow_cast-result
 overflow_cast-result c =
-    let o = store_of (record { used = 0; calls = 0 }) c.args.results.now [] in
+    let o = store_of (record { used = 0; calls = 0 }) c.args.source.results.now [] in
     omega (
       arith,
       (c.find_method-found.ensures (record { used = 0; calls = 0 }) []).params_are,
-      params_few c.args.outside.now (λ j. omega (arith, c.shared_slice_known-2-1.given j)) c.args.sheet.now c.requires.2 o
-          (rows c.args.sheet.now) (256 + c.args.row) c.args.name,
+      params_few c.args.source.outside.now (λ j. omega (arith, c.args.source.fit j)) c.args.source.sheet.now c.args.source.few o
+          (rows c.args.source.sheet.now) (256 + c.args.row) c.args.name,
     )
 
 pub returns : goal.returns
 returns c =
     λ o q.
     let tells = c.find_method-found.ensures o q in
-    ap (λ (f : ℕ). c.args.name ∷ f ∷ c.find_method-found.result.params ∷ []) (c.raised_function.ensures ∙ ap (raised_function c.args.base) tells.fun_is)
-    ∙ ap (λ (p : ℕ). c.args.name ∷ raised_function c.args.base (method_of c.args.name (methods_in (over c.args.outside.now) c.args.sheet.now (store_of o c.args.results.now q)
-    (rows c.args.sheet.now) (256 + c.args.row))).fun ∷ p ∷ []) tells.params_are
+    ap (λ (f : ℕ). c.args.name ∷ f ∷ c.find_method-found.result.params ∷ []) (c.raised_function.ensures ∙ ap (raised_function c.args.source.base) tells.fun_is)
+    ∙ ap (λ (p : ℕ). c.args.name ∷ raised_function c.args.source.base (method_of c.args.name (methods_in (over c.args.source.outside.now) c.args.source.sheet.now (store_of o c.args.source.results.now q)
+    (rows c.args.source.sheet.now) (256 + c.args.row))).fun ∷ p ∷ []) tells.params_are

@@ -7,7 +7,7 @@ loop-i-init c = laying_start
 
 pub put_left-p-requires : goal.put_left-p-requires
 put_left-p-requires c =
-    (c.requires.0, omega (arith, laying_near c.loop-i.invariant c.loop-i-test.true, c.requires.1))
+    omega (arith, laying_near c.loop-i.invariant c.loop-i-test.true, c.requires)
 
 pub overflow_add-p : goal.overflow_add-p
 overflow_add-p c =
@@ -17,7 +17,7 @@ overflow_add-p c =
       laying_near c.loop-i.invariant c.loop-i-test.true,
       c.loop-i.invariant.further,
       c.loop-i-test.true,
-      c.requires.1,
+      c.requires,
     )
 
 pub loop-i-preserved : goal.loop-i-preserved

@@ -2,4 +2,4 @@ use Rattle.lay_over.proofs.LaidLaws.{Laying}
 use Rattle.lay_over.proofs.append_laid.Given as goal
 
 abbrev pub invariant-loop-i : goal.invariant-loop-i
-invariant-loop-i l = Laying l.initial.words l.place l.sheet l.entries l.first l.end l.base l.words l.i l.p
+invariant-loop-i l = Laying l.initial.words l.place l.left.sheet.now l.left.entries.now l.first l.end l.left.base l.words l.i l.p

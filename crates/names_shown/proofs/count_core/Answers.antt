@@ -8,6 +8,7 @@ use Rattle.definition.specs.Meaning.{Named}
 use Rattle.definition.specs.Outside.{core}
 use Rattle.session_outside.specs.Written.{firsts, core_name}
 use Rattle.session_outside.proofs.NameLaws.{core_next, core_end}
+use Rattle.definition.proofs.Lists.Tests.{bit_le}
 use Rattle.names_shown.proofs.CountLaws.{none_counted, core_number}
 use Rattle.names_shown.proofs.count_core.Goals as goal
 
@@ -16,7 +17,7 @@ loop-name-init c = (omega arith, omega arith, omega arith, refl, omega arith)
 
 pub overflow_add-count : goal.overflow_add-count
 overflow_add-count c =
-    omega (arith, c.loop-name.invariant.2, c.loop-name.invariant.1, c.mark_name-count.ensures.0)
+    omega (arith, c.loop-name.invariant.2, c.loop-name.invariant.1, bit_le c.mark_name.result)
 
 pub loop-name-preserved : goal.loop-name-preserved
 loop-name-preserved c =
@@ -27,13 +28,13 @@ loop-name-preserved c =
     let named : c.loop-name.name ≡ (core_name k).name = omega (arith, core_number k low, v.0) in (
       omega arith,
       omega (arith, c.loop-name-test.true),
-      omega (arith, v.2, c.mark_name-count.ensures.0),
-      omega (arith, c.mark_name-count.auto.marks, v.3),
+      omega (arith, v.2, bit_le c.mark_name.result),
+      omega (arith, c.mark_name.auto.marks, v.3),
       omega (
         arith,
-        c.mark_name-count.ensures.1 (core_name k) (drop (k + 1) core.names) named,
+        c.mark_name.ensures (core_name k) (drop (k + 1) core.names) named,
         ap (λ (l : List Named). length (firsts c.loop-name.marks l)) (core_next k low),
-        ap (λ (i : ℕ). length (firsts c.mark_name-count.new.marks (drop i core.names))) on,
+        ap (λ (i : ℕ). length (firsts c.mark_name.new.marks (drop i core.names))) on,
         v.4,
       ),
     )

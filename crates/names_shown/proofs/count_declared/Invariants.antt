@@ -7,5 +7,5 @@ use Rattle.names_shown.proofs.count_declared.Given as goal
 
 abbrev pub invariant-loop-i : goal.invariant-loop-i
 invariant-loop-i l =
-    (l.i ≤ get_or l.session 5 0) × (l.count + l.i ≤ get_or l.session 5 0) × (length l.marks ≡ length l.initial.marks)
-    × (l.count + length (firsts l.marks (names_below l.session l.i)) ≡ length (firsts l.initial.marks (names_below l.session (get_or l.session 5 0))))
+    (l.i ≤ get_or l.runs.words.now 5 0) × (l.count + l.i ≤ get_or l.runs.words.now 5 0) × (length l.marks ≡ length l.initial.marks)
+    × (l.count + length (firsts l.marks (names_below l.runs.words.now l.i)) ≡ length (firsts l.initial.marks (names_below l.runs.words.now (get_or l.runs.words.now 5 0))))

@@ -5,5 +5,5 @@ use Rattle.names_shown.proofs.count_marked.Goals as goal
 
 pub returns : goal.returns
 returns c =
-    all_counted c.requires.0 c.requires.1 (ap (λ (k : ℕ). c.count_declared-declared.result + k) c.count_core.ensures.1
+    all_counted c.args.runs.readable c.requires (ap (λ (k : ℕ). c.count_declared-declared.result + k) c.count_core.ensures.1
     ∙ c.count_declared-declared.ensures.1)

@@ -1,11 +1,17 @@
 -- `prepare` meets its contract. Assumes nothing.
 use Rattle.std.proofs.Common.{refl, sym, ◌∙◌, ◌≡◌, ◌+◌, arith, length}
+use Rattle.ast.proofs.QuestionLaws.{question_none}
 use Rattle.definition.specs.Names.{listed}
 use Rattle.entry_ready.proofs.PastLaws.{passed}
 use Rattle.session.specs.Words.{whole, session_in}
 use Rattle.names.proofs.Laws.{table_size}
-use Rattle.prepare_entry.proofs.ToldLaws.{list_all, starts_few, prepared_told}
+use Rattle.prepare_entry.proofs.ToldLaws.{list_all, starts_few, prepared_refused, prepared_told}
 use Rattle.prepare_entry.proofs.prepare.Goals as goal
+
+pub returns-in-Err : goal.returns-in-Err
+returns-in-Err c =
+    prepared_refused c.args.session.words.now c.args.session.bytes.now c.args.sheet.now c.args.names.now c.in-Some.ensures.0 c.in-Err.ensures (question_none _)
+    (c.refused-in-Err.ensures ∙ c.number-in-Err.ensures)
 
 pub number_names-told-requires : goal.number_names-told-requires
 number_names-told-requires c =
@@ -16,13 +22,13 @@ overflow_cast-result c =
     let list = c.in-Some.list.listed in
     let held = c.in-Some.ensures in
     let counted : c.count.result + 1 ≡ length (listed list.names.now) + 1 = omega (arith, c.count.ensures, table_size list.names.now list.of_names) in
-    omega (arith, starts_few c.args.words.now c.args.bytes.now held.0 held.1 counted)
+    omega (arith, starts_few c.args.session.words.now c.args.session.bytes.now held.0 held.1 counted)
 
 pub returns : goal.returns
 returns c =
     let list = c.in-Some.list.listed in
     let held = c.in-Some.ensures in
     let counted : c.count.result + 1 ≡ length (listed list.names.now) + 1 = omega (arith, c.count.ensures, table_size list.names.now list.of_names) in
-    prepared_told c.args.words.now c.args.bytes.now c.args.sheet.now c.args.names.now held.0 (sym c.in_default-ask_entry.ensures) refl
-    (c.number_names-told.ensures (session_in whole c.args.words.now c.args.bytes.now) (list_all c.args.words.now c.args.bytes.now held.0 held.1))
+    prepared_told c.args.session.words.now c.args.session.bytes.now c.args.sheet.now c.args.names.now held.0 (sym c.in_default-ask_entry.ensures) refl
+    (c.number_names-told.ensures (session_in whole c.args.session.words.now c.args.session.bytes.now) (list_all c.args.session.words.now c.args.session.bytes.now held.0 held.1))
     held.1 counted (omega arith)

@@ -30,14 +30,16 @@ pub append_names-requires : goal.append_names-requires
 append_names-requires c =
     (names_good c.requires.0, omega (arith, c.word_at.ensures, list_inside c.args.words.now c.args.bytes.now c.requires.0.fits))
 
-pub count_shown-requires : goal.count_shown-requires
-count_shown-requires c =
+pub invariant_of-count_shown : goal.invariant_of-count_shown
+invariant_of-count_shown c = record {
+  readable =
     laid_readable c.args.words.now c.args.bytes.now c.args.sheet.now c.args.names.now _ c.requires.0.fits c.requires.0.none
     (c.enter_sheet-answer.ensures c.args.bytes.now c.args.names.now c.requires.0) refl
     (c.entry_number.ensures (session_in whole c.args.words.now c.args.bytes.now) c.args.names.now (all_apart c.args.words.now c.args.bytes.now c.requires.0.fits)
     (names_good c.requires.0) c.requires.0.told
     (last_is c.requires.0 c.requires.1))
-    c.if-answer-ne0.false
+    c.if-answer-ne0.false;
+}
 
 pub returns : goal.returns
 returns c =
@@ -47,4 +49,4 @@ returns c =
     (names_good c.requires.0) c.requires.0.told
     (last_is c.requires.0 c.requires.1))
     c.if-answer-ne0.false (c.append_names.ensures (session_in whole c.args.words.now c.args.bytes.now) c.requires.0.told c.requires.1 ∙ rw c.word_at.ensures)
-    c.count_shown.ensures c.put_at.ensures
+    c.count_shown-shown.ensures c.put_at.ensures

@@ -7,19 +7,19 @@ use Rattle.session_check.proofs.check_session.Goals as goal
 
 pub returns-in_err-list : goal.returns-in_err-list
 returns-in_err-list c =
-    listing_no _ _ c.from_residual.ensures (runs_refuse c.args.words.now c.args.bytes.now c.in_err-list.ensures)
+    listing_no _ _ c.from_residual.ensures (runs_refuse c.args.session.words.now c.args.session.bytes.now c.in_err-list.ensures)
 
-pub shown_fits-requires : goal.shown_fits-requires
-shown_fits-requires c =
+pub invariant_of-shown_fits : goal.invariant_of-shown_fits
+invariant_of-shown_fits c =
     let list = c.in_ok-list.ensures in
-    runs_readable c.args.words.now c.args.bytes.now list.0
+    record { readable = runs_readable c.args.session.words.now c.args.session.bytes.now list.0 }
 
 pub returns-then-not-shown_fits : goal.returns-then-not-shown_fits
 returns-then-not-shown_fits c =
     let list = c.in_ok-list.ensures in
-    shown_decide c.args.words.now c.args.bytes.now list.0 c.shown_fits.ensures ∙ c.if-not-shown_fits.true
+    shown_decide c.args.session.words.now c.args.session.bytes.now list.0 c.shown_fits.ensures ∙ c.if-not-shown_fits.true
 
 pub returns : goal.returns
 returns c =
     let list = c.in_ok-list.ensures in
-    (shown_decide c.args.words.now c.args.bytes.now list.0 c.shown_fits.ensures ∙ c.if-not-shown_fits.false, list.1)
+    (shown_decide c.args.session.words.now c.args.session.bytes.now list.0 c.shown_fits.ensures ∙ c.if-not-shown_fits.false, list.1)

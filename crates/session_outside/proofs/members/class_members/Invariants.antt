@@ -11,5 +11,5 @@ use Rattle.session_outside.proofs.members.class_members.Given as goal
 
 abbrev pub invariant-loop-i : goal.invariant-loop-i
 invariant-loop-i l =
-    (l.i ≤ get_or l.session 6 0) × (l.member ≡ members_before whole l.session [] l.i) × (l.at ≤ l.start + 3 * l.member) × (length l.out ≡ length l.initial.out)
-    × (sets l.out l.at (concat_map member_run (records_from l.session l.i)) ≡ sets l.initial.out l.start (concat_map member_run (records_from l.session 0)))
+    (l.i ≤ get_or l.runs.words.now 6 0) × (l.member ≡ members_before whole l.runs.words.now [] l.i) × (l.at ≤ l.start + 3 * l.member) × (length l.out ≡ length l.initial.out)
+    × (sets l.out l.at (concat_map member_run (records_from l.runs.words.now l.i)) ≡ sets l.initial.out l.start (concat_map member_run (records_from l.runs.words.now 0)))

@@ -14,25 +14,25 @@ use Rattle.session_outside.proofs.records.class_rows.Goals as goal
 pub loop-i-init : goal.loop-i-init
 loop-i-init c =
     let z : c.args.first + 0 ≡ c.args.first = omega arith in
-    (omega arith, omega arith, refl, ap (λ (k : ℕ). sets c.args.out.now (8 * k) (record_rows c.args.start (records_from c.args.session.now 0))) z)
+    (omega arith, omega arith, refl, ap (λ (k : ℕ). sets c.args.out.now (8 * k) (record_rows c.args.start (records_from c.args.runs.words.now 0))) z)
 
 pub overflow_add-first : goal.overflow_add-first
-overflow_add-first c = omega (arith, c.requires.0.few_classes)
+overflow_add-first c = omega (arith, c.args.runs.readable.few_classes)
 
 pub class_row-place-requires : goal.class_row-place-requires
 class_row-place-requires c =
-    let r = c.requires.0 in
-    let l : c.loop-i.i < get_or c.args.session.now 6 0 = omega (arith, c.entry_at-classes.ensures) in
-    (r, l, omega (arith, members_few c.args.session.now c.loop-i.i r l))
+    let r = c.args.runs.readable in
+    let l : c.loop-i.i < get_or c.args.runs.words.now 6 0 = omega (arith, c.entry_at-classes.ensures) in
+    (l, omega (arith, members_few c.args.runs.words.now c.loop-i.i r l))
 
 pub loop-i-preserved : goal.loop-i-preserved
 loop-i-preserved c =
-    let l : c.loop-i.i < get_or c.args.session.now 6 0 = omega (arith, c.entry_at-classes.ensures) in
+    let l : c.loop-i.i < get_or c.args.runs.words.now 6 0 = omega (arith, c.entry_at-classes.ensures) in
     let z : c.args.first + (c.loop-i.i + 1) ≡ c.args.first + c.loop-i.i + 1 = omega arith in (
       omega arith,
-      omega (arith, c.class_row-place.ensures.0, members_next c.args.session.now c.loop-i.i, fields_count c.args.session.now c.loop-i.i, methods_count c.args.session.now c.loop-i.i),
+      omega (arith, c.class_row-place.ensures.0, members_next c.args.runs.words.now c.loop-i.i, fields_count c.args.runs.words.now c.loop-i.i, methods_count c.args.runs.words.now c.loop-i.i),
       omega (arith, c.class_row-place.auto.out, c.loop-i.invariant.2),
-      row_next c.loop-i.out (c.args.first + c.loop-i.i) c.loop-i.place (records_next c.args.session.now c.loop-i.i l) c.class_row-place.ensures.1 z c.class_row-place.ensures.0 ∙ c.loop-i.invariant.3,
+      row_next c.loop-i.out (c.args.first + c.loop-i.i) c.loop-i.place (records_next c.args.runs.words.now c.loop-i.i l) c.class_row-place.ensures.1 z c.class_row-place.ensures.0 ∙ c.loop-i.invariant.3,
     )
 
 pub shape_of-out : goal.shape_of-out
@@ -40,9 +40,9 @@ shape_of-out c = c.loop-i.invariant.2
 
 pub returns : goal.returns
 returns c =
-    let z : c.loop-i.i ≡ get_or c.args.session.now 6 0 = omega (arith, c.entry_at-classes.ensures) in (
-      omega (arith, ap (members_before whole c.args.session.now []) z, c.requires.0.members_counted, c.requires.0.few_members),
+    let z : c.loop-i.i ≡ get_or c.args.runs.words.now 6 0 = omega (arith, c.entry_at-classes.ensures) in (
+      omega (arith, ap (members_before whole c.args.runs.words.now []) z, c.args.runs.readable.members_counted, c.args.runs.readable.few_members),
       ap (λ (k : ℕ). sets c.loop-i.out (8 * (c.args.first + k)) (record_rows c.loop-i.place core.records)) (sym z)
-          ∙ ap (λ (l : List ClassRecord). sets c.loop-i.out (8 * (c.args.first + c.loop-i.i)) (record_rows c.loop-i.place l)) (sym (records_end c.args.session.now c.loop-i.i (omega (arith, z))))
+          ∙ ap (λ (l : List ClassRecord). sets c.loop-i.out (8 * (c.args.first + c.loop-i.i)) (record_rows c.loop-i.place l)) (sym (records_end c.args.runs.words.now c.loop-i.i (omega (arith, z))))
           ∙ c.loop-i.invariant.3,
     )

@@ -10,5 +10,5 @@ use Rattle.session_outside.proofs.records.class_rows.Given as goal
 
 abbrev pub invariant-loop-i : goal.invariant-loop-i
 invariant-loop-i l =
-    (l.i ≤ get_or l.session 6 0) × (l.place ≤ l.start + 3 * members_before whole l.session [] l.i) × (length l.out ≡ length l.initial.out)
-    × (sets l.out (8 * (l.first + l.i)) (record_rows l.place (records_from l.session l.i)) ≡ sets l.initial.out (8 * l.first) (record_rows l.start (records_from l.session 0)))
+    (l.i ≤ get_or l.runs.words.now 6 0) × (l.place ≤ l.start + 3 * members_before whole l.runs.words.now [] l.i) × (length l.out ≡ length l.initial.out)
+    × (sets l.out (8 * (l.first + l.i)) (record_rows l.place (records_from l.runs.words.now l.i)) ≡ sets l.initial.out (8 * l.first) (record_rows l.start (records_from l.runs.words.now 0)))

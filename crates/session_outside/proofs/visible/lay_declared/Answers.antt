@@ -11,15 +11,13 @@ use Rattle.session_outside.proofs.visible.lay_declared.Goals as goal
 pub loop-i-init : goal.loop-i-init
 loop-i-init c =
     let e = c.entry_at-i.ensures in
-    (omega (arith, e), omega (arith, e), refl, refl, ap (λ (k : ℕ). name_rows 1 c.args.marks.now c.args.out.now (names_below c.args.session.now k)) e)
+    (omega (arith, e), omega (arith, e), refl, refl, ap (λ (k : ℕ). name_rows 1 c.args.marks.now c.args.out.now (names_below c.args.runs.words.now k)) e)
 
 pub declared_name-requires : goal.declared_name-requires
-declared_name-requires c =
-    let l = c.loop-i.i in
-    (omega (arith, c.requires.few_laid), c.requires.laid_low (l - 1) (omega arith))
+declared_name-requires c = omega arith
 
 pub lay_name-row-requires : goal.lay_name-row-requires
-lay_name-row-requires c = omega (arith, c.requires.few_laid)
+lay_name-row-requires c = omega (arith, c.args.runs.readable.few_laid)
 
 pub loop-i-preserved : goal.loop-i-preserved
 loop-i-preserved c =
@@ -28,9 +26,9 @@ loop-i-preserved c =
       omega (arith, c.lay_name-row.ensures.0),
       omega (arith, c.lay_name-row.auto.marks, c.loop-i.invariant.2),
       omega (arith, c.lay_name-row.auto.out, c.loop-i.invariant.3),
-      c.lay_name-row.ensures.1 (laid_in whole c.args.session.now [] (c.loop-i.i - 1)) (names_below c.args.session.now (c.loop-i.i - 1)) c.declared_name.ensures
+      c.lay_name-row.ensures.1 (laid_in whole c.args.runs.words.now [] (c.loop-i.i - 1)) (names_below c.args.runs.words.now (c.loop-i.i - 1)) c.declared_name.ensures
           ∙ ap (name_rows c.loop-i.row c.loop-i.marks c.loop-i.out)
-          (sym (below_more c.args.session.now (c.loop-i.i - 1)) ∙ ap (names_below c.args.session.now) z) ∙ c.loop-i.invariant.4,
+          (sym (below_more c.args.runs.words.now (c.loop-i.i - 1)) ∙ ap (names_below c.args.runs.words.now) z) ∙ c.loop-i.invariant.4,
     )
 
 pub shape_of-marks : goal.shape_of-marks
@@ -42,7 +40,7 @@ shape_of-out c = c.loop-i.invariant.3
 pub returns : goal.returns
 returns c =
     let z : c.loop-i.i ≡ 0 = omega arith in (
-      omega (arith, c.requires.few_laid),
+      omega (arith, c.args.runs.readable.few_laid),
       ap (name_rows c.loop-i.row c.loop-i.marks c.loop-i.out)
-          (sym (ap (names_below c.args.session.now) z ∙ below_none c.args.session.now)) ∙ c.loop-i.invariant.4,
+          (sym (ap (names_below c.args.runs.words.now) z ∙ below_none c.args.runs.words.now)) ∙ c.loop-i.invariant.4,
     )

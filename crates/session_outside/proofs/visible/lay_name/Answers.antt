@@ -12,5 +12,5 @@ returns c = (
   omega arith,
   λ y ys e.
       told_new c.args.row c.args.marks.now c.args.out.now y ys e refl (sym c.entry_at.ensures ∙ c.if-entry_at-ne0.false)
-      c.put_entry.ensures c.put_row.ensures,
+      c.put_entry.ensures (rw (← c.number.ensures) c.put_row.ensures),
 )

@@ -5,4 +5,4 @@ use Rattle.session_outside.proofs.visible.lay_names.Goals as goal
 
 pub returns : goal.returns
 returns c =
-    names_laid c.requires.0 1049 (omega arith) c.args.out.now _ c.requires.1 (c.lay_core.ensures ∙ c.lay_declared.ensures.1)
+    names_laid c.args.runs.readable 1049 (omega arith) c.args.out.now _ c.requires (c.lay_core.ensures ∙ c.lay_declared.ensures.1)
