@@ -41,7 +41,7 @@ pub question_none : (q : Question) → question_number q ≡ 0 → ⊥
 question_none q e = omega (arith, question_some q)
 
 -- a question that `?` hands on
-pub no_handed : (r : Result (Unit {0}) Question) (q : Question) → IsErrAnd r (λ e. e ≡ q) → no_of r ≡ question_number q
+pub no_handed : {A : Type 0} (r : Result A Question) (q : Question) → IsErrAnd r (λ e. e ≡ q) → no_of r ≡ question_number q
 no_handed (Ok x) q h = absurd h
 no_handed (Err e) q h = ap question_number h
 

@@ -33,6 +33,6 @@ question_number EntryLeft = 25
 question_number NoCircle = 29
 
 -- the number of the question that got a no, or 0 if none did
-abbrev pub no_of : Result (Unit {0}) Question → ℕ
+abbrev pub no_of : {A : Type 0} → Result A Question → ℕ
 no_of (Ok x) = 0
 no_of (Err q) = question_number q

@@ -23,7 +23,12 @@ use Rattle.entry_names.proofs.NumberLaws.{first_new}
 use Rattle.entry_ready.specs.Asked.{entry_no}
 use Rattle.entry_ready.proofs.PastLaws.{passed, shorter}
 use Rattle.prepare_entry.specs.declared.Prepared.{Prepared}
-use Rattle.prepare_entry.specs.Told.{Told, PreparedFor}
+use Rattle.ast.specs.declared.question.Question.{Question}
+use Rattle.ast.specs.declared.question.Question.TheVariants.{Session as QSession}
+use Rattle.ast.specs.Question.{question_number}
+use Rattle.std.proofs.Common.{Result, Ok, Err, refl}
+use Rattle.std.specs.Result.{IsErrAnd}
+use Rattle.prepare_entry.specs.Told.{Told, ToldBy, PreparedFor}
 
 module _ (w n : List ℕ) (fit : session_fits whole w n ≡ true) where
   abbrev S : Session
@@ -97,24 +102,20 @@ module _ (w : List ℕ) (s : Sheet) (n ns : List ℕ) {count new size : ℕ} {nu
   count_few = omega (arith, t.counted, (fit_small ns (passed (get_or w 0 0) s ns none).names_fit_lem).0)
 
 -- what preparing comes to: a session that is refused, an entry that is refused, and one whose names are told
-module _ (w n : List ℕ) (s : Sheet) (ns : List ℕ) {x : Prepared} {numbers : List ℕ} where
-  refused_by_lem : {k : ℕ} → x.no ≡ k → (k ≡ 0 → ⊥) → x.no ≡ (when session_fits whole w n then entry_no (get_or w 0 0) s ns else 23) → PreparedFor w n s ns x numbers
-  refused_by_lem e f h =
-      record { no = h; told = λ z. absurd (f (sym e ∙ z)); few = λ z. absurd (f (sym e ∙ z)); first = λ z. absurd (f (sym e ∙ z)) }
+module _ (w n : List ℕ) (s : Sheet) (ns : List ℕ) {numbers : List ℕ} where
+  pub prepared_unfit : session_fits whole w n ≡ false → PreparedFor w n s ns (Err QSession) numbers
+  prepared_unfit e = record { no = rw e refl; told = tt }
 
-  pub prepared_unfit : session_fits whole w n ≡ false → x.no ≡ 23 → PreparedFor w n s ns x numbers
-  prepared_unfit e h = refused_by_lem h (λ z. absurd (omega (arith, z))) (rw e (h))
+  pub prepared_refused : session_fits whole w n ≡ true → (x : Result Prepared Question) (q : Question) → IsErrAnd x (λ e. e ≡ q)
+      → question_number q ≡ entry_no (get_or w 0 0) s ns → PreparedFor w n s ns x numbers
+  prepared_refused fit (Ok p) q h e = absurd h
+  prepared_refused fit (Err d) q h e = record { no = ap question_number h ∙ e ∙ sym (rw fit refl); told = tt }
 
-  pub prepared_refused : session_fits whole w n ≡ true → {k : ℕ} → k ≡ entry_no (get_or w 0 0) s ns → (k ≡ 0 → ⊥) → x.no ≡ k → PreparedFor w n s ns x numbers
-  prepared_refused fit e f h = refused_by_lem h f (h ∙ e ∙ sym (rw fit))
-
-  pub prepared_told : (fit : session_fits whole w n ≡ true) → entry_no (get_or w 0 0) s ns ≡ 0 → x.no ≡ 0
+  pub prepared_told : (fit : session_fits whole w n ≡ true) → entry_no (get_or w 0 0) s ns ≡ 0 → (x : Prepared)
       → NamesTold (session_in whole w n) ns x.names x.new x.bytes numbers
-      → {k : ℕ} {l : List ℕ} → l ≡ name_bytes whole w n → k ≡ length (listed l) + 1 → x.first ≡ 24 + k → PreparedFor w n s ns x numbers
-  prepared_told fit none zero told e h first =
+      → {k : ℕ} {l : List ℕ} → l ≡ name_bytes whole w n → k ≡ length (listed l) + 1 → x.first ≡ 24 + k → PreparedFor w n s ns (Ok x) numbers
+  prepared_told fit none x told e h first =
       record {
-        no = zero ∙ sym (rw fit none);
-        told = λ z. all_told w s n ns fit none told;
-        few = λ z. count_few w s n ns fit none told;
-        first = λ z. first ∙ first_is w n fit e h;
+        no = sym (rw fit none);
+        told = record { told = all_told w s n ns fit none told; few = count_few w s n ns fit none told; first = first ∙ first_is w n fit e h };
       }

@@ -22,37 +22,23 @@ use session_outside::runs::SessionRuns;
 // The words of what a small session is to an entry: what is entered or previewed chooses its scratch space by them, and by its sheet.
 pub const SMALL_OUTSIDE: usize = 2048;
 
-// The question before the walk that got a no (0: none). If none did: how many names the entry lists, how many of them are new to the session, in how many bytes
-// with their ends, and the number of the first new one.
+// How many names an entry lists, how many of them are new to the session, in how many bytes with their ends, and the number of the first new one.
 #[derive(Clone, Copy)]
 pub struct Prepared {
-    pub no: u32,
     pub names: usize,
     pub new: usize,
     pub bytes: usize,
     pub first: u32,
 }
 
-// Refused before the walk by question `no`.
-fn refused(no: u32) -> Prepared
-    ensures { result.no ≡ no }
-{
-    Prepared {
-        no: no,
-        names: 0,
-        new: 0,
-        bytes: 0,
-        first: 0,
-    }
-}
-
-// Asks session and entry what is asked before the walk, in the order of document 02, and tells the entry's names by the session's numbers.
+// Asks session and entry what is asked before the walk, in the order of document 02, and tells the entry's names by the session's numbers. The error is the
+// first question that gets a no.
 pub fn prepare(
     session: LentSession<'_>,
     sheet: &[u32],
     names: &[u8],
     numbers: &mut [u32],
-) -> Prepared
+) -> Result<Prepared, Question>
     requires { 1024 ≤ length numbers.old }
     ensures { PreparedFor session.entry.words.now session.entry.bytes.now sheet.now names.now result numbers.new }
 {
@@ -63,19 +49,16 @@ pub fn prepare(
         index: &mut index,
     };
     let Some(list) = check_session(session, space) else {
-        return refused(Question::Session.number());
+        return Err(Question::Session);
     };
-    if let Err(no) = ask_entry(session.words, sheet, names) {
-        return refused(no.number());
-    }
+    ask_entry(session.words, sheet, names)?;
     let told = number_names(list, names, numbers);
-    Prepared {
-        no: 0,
+    Ok(Prepared {
         names: told.count,
         new: told.new,
         bytes: told.bytes,
         first: (name::LAST_FIXED + 1 + list.listed.count()) as u32,
-    }
+    })
 }
 
 // Writes what the walk of an entry reads: what the session is to it, and its sheet with the session's name numbers.

@@ -168,10 +168,10 @@ pub fn preview(words: &[u32], bytes: &[u8], sheet: &[u32], names: &[u8], out: &m
 {
     let mut numbers = [0u32; 1024];
     let session = LentSession { words, bytes };
-    let entry = prepare(session, sheet, names, &mut numbers);
-    if entry.no != 0 {
-        return refuse(entry.no, out);
-    }
+    let entry = match prepare(session, sheet, names, &mut numbers) {
+        Ok(entry) => entry,
+        Err(no) => return refuse(no, out),
+    };
     let listed = entry.names;
     let told = &numbers[..listed];
     let mut answer = try_sheet(words, sheet, told, entry.new, entry.bytes, out);

@@ -58,10 +58,10 @@ pub fn enter(
 {
     let mut numbers = [0u32; 1024];
     let session = LentSession { words, bytes };
-    let entry = prepare(session, sheet, names, &mut numbers);
-    if entry.no != 0 {
-        return refuse(entry.no, out);
-    }
+    let entry = match prepare(session, sheet, names, &mut numbers) {
+        Ok(entry) => entry,
+        Err(no) => return refuse(no, out),
+    };
     let listed = entry.names;
     enter_told(words, bytes, sheet, names, &numbers[..listed], entry, out)
 }
