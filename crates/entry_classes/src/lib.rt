@@ -71,7 +71,7 @@ pub struct Counted {
     pub members: usize,
 }
 
-// What is written of answer rows: the fields and methods that they tell, or the classes.
+// What is written of answer rows: the fields and methods that they tell, or the classes. One loop serves both; a row is told by a routine for each.
 #[derive(Clone, Copy)]
 pub enum Part {
     Members,
@@ -175,7 +175,7 @@ fn put_class(words: &mut [u32], place: usize, c: Class)
     );
 }
 
-// Writes the member that an answer row tells, if it tells one, and answers how many words that are.
+// Writes the member that an answer row tells, if it tells one, and answers how many words that are, else 0.
 fn append_member(words: &mut [u32], place: usize, source: Source<'_>, row: &[u32]) -> usize
     requires { (place ≤ 4611686018427387904) × (length row.now ≡ 8) × T (row_fits row.now) }
     ensures { (result ≡ 3 * bit (tells_member row.now))
@@ -189,7 +189,7 @@ fn append_member(words: &mut [u32], place: usize, source: Source<'_>, row: &[u32
     layout::MEMBER_WORDS
 }
 
-// Writes the class that an answer row tells, if it tells one, and answers how many words that are.
+// Writes the class that an answer row tells, if it tells one, and answers how many words that are, else 0.
 fn append_class(words: &mut [u32], place: usize, source: Source<'_>, row: &[u32]) -> usize
     requires { (place ≤ 4611686018427387904) × (length row.now ≡ 8) × T (row_fits row.now) }
     ensures { (result ≡ 5 * bit (tells_class row.now))
@@ -204,13 +204,7 @@ fn append_class(words: &mut [u32], place: usize, source: Source<'_>, row: &[u32]
 }
 
 // Writes what an answer row tells of a part, and answers how many words that are.
-fn append_row(
-    words: &mut [u32],
-    place: usize,
-    part: Part,
-    source: Source<'_>,
-    row: &[u32],
-) -> usize
+fn append_row(words: &mut [u32], place: usize, part: Part, source: Source<'_>, row: &[u32]) -> usize
     requires { (place ≤ 4611686018427387904) × (length row.now ≡ 8) × T (row_fits row.now) }
     ensures { (result ≤ part_words part)
         × ((o : Store) (nodes : List ℕ) → IsPut (part_in part (over source.entry.outside.now) source.entry.sheet.now

@@ -110,7 +110,7 @@ pub fn count_laid(entries: &[u32], first: u32, end: u32) -> u32
     count
 }
 
-// Writes what open entry `i` leaves, and answers how many words that are.
+// Writes what open entry `i` leaves, and answers how many words that are, 0 for a mark.
 fn put_left(words: &mut [u32], place: usize, left: Left<'_>, i: u32) -> usize
     requires { place ≤ 34359738368 }
     ensures { (words.new ≡ sets words.old place (concat_map laid_words (left_in left.entry.sheet.now left.entry.base left.entry.entries.now i)))

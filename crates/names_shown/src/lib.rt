@@ -15,7 +15,7 @@ use words::{entry_at, put_entry, word_at};
 // The core names are numbers 1 to 9.
 const LAST_CORE: u32 = 9;
 
-// Marks a name. Had it no mark?
+// Marks a name. Had it no mark? One that has a mark keeps it.
 fn mark_name(name: u32, marks: &mut [u32]) -> bool
     ensures { (y : Named) (ys : List Named) → name ≡ y.name
         → bit result + length (firsts marks.new ys) ≡ length (firsts marks.old (y ∷ ys)) }

@@ -17,7 +17,7 @@ use session::lent::LentSession;
 use session_outside::runs::SessionRuns;
 use words::{put_at, word_at};
 
-// An entry that is prepared, its names told by the session's numbers.
+// An entry that is prepared, its names told by the session's numbers. Words and bytes are lent apart: they are written by routines that take one of them.
 fn enter_told(
     words: &mut [u32],
     bytes: &mut [u8],

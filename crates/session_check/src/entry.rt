@@ -16,7 +16,7 @@ use session_rows::{
     is_within, number_at,
 };
 
-// Is x a name up to `last` without the mark? It gets it then.
+// Is x a name up to `last` without the mark? It gets it then, and only then.
 #[tactic(auto, unfolding(crate::specs::Clauses::is_fresh))]
 fn mark_name(x: usize, last: usize, mark: u32, marks: &mut [u32; MARKS]) -> bool
     requires { last < 1049 }
@@ -132,6 +132,7 @@ impl Entry<'_> {
     }
 
     // Are the names of the members from `first` on and below `end` names up to its last, and no two the same? Each gets the mark, which none has yet.
+    // By two ends: of a loop over a range that was handed in, a proof knows only the items given so far. The loop ends early, as it writes marks on the way.
     fn names_apart(self, first: usize, end: usize, mark: u32, marks: &mut [u32; MARKS]) -> bool
         requires { (first ≤ end) × (end < 2 ^ 62) × Under marks.old mark }
         ensures { (result ≡ names_apart self.entry.words.now (last_name self.entry.words.now self.entry.number) first end) × Under marks.new (suc mark) }
@@ -211,12 +212,10 @@ impl Entry<'_> {
             self.words,
             layout::CLASS_ROWS + layout::CLASS_WORDS * i + layout::CLASS_NAME,
         );
-        is_name(name, self.last_name())
-            && self.parent_fits(i)
-            && self.members_fit(i, first, marks)
+        is_name(name, self.last_name()) && self.parent_fits(i) && self.members_fit(i, first, marks)
     }
 
-    // Are all its classes, and are its members theirs? Those of the entries before it are.
+    // Are all its classes, and are its members theirs? Those of the entries before it are. The loop writes marks and counts members on the way.
     fn classes_fit(self, marks: &mut [u32; MARKS]) -> bool
         requires { (members_before whole self.words.now [] (after self.words.now self.number 3) ≡ after self.words.now self.number 4)
             × Under marks.old (2 * after self.words.now self.number 3 + 1) }

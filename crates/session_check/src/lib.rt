@@ -19,7 +19,7 @@ use session_rows::number_at;
 
 mod entry;
 
-// Are all entries as they should be? The marks, one for each number of a name, are all 0.
+// Are all entries as they should be? The marks, one for each number of a name, are all 0 at first, and written by each entry's test.
 fn entries_marked(words: &[u32], marks: &mut [u32; MARKS]) -> bool
     requires { Ordered words.now × Under marks.old 1 }
     ensures { result ≡ entries_right words.now }

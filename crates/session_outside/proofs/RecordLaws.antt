@@ -3,8 +3,8 @@ use mathlib.Core.Path.{◌≡◌, refl, sym, ap, ◌∙◌}
 use mathlib.Core.List.{List, [], ◌∷◌, ◌++◌, map}
 use Prim.Native.Nat.{ℕ, suc, ◌+◌, ◌-◌, ◌*◌, ◌<◌, ◌≤◌}
 use native.Mathlib.Omega.{arith}
-use lib.ListN.{length, get_or, set, drop, length-map}
-use lib.Seq.{sets, drop-cons}
+use lib.ListN.{length, get_or, set, length-map}
+use lib.Seq.{sets}
 use Rattle.definition.specs.Basics.{concat_map, total, from}
 use Rattle.definition.specs.Outside.{Method, ClassRecord, core}
 use Rattle.definition.proofs.Lists.Members.{total_append, map_map}

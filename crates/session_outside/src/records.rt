@@ -8,8 +8,8 @@ ghost use Rattle.session.specs.Words.{whole, class_in};
 ghost use Rattle.session_outside.specs.Written.{record_row, next_place, record_rows, records_from};
 
 use crate::layout;
-use crate::runs::SessionRuns;
 use crate::rows::put_row;
+use crate::runs::SessionRuns;
 use ast::{AUDIO_DATA_ID, AUDIO_NEEDED_ID, UIEVENT_ID};
 use words::entry_at;
 
@@ -51,11 +51,7 @@ fn core_rows(row: u32, place: u32, out: &mut [u32])
     requires { (row ≤ 16384) × (place ≤ 131072) }
     ensures { out.new ≡ sets out.old (8 * row) (record_rows place core.records) }
 {
-    put_row(
-        out,
-        row,
-        [UIEVENT_ID.0, 7, place, 9, place + 9, 0, 0, 0],
-    );
+    put_row(out, row, [UIEVENT_ID.0, 7, place, 9, place + 9, 0, 0, 0]);
     put_row(
         out,
         row + 1,
@@ -74,5 +70,9 @@ pub fn record_rows(runs: SessionRuns<'_>, first: u32, start: u32, out: &mut [u32
     ensures { out.new ≡ sets out.old (8 * first) (record_rows start (records_from runs.entry.words.now 0)) }
 {
     let place = class_rows(runs, first, start, out);
-    core_rows(first + entry_at(runs.words, layout::CLASS_COUNT), place, out);
+    core_rows(
+        first + entry_at(runs.words, layout::CLASS_COUNT),
+        place,
+        out,
+    );
 }

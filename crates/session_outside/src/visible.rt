@@ -10,8 +10,8 @@ ghost use Rattle.session_outside.specs.Written.{name_row, seen, name_rows, names
 ghost use Rattle.session_outside.specs.Told.{told};
 
 use crate::layout;
-use crate::runs::SessionRuns;
 use crate::rows::put_row;
+use crate::runs::SessionRuns;
 use ast::code::Code;
 use ast::{
     ARRAY_ID, AUDIO_DATA_ID, AUDIO_NEEDED_ID, BYTEARRAY_ID, DICT_ID, FIRST_CLASS, FLOAT64_ID,
@@ -63,7 +63,7 @@ fn declared_name(runs: SessionRuns<'_>, i: u32) -> SeenName
     let name = entry_at(runs.words, p);
     let number = entry_at(runs.words, p + layout::NUMBER);
     let code = entry_at(runs.words, p + layout::CODE);
-    // By number: any other code is a global's, and one that is no code too.
+    // By number: any other code is read as a global's, and so is a word that is no code.
     if code == Code::Fun as u32 {
         SeenName {
             name: name,

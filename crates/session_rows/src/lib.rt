@@ -16,7 +16,7 @@ pub mod count;
 // The number of the class of row 0 of the first entry.
 const FIRST_CLASS: usize = ast::FIRST_CLASS as usize;
 
-// The word at a place, as a number to count with.
+// The word at a place, as a number to count with. Here and below words alone are taken: what reads them while it may write them has no bytes at hand.
 pub fn number_at(words: &[u32], place: usize) -> usize
     ensures { (result ≡ get_or words.now place 0) × (result < 2 ^ 32) }
 {

@@ -16,7 +16,6 @@ use Rattle.ast.proofs.QuestionLaws.{question_none}
 use Rattle.definition.specs.Basics.{when◌then◌else◌}
 use Rattle.definition.specs.Outcome.{refused}
 use Rattle.definition.proofs.Lists.Tests.{T_true, pick}
-use Rattle.lexer.proofs.Laws.{file_none, line_none, column_none}
 use Rattle.answer.specs.declared.Answer.{Answer}
 use Rattle.answer.specs.Tells.{Tells}
 use Rattle.session.specs.Session.{Session, names_shown}

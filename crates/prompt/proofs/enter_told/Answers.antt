@@ -33,12 +33,12 @@ append_names-requires c =
 pub invariant_of-count_shown : goal.invariant_of-count_shown
 invariant_of-count_shown c = record {
   readable =
-    laid_readable c.args.words.now c.args.bytes.now c.args.sheet.now c.args.names.now _ c.requires.0.fits c.requires.0.none
-    (c.enter_sheet-answer.ensures c.args.bytes.now c.args.names.now c.requires.0) refl
-    (c.entry_number.ensures (session_in whole c.args.words.now c.args.bytes.now) c.args.names.now (all_apart c.args.words.now c.args.bytes.now c.requires.0.fits)
-    (names_good c.requires.0) c.requires.0.told
-    (last_is c.requires.0 c.requires.1))
-    c.if-answer-ne0.false;
+      laid_readable c.args.words.now c.args.bytes.now c.args.sheet.now c.args.names.now _ c.requires.0.fits c.requires.0.none
+      (c.enter_sheet-answer.ensures c.args.bytes.now c.args.names.now c.requires.0) refl
+      (c.entry_number.ensures (session_in whole c.args.words.now c.args.bytes.now) c.args.names.now (all_apart c.args.words.now c.args.bytes.now c.requires.0.fits)
+      (names_good c.requires.0) c.requires.0.told
+      (last_is c.requires.0 c.requires.1))
+      c.if-answer-ne0.false;
 }
 
 pub returns : goal.returns

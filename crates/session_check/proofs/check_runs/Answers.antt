@@ -1,5 +1,5 @@
 -- `check_runs` meets its contract. Assumes nothing.
-use Rattle.std.proofs.Common.{refl, sym, ap, not, ◌∙◌}
+use Rattle.std.proofs.Common.{sym, ap, not, ◌∙◌}
 use Rattle.session_check.proofs.WholeLaws.{counts_refuse, names_refuse, numbers_decide, limited, room}
 use Rattle.session_names.proofs.NameLaws.{listing_no, start_bytes}
 use Rattle.session_check.proofs.check_runs.Goals as goal

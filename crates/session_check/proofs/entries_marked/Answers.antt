@@ -1,4 +1,4 @@
-use mathlib.Core.Path.{refl, ◌∙◌}
+use mathlib.Core.Path.{refl}
 use native.Mathlib.Omega.{arith}
 use Rattle.session_rows.proofs.RunLaws.{all_start, all_refused, all_next, all_done}
 use Rattle.session_check.proofs.ClauseLaws.{after_next, entry_members}

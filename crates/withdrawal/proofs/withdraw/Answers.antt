@@ -1,5 +1,5 @@
 -- `withdrawal::withdraw` meets its contract. Assumes nothing.
-use mathlib.Core.Path.{refl, sym, ◌∙◌}
+use mathlib.Core.Path.{sym, ◌∙◌}
 use Rattle.ast.proofs.QuestionLaws.{question_none}
 use Rattle.withdrawal.proofs.WithdrawLaws.{entry_there, cut_readable, withdrawn_by, words_cut, words_kept}
 use Rattle.withdrawal.proofs.withdraw.Goals as goal
