@@ -29,20 +29,25 @@ pub fn fill(sheet: &[u32], n: u32, last: u32, table: &mut [u32]) -> bool
 fn literal_fits(sheet: &[u32], table: &[u32], row: u32) -> bool
     ensures { result ≡ literal_ok sheet.now table.now row }
 {
-    let class = word(sheet, row, column::A);
-    !is_kind(sheet, row, Kind::Literal)
-        || class == 0
-        || word(table, class, known::UNIT) == word(table, row, known::UNIT)
+    if is_kind(sheet, row, Kind::Literal) {
+        let class = word(sheet, row, column::A);
+        class == 0 || word(table, class, known::UNIT) == word(table, row, known::UNIT)
+    } else {
+        true
+    }
 }
 
 #[tactic(auto, unfolding(row_fits::specs::Pass::declaration_ok))]
 fn declaration_fits(sheet: &[u32], table: &[u32], row: u32) -> bool
     ensures { result ≡ declaration_ok sheet.now table.now row }
 {
-    let fun = word(table, row, known::FUNCTION);
-    let class = word(sheet, row, column::A);
-    !is_kind(sheet, row, Kind::ClassDeclaration)
-        || word(table, fun, known::PARENT) == word(table, class, known::PARENT)
+    if is_kind(sheet, row, Kind::ClassDeclaration) {
+        let fun = word(table, row, known::FUNCTION);
+        let class = word(sheet, row, column::A);
+        word(table, fun, known::PARENT) == word(table, class, known::PARENT)
+    } else {
+        true
+    }
 }
 
 #[tactic(auto, unfolding(row_fits::specs::Pass::class_ok))]
