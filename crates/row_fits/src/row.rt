@@ -62,6 +62,7 @@ fn is_mode(start: u32, value: u32) -> bool
 }
 
 // Does `value` fit a rule of columns, where `last` is the last name?
+#[inline(always)]
 fn holds(sheet: &[u32], last: u32, rule: Rule, value: u32) -> bool
     ensures { result ≡ holds_rule sheet.now last (rule_at (rule_number rule)) value }
 {
@@ -83,6 +84,7 @@ fn holds(sheet: &[u32], last: u32, rule: Rule, value: u32) -> bool
 }
 
 // The state of a child list after a child of a kind, in state `state`.
+#[inline(always)]
 #[tactic(auto, unfolding(crate::specs::Pass::state_after))]
 fn state_after(state: u32, kind: Option<Kind>) -> u32
     ensures { result ≡ state_after state (number_or_one kind) }
@@ -101,6 +103,7 @@ fn state_at_start(kind: Option<Kind>) -> u32
 }
 
 impl Row {
+    #[inline(always)]
     fn read(sheet: &[u32], row: u32) -> Row
         ensures { ReadsRow sheet.now row result }
     {
