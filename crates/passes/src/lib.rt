@@ -8,7 +8,7 @@ ghost use Rattle.row_fits.specs.Pass.{rows_ok, rows_noted, literal_ok, declarati
 use ast::kind::Kind;
 use ast::{column, limit};
 use row_fits::known;
-use row_fits::row::{note_row, row_fits};
+use row_fits::row::pass_row;
 use words::{is_kind, word};
 
 // Do the rows fit as they are reached, in rising order? Each tells the table what it knows of its next row and first child.
@@ -17,10 +17,9 @@ pub fn fill(sheet: &[u32], n: u32, last: u32, table: &mut [u32]) -> bool
     ensures table_after { result ≡ true → table.new ≡ rows_noted sheet.now n 0 table.old }
 {
     for r in 0..n {
-        if !row_fits(sheet, last, r, table) {
+        if !pass_row(sheet, last, r, table) {
             return false;
         }
-        note_row(sheet, r, table);
     }
     true
 }

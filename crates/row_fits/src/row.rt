@@ -1,5 +1,5 @@
 // One row of a sheet: what question 3 asks of it when the pass reaches it, and what it tells of its next row and first child.
-ghost use Rattle.std.specs.Prelude.{◌≡◌, not, ◌&&◌, ◌||◌, ◌+◌, ◌-◌, eqb, leb, ltb};
+ghost use Rattle.std.specs.Prelude.{true, ◌≡◌, not, ◌&&◌, ◌||◌, ◌+◌, ◌-◌, eqb, leb, ltb};
 ghost use Rattle.ast.specs.Kind.{kind_number};
 ghost use Rattle.definition.specs.Sheet.{kind, next, rows, is};
 ghost use Rattle.definition.specs.Shape.{holds as holds_rule};
@@ -201,13 +201,14 @@ impl Row {
     }
 }
 
-// The same when the pass reaches `row`.
-pub fn row_fits(sheet: &[u32], last: u32, row: u32, table: &[u32]) -> bool
+// The same of `row`, which has the words `w`, when the pass reaches it.
+fn row_fits(sheet: &[u32], last: u32, row: u32, w: Row, table: &[u32]) -> bool
+    requires { ReadsRow sheet.now row w }
     ensures { result ≡ row_ok sheet.now last row table.now }
 {
     let parent = word(table, row, known::PARENT);
     let state = word(table, row, known::STATE);
-    Row::read(sheet, row).is_as_asked(sheet, last, row, parent, state, table)
+    w.is_as_asked(sheet, last, row, parent, state, table)
 }
 
 impl Entry {
@@ -325,14 +326,27 @@ fn note_declared(row: u32, w: Row, table: &mut [u32])
     }
 }
 
-// What `row` tells: the entries of its next row and first child, its own unit and class, the class that it declares.
-pub fn note_row(sheet: &[u32], row: u32, table: &mut [u32])
+// What `row`, which has the words `w`, tells: the entries of its next row and first child, its own unit and class, the class that it declares.
+fn note_row(sheet: &[u32], row: u32, w: Row, table: &mut [u32])
+    requires { ReadsRow sheet.now row w }
     ensures { table.new ≡ note_row sheet.now row table.old }
 {
-    let w = Row::read(sheet, row);
     let e = Entry::get(table, row);
     e.note_next(w, table);
     e.note_child(sheet, row, w, table);
     e.note_own(sheet, row, w, table);
     note_declared(row, w, table);
+}
+
+// Does `row` fit when the pass reaches it? If it does, the table has what it tells. The row is read once for both.
+pub fn pass_row(sheet: &[u32], last: u32, row: u32, table: &mut [u32]) -> bool
+    ensures value { result ≡ row_ok sheet.now last row table.old }
+    ensures table_after { result ≡ true → table.new ≡ note_row sheet.now row table.old }
+{
+    let w = Row::read(sheet, row);
+    let fits = row_fits(sheet, last, row, w, table);
+    if fits {
+        note_row(sheet, row, w, table);
+    }
+    fits
 }
