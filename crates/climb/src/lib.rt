@@ -31,8 +31,12 @@ fn run_size(parents: &[u32], marks: &[u32]) -> u32
 fn is_pending(marks: &[u32], size: u32, mark: u32, c: u32) -> bool
     ensures { result ≡ is_pending size mark marks.now c }
 {
-    let m = entry_at(marks, c);
-    c < size && (m == 0 || m == mark)
+    if c < size {
+        let m = entry_at(marks, c);
+        m == 0 || m == mark
+    } else {
+        false
+    }
 }
 
 // Was a class met in this climb?

@@ -1,7 +1,9 @@
 -- The two passes over the links: do all rise, and is every row but 0 linked exactly once?
 use mathlib.Core.Path.{◌≡◌, refl, sym, ap, ◌∙◌, subst}
 use mathlib.Core.Bool.{Bool, true, false, ◌&&◌, ◌||◌}
-use Prim.Native.Nat.{ℕ, zero, suc, ◌+◌, ◌*◌, ◌<◌, ◌≤◌}
+use Prim.Native.Nat.{ℕ, zero, suc, ◌+◌, ◌-◌, ◌*◌, ◌<◌, ◌≤◌}
+use Rattle.std.specs.List.{list_all, range_with_len}
+use Rattle.definition.proofs.Lists.Library.{range_same, list_all_same}
 use native.Mathlib.Omega.{arith}
 use lib.Dec.{eqb}
 use lib.ListN.{length, get_or, set, length-set}
@@ -107,6 +109,15 @@ all_same : (p q : ℕ → Bool) (i n : ℕ) → ((k : ℕ) → i ≤ k → k < i
 all_same p q i zero f = refl
 all_same p q i (suc n) f =
     ap (λ (t : Bool). t && all p (from (suc i) n)) (f i (omega arith) (omega arith)) ∙ ap (λ (t : Bool). q i && t) (all_same p q (suc i) n (λ k a b. f k (omega arith) (omega arith)))
+
+-- row 0 is told as any other, since no count of it is asked for
+pub once_from : (seen : List ℕ) (n : ℕ) → list_all (λ k. eqb (get_or seen k 0) 1) (range_with_len 1 (n - 1)) ≡ all (once_in seen) (from 0 n)
+once_from seen zero = refl
+once_from seen (suc n) =
+    let m : suc n - 1 ≡ n = omega arith in
+    ap (λ (k : ℕ). list_all (λ j. eqb (get_or seen j 0) 1) (range_with_len 1 k)) m ∙ ap (list_all (λ j. eqb (get_or seen j 0) 1)) (range_same 1 n)
+    ∙ list_all_same (λ j. eqb (get_or seen j 0) 1) (from 1 n)
+    ∙ all_same (λ j. eqb (get_or seen j 0) 1) (once_in seen) 1 n (λ k a b. ap (λ (t : Bool). t || eqb (get_or seen k 0) 1) (sym (ne_eqb k 0 (λ z. omega arith))))
 
 pub once_linked : (s : Sheet) (seen : List ℕ) → Counts s (rows s) seen
     → all (λ k. eqb k 0 || eqb (get_or seen k 0) 1) (from 0 (rows s)) ≡ all (linked_once (links s)) (from 0 (rows s))

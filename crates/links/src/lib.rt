@@ -8,27 +8,31 @@ ghost use Rattle.definition.specs.Format.{link_rises, links_rise, linked_once, l
 ghost use Rattle.links.specs.Counting.{Counts};
 
 use ast::column;
-use words::word;
+
+const NEXT: usize = column::NEXT as usize;
+
+const CHILD: usize = column::CHILD as usize;
 
 // Is `link` no link, or one from `row` to a higher row?
-fn link_rises(sheet: &[u32], row: u32, link: u32) -> bool
+fn link_rises(sheet: &[u32], row: usize, link: usize) -> bool
     ensures { result ≡ link_rises sheet.now row link }
 {
-    link == 0 || row < link && (link as usize) < sheet.len() / 8
+    link == 0 || row < link && link < sheet.len() / 8
 }
 
-fn both_rise(sheet: &[u32], row: u32) -> bool
+fn both_rise(sheet: &[u32], row: usize) -> bool
+    requires { row < rows sheet.now }
     ensures { result ≡ links_rise sheet.now row }
 {
-    link_rises(sheet, row, word(sheet, row, column::NEXT))
-        && link_rises(sheet, row, word(sheet, row, column::CHILD))
+    link_rises(sheet, row, sheet[8 * row + NEXT] as usize)
+        && link_rises(sheet, row, sheet[8 * row + CHILD] as usize)
 }
 
 pub fn links_rise(sheet: &[u32]) -> bool
     requires { rows sheet.now ≤ 2048 }
     ensures { result ≡ all (links_rise sheet.now) (from 0 (rows sheet.now)) }
 {
-    (0..(sheet.len() / 8) as u32).all(|row| both_rise(sheet, row))
+    (0..sheet.len() / 8).all(|row| both_rise(sheet, row))
 }
 
 // Counts the links to each row in `seen`, all zero at first; the missing links count for row 0.
@@ -37,9 +41,9 @@ fn count_links(sheet: &[u32], seen: &mut [u32])
         × (all (links_rise sheet.now) (from 0 (rows sheet.now)) ≡ true) × ((k : ℕ) → k < rows sheet.now → get_or seen.old k 0 ≡ 0) }
     ensures { Counts sheet.now (rows sheet.now) seen.new }
 {
-    for row in 0..(sheet.len() / 8) as u32 {
-        let next = word(sheet, row, column::NEXT) as usize;
-        let child = word(sheet, row, column::CHILD) as usize;
+    for row in 0..sheet.len() / 8 {
+        let next = sheet[8 * row + NEXT] as usize;
+        let child = sheet[8 * row + CHILD] as usize;
         seen[next] += 1;
         seen[child] += 1;
     }
@@ -50,7 +54,7 @@ fn all_once(n: usize, seen: &[u32]) -> bool
     requires { n ≤ length seen.now }
     ensures { result ≡ all (λ k. eqb k 0 || eqb (get_or seen.now k 0) 1) (from 0 n) }
 {
-    (0..n).all(|k| k == 0 || seen[k] == 1)
+    (1..n).all(|k| seen[k] == 1)
 }
 
 // Is every row but 0 linked exactly once? `seen` has a zero for each row.

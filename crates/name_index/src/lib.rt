@@ -52,8 +52,7 @@ fn free_place(index: &[u32], first: usize) -> usize
     requires { (length index.now ≡ 2048) × (first < 2048) }
     ensures { result ≡ (first + run (turned first index.now)) % 2048 }
 {
-    let (before, from) = index.split_at(first);
-    let free = from.iter().chain(before).position(|&number| number == 0);
+    let free = (0..PLACES).position(|read| index[(first + read) % PLACES] == 0);
     (first + free.unwrap_or(PLACES)) % PLACES
 }
 

@@ -9,14 +9,14 @@ use native.Mathlib.Numerals.{add-one}
 use lib.Dec.{eqb, leb, ltb}
 use lib.ListN.{length, get_or, take, drop, set, length-drop, drop_of_length-le}
 use lib.Seq.{drop-cons, drop-drop, take_all, length-take-le, take-suc-set, append_snoc}
-use borrow.Author.Tests.{ltb-true, ltb-false, le-leb}
-use Rattle.std.specs.List.{position_or_len, list_all, slice_get}
+use borrow.Author.Tests.{ltb-true, ltb-false, lt-ltb, le-ltb, le-leb, lt-leb}
+use Rattle.std.specs.List.{position_or_len, list_all, slice_get, enumerate_from}
 use Rattle.std.specs.Option.{unwrap_or, option_map}
 use Rattle.std.specs.Borrow.{Bor}
 use Rattle.std.proofs.lemmas.Option.{unwrap_or-slice_get}
 use Rattle.std.specs.Prelude.{min, Option, Some, None}
 use Rattle.definition.specs.Basics.{when◌then◌else◌, all, place, total}
-use Rattle.definition.specs.Names.{Name, listed, lead}
+use Rattle.definition.specs.Names.{Name, listed, lead, names_few, names_sized}
 use Rattle.names.specs.Listed.{name_of, first_size, Ends, starts_from, starts}
 
 -- Lists and tests.
@@ -50,11 +50,7 @@ store_last t k x h = rw (add-one, take-suc-set)
 pub store_next : {A : Type 0} (t : List A) (k : ℕ) (x : A) (l : List A) → k < length t → take (k + 1) (set t k x) ++ l ≡ take k t ++ x ∷ l
 store_next t k x l h = rw (store_last t k x h) (append_snoc (take k t) x l)
 
--- `all` and `place` of the definition are the library's
-pub all_same : {A : Type 0} (p : A → Bool) (xs : List A) → all p xs ≡ list_all p xs
-all_same p [] = refl
-all_same p (x ∷ xs) = ap (λ (t : Bool). p x && t) (all_same p xs)
-
+-- `place` of the definition is the library's
 pub place_same : {A : Type 0} (p : A → Bool) (xs : List A) → place p xs ≡ position_or_len p xs
 place_same p [] = refl
 place_same p (x ∷ xs) = go (p x) (place_same p xs)
@@ -146,6 +142,34 @@ module _ (w : List ℕ) (i : ℕ) where
 -- question 2's test of one name
 abbrev pub sized : Name → Bool
 sized n = leb 1 (length n) && leb (length n) 255
+
+-- the same test with its place, which tells how many names stand before it
+abbrev pub placed_sized : ℕ × Name → Bool
+placed_sized p = ltb p.0 1024 && sized p.1
+
+-- every name before place 1,024 and of its size: at most 1,024 of them, each of its size
+by_place : (i : ℕ) (s t : Bool) (m n : ℕ) → m ≡ n → ((i < 1024) → t ≡ (leb m 1024 && s)) → ((1024 ≤ i) → leb n 1024 ≡ false) → (u : Bool)
+    → ((ltb i 1024 && u) && t) ≡ (leb n 1024 && (u && s))
+by_place i s t m n e f g u = go (side i 1024) u
+  where
+    swap : (u v : Bool) → (u && (v && s)) ≡ (v && (u && s))
+    swap true v = refl
+    swap false true = refl
+    swap false false = refl
+
+    go : (i < 1024) ⊎ (1024 ≤ i) → (u : Bool) → ((ltb i 1024 && u) && t) ≡ (leb n 1024 && (u && s))
+    go (inl h) u = rw (lt-ltb i 1024 h, f h, e) (swap u (leb n 1024))
+    go (inr h) u = rw (le-ltb i 1024 h, g h) refl
+
+sized_from : (i : ℕ) (l : List Name) → i ≤ 1024 → list_all placed_sized (enumerate_from i l) ≡ (leb (i + length l) 1024 && all sized l)
+sized_from i [] h = sym (ap (λ (t : Bool). t && true) (le-leb (i + 0) 1024 (omega arith)))
+sized_from i (n ∷ l) h =
+    by_place i (all sized l) (list_all placed_sized (enumerate_from (i + 1) l)) (i + 1 + length l) (i + suc (length l)) (omega arith)
+    (λ k. sized_from (i + 1) l (omega arith)) (λ k. lt-leb (i + suc (length l)) 1024 (omega arith)) (sized n)
+
+-- question 2's test of all names: few, and each of its size
+pub few_sized : (ns : List ℕ) → list_all placed_sized (enumerate_from 0 (listed ns)) ≡ (names_few ns && names_sized ns)
+few_sized ns = let e : 0 + length (listed ns) ≡ length (listed ns) = omega arith in sized_from 0 (listed ns) (omega arith) ∙ ap (λ (k : ℕ). leb k 1024 && names_sized ns) e
 
 -- The name that starts at place `at` of w, and ends at e.
 module _ {w : List ℕ} {at e : ℕ} (n : Ends w at e) where

@@ -84,11 +84,13 @@ pub fn name_bytes(names: &[u8], number: u32) -> &[u8]
 }
 
 // Are the names few enough, and each neither empty nor too long?
+#[tactic(auto, using(crate::proofs::Laws::listed_few))]
 pub fn sizes_fit(names: &[u8]) -> bool
     ensures { result ≡ (names_few names.now && names_sized names.now) }
 {
-    count_names(names) <= limit::NAMES
-        && Names(names).all(|name| (1..=limit::NAME_BYTES).contains(&name.len()))
+    Names(names).enumerate().all(|(place, name)| {
+        place < limit::NAMES && (1..=limit::NAME_BYTES).contains(&name.len())
+    })
 }
 
 // Has the last name its end?

@@ -8,7 +8,7 @@ ghost use Rattle.row_fits.specs.Pass.{rows_ok, rows_noted, literal_ok, declarati
 use ast::kind::Kind;
 use ast::{column, limit};
 use row_fits::known;
-use row_fits::row::{note_row, row_fits};
+use row_fits::row::pass_row;
 use words::{is_kind, word};
 
 // Do the rows fit as they are reached, in rising order? Each tells the table what it knows of its next row and first child.
@@ -17,10 +17,9 @@ pub fn fill(sheet: &[u32], n: u32, last: u32, table: &mut [u32]) -> bool
     ensures table_after { result ≡ true → table.new ≡ rows_noted sheet.now n 0 table.old }
 {
     for r in 0..n {
-        if !row_fits(sheet, last, r, table) {
+        if !pass_row(sheet, last, r, table) {
             return false;
         }
-        note_row(sheet, r, table);
     }
     true
 }
@@ -29,20 +28,25 @@ pub fn fill(sheet: &[u32], n: u32, last: u32, table: &mut [u32]) -> bool
 fn literal_fits(sheet: &[u32], table: &[u32], row: u32) -> bool
     ensures { result ≡ literal_ok sheet.now table.now row }
 {
-    let class = word(sheet, row, column::A);
-    !is_kind(sheet, row, Kind::Literal)
-        || class == 0
-        || word(table, class, known::UNIT) == word(table, row, known::UNIT)
+    if is_kind(sheet, row, Kind::Literal) {
+        let class = word(sheet, row, column::A);
+        class == 0 || word(table, class, known::UNIT) == word(table, row, known::UNIT)
+    } else {
+        true
+    }
 }
 
 #[tactic(auto, unfolding(row_fits::specs::Pass::declaration_ok))]
 fn declaration_fits(sheet: &[u32], table: &[u32], row: u32) -> bool
     ensures { result ≡ declaration_ok sheet.now table.now row }
 {
-    let fun = word(table, row, known::FUNCTION);
-    let class = word(sheet, row, column::A);
-    !is_kind(sheet, row, Kind::ClassDeclaration)
-        || word(table, fun, known::PARENT) == word(table, class, known::PARENT)
+    if is_kind(sheet, row, Kind::ClassDeclaration) {
+        let fun = word(table, row, known::FUNCTION);
+        let class = word(sheet, row, column::A);
+        word(table, fun, known::PARENT) == word(table, class, known::PARENT)
+    } else {
+        true
+    }
 }
 
 #[tactic(auto, unfolding(row_fits::specs::Pass::class_ok))]

@@ -1,5 +1,5 @@
 // One row of a sheet: what question 3 asks of it when the pass reaches it, and what it tells of its next row and first child.
-ghost use Rattle.std.specs.Prelude.{◌≡◌, not, ◌&&◌, ◌||◌, ◌+◌, ◌-◌, eqb, leb, ltb};
+ghost use Rattle.std.specs.Prelude.{true, ◌≡◌, not, ◌&&◌, ◌||◌, ◌+◌, ◌-◌, eqb, leb, ltb};
 ghost use Rattle.ast.specs.Kind.{kind_number};
 ghost use Rattle.definition.specs.Sheet.{kind, next, rows, is};
 ghost use Rattle.definition.specs.Shape.{holds as holds_rule};
@@ -62,6 +62,7 @@ fn is_mode(start: u32, value: u32) -> bool
 }
 
 // Does `value` fit a rule of columns, where `last` is the last name?
+#[inline(always)]
 fn holds(sheet: &[u32], last: u32, rule: Rule, value: u32) -> bool
     ensures { result ≡ holds_rule sheet.now last (rule_at (rule_number rule)) value }
 {
@@ -83,6 +84,7 @@ fn holds(sheet: &[u32], last: u32, rule: Rule, value: u32) -> bool
 }
 
 // The state of a child list after a child of a kind, in state `state`.
+#[inline(always)]
 #[tactic(auto, unfolding(crate::specs::Pass::state_after))]
 fn state_after(state: u32, kind: Option<Kind>) -> u32
     ensures { result ≡ state_after state (number_or_one kind) }
@@ -101,6 +103,7 @@ fn state_at_start(kind: Option<Kind>) -> u32
 }
 
 impl Row {
+    #[inline(always)]
     fn read(sheet: &[u32], row: u32) -> Row
         ensures { ReadsRow sheet.now row result }
     {
@@ -198,13 +201,14 @@ impl Row {
     }
 }
 
-// The same when the pass reaches `row`.
-pub fn row_fits(sheet: &[u32], last: u32, row: u32, table: &[u32]) -> bool
+// The same of `row`, which has the words `w`, when the pass reaches it.
+fn row_fits(sheet: &[u32], last: u32, row: u32, w: Row, table: &[u32]) -> bool
+    requires { ReadsRow sheet.now row w }
     ensures { result ≡ row_ok sheet.now last row table.now }
 {
     let parent = word(table, row, known::PARENT);
     let state = word(table, row, known::STATE);
-    Row::read(sheet, row).is_as_asked(sheet, last, row, parent, state, table)
+    w.is_as_asked(sheet, last, row, parent, state, table)
 }
 
 impl Entry {
@@ -322,14 +326,27 @@ fn note_declared(row: u32, w: Row, table: &mut [u32])
     }
 }
 
-// What `row` tells: the entries of its next row and first child, its own unit and class, the class that it declares.
-pub fn note_row(sheet: &[u32], row: u32, table: &mut [u32])
+// What `row`, which has the words `w`, tells: the entries of its next row and first child, its own unit and class, the class that it declares.
+fn note_row(sheet: &[u32], row: u32, w: Row, table: &mut [u32])
+    requires { ReadsRow sheet.now row w }
     ensures { table.new ≡ note_row sheet.now row table.old }
 {
-    let w = Row::read(sheet, row);
     let e = Entry::get(table, row);
     e.note_next(w, table);
     e.note_child(sheet, row, w, table);
     e.note_own(sheet, row, w, table);
     note_declared(row, w, table);
+}
+
+// Does `row` fit when the pass reaches it? If it does, the table has what it tells. The row is read once for both.
+pub fn pass_row(sheet: &[u32], last: u32, row: u32, table: &mut [u32]) -> bool
+    ensures value { result ≡ row_ok sheet.now last row table.old }
+    ensures table_after { result ≡ true → table.new ≡ note_row sheet.now row table.old }
+{
+    let w = Row::read(sheet, row);
+    let fits = row_fits(sheet, last, row, w, table);
+    if fits {
+        note_row(sheet, row, w, table);
+    }
+    fits
 }

@@ -195,6 +195,7 @@ fn state_by_key(key: u32) -> u32
 }
 
 // The state after a child of a sort.
+#[inline(always)]
 pub fn next_state(state: u32, sort: Sort) -> u32
     ensures { result ≡ entry_of state_table state (sort_number sort + 1) }
 {

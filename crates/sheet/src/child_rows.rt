@@ -1,20 +1,28 @@
 // The child lists of a sheet, row by row. They give no more rows than the sheet has, so they also end where the links form a circle.
-ghost use Rattle.std.specs.Prelude.{◌≡◌};
+ghost use Rattle.std.specs.Prelude.{◌≡◌, ◌+◌, ◌*◌};
 ghost use Rattle.std.specs.Iterator.{YieldsFirst, item_count};
 ghost use Rattle.ast.specs.Kind.{kind_number};
-ghost use Rattle.definition.specs.Sheet.{kids as kids_in, kids_of as kids_of_in};
+ghost use Rattle.definition.specs.Sheet.{chain, next, rows, kids as kids_in, kids_of as kids_of_in};
 ghost use Rattle.sheet.specs.Rest.{rows_left, kind_left};
 
 use ast::column;
 use ast::kind::Kind;
-use words::{is_kind, word};
+use words::{is_kind, word_at};
 
-// The rows of a child list from row `next` on, at most `left` of them.
+// The rows of a child list, at most `left` of them. The next is the word at place `link`, which is read when its row is asked for: measured, since a
+// word read ahead takes a branch more for each row.
 #[derive(Clone, Copy)]
 pub struct ChildRows<'a> {
     pub sheet: &'a [u32],
-    pub next: u32,
+    pub link: usize,
     pub left: usize,
+}
+
+// The place of a word of a row.
+fn place(row: u32, column: u32) -> usize
+    ensures { result ≡ 8 * row + column }
+{
+    8 * (row as usize) + (column as usize)
 }
 
 impl<'a> Iterator for ChildRows<'a> {
@@ -24,12 +32,14 @@ impl<'a> Iterator for ChildRows<'a> {
 
     ghost remaining = { item_count rows_left };
 
+    // Measured: as a call it takes half as long again for long lists, here and below.
+    #[inline(always)]
     fn next(&mut self) -> Option<u32> {
-        if self.left == 0 || self.next == 0 {
+        let row = word_at(self.sheet, self.link);
+        if row == 0 || self.left == 0 {
             return None;
         }
-        let row = self.next;
-        self.next = word(self.sheet, row, column::NEXT);
+        self.link = place(row, column::NEXT);
         self.left -= 1;
         Some(row)
     }
@@ -50,6 +60,7 @@ impl<'a> Iterator for KindRows<'a> {
 
     ghost remaining = { item_count kind_left };
 
+    #[inline(always)]
     fn next(&mut self) -> Option<u32> {
         while let Some(row) = self.rows.next() {
             if is_kind(self.sheet, row, self.kind) {
@@ -66,7 +77,18 @@ pub fn kids(sheet: &[u32], row: u32) -> ChildRows<'_>
 {
     ChildRows {
         sheet,
-        next: word(sheet, row, column::CHILD),
+        link: place(row, column::CHILD),
+        left: sheet.len() / 8,
+    }
+}
+
+// The rows that follow a row in its child list.
+pub fn siblings_after(sheet: &[u32], row: u32) -> ChildRows<'_>
+    ensures { rows_left result ≡ chain (rows sheet.now) sheet.now (next sheet.now row) }
+{
+    ChildRows {
+        sheet,
+        link: place(row, column::NEXT),
         left: sheet.len() / 8,
     }
 }

@@ -15,7 +15,7 @@ ghost use Rattle.std.specs.Option.{unwrap_or};
 
 pub mod child_rows;
 
-pub use crate::child_rows::{kids, kids_of};
+pub use crate::child_rows::{kids, kids_of, siblings_after};
 use ast::kind::Kind;
 use ast::{ClassId, FIRST_CLASS, FunId, column};
 use words::{is_kind, word};

@@ -128,7 +128,7 @@ module _ (s : Sheet) (ok : Importing s) (m : List ℕ) (from k : ℕ) (h : Passe
 abbrev pub Standing : Sheet → List ℕ → ℕ → List ℕ → Type 0
 Standing s m from ks = (k : ℕ) × (ks ≡ chain (rows s) s k) × Passed s m from k
 
-pub standing_start : (s : Sheet) (m : List ℕ) (from : ℕ) {ks : List ℕ} → from < rows s → ks ≡ chain (rows s) s from → Standing s m from ks
+standing_start : (s : Sheet) (m : List ℕ) (from : ℕ) {ks : List ℕ} → from < rows s → ks ≡ chain (rows s) s from → Standing s m from ks
 standing_start s m from l e = (from, e, (l, ([], refl, tt)))
 
 module _ (s : Sheet) (ok : Importing s) (m : List ℕ) (from : ℕ) {ks : List ℕ} (h : Standing s m from ks) where
@@ -156,6 +156,14 @@ module _ (s : Sheet) (ok : Importing s) (m : List ℕ) (from : ℕ) {ks : List �
       (⊎_elim (λ q. q)
       (λ f. let on : [] ≡ h.0 ∷ chain (rows s) s (next s h.0) = sym e ∙ h.1 ∙ chain_on s ok.nexts h.0 (omega (arith, f)) h.2.0 in cc)
       (same_or h.0 0))
+
+-- the row that is looked at first, and those after it
+module _ (s : Sheet) (ok : Importing s) (m : List ℕ) (from : ℕ) (l : from < rows s) where
+  pub standing_first : (from ≡ 0 → ⊥) → {ks : List ℕ} → ks ≡ chain (rows s) s (next s from) → Standing s m from (from ∷ ks)
+  standing_first f e = standing_start s m from l (ap (λ (js : List ℕ). from ∷ js) e ∙ sym (chain_on s ok.nexts from (omega (arith, f)) l))
+
+  pub standing_none : from ≡ 0 → WaitsAt s m from 0
+  standing_none e = standing_end s ok m from (standing_start s m from l (sym (ap (chain (rows s) s) e ∙ chain_none (rows s) s))) refl
 
 -- what is found, as a number
 pub found_at : (s : Sheet) (m : List ℕ) (from : ℕ) (o : Option ℕ) → WaitsFound s m from o → WaitsAt s m from (unwrap_or o 0) × (is_none o ≡ eqb (unwrap_or o 0) 0)

@@ -8,8 +8,7 @@ ghost use Rattle.start_units.specs.Starting.{following as following_row, or_past
 
 use ast::column;
 use ast::kind::Kind;
-use sheet::child_rows::ChildRows;
-use sheet::kids_of;
+use sheet::{kids_of, siblings_after};
 use words::{entry_at, is_kind, put_at, put_entry, word};
 
 // Is row `k` an import whose unit has no mark?
@@ -25,12 +24,13 @@ fn first_waiting(sheet: &[u32], from: u32, marks: &[u32]) -> Option<u32>
     requires { Importing sheet.now × (from < rows_of sheet.now) }
     ensures { WaitsFound sheet.now marks.now from result }
 {
-    let rest = ChildRows {
-        sheet,
-        next: from,
-        left: sheet.len() / 8,
-    };
-    for k in rest {
+    if from == 0 {
+        return None;
+    }
+    if waits_for(sheet, from, marks) {
+        return Some(from);
+    }
+    for k in siblings_after(sheet, from) {
         if waits_for(sheet, k, marks) {
             return Some(k);
         }

@@ -89,6 +89,14 @@ not_padded (x ∷ xs) some n = rw (short n, le-leb 1 (suc (length xs)) (omega ar
     go true b = refl
     go false b = refl
 
+-- a zero that no digit follows
+zero_read : (ds : List ℕ) → false ≡ eqb (length ds) 0 → ((get_or ds 0 0 ≡ 48) × (length ds ≤ 1)) ⊎ (get_or ds 0 0 ≡ 48 → ⊥) → get_or ds 0 0 ≡ 48 → digits_from 0 ds ≡ Some 0
+unfolding digits_from
+zero_read [] some n z = absurd (omega (arith, z))
+zero_read (x ∷ []) some n z = rw z
+zero_read (x ∷ y ∷ ys) some (inl h) z = absurd (omega (arith, h.1))
+zero_read (x ∷ y ∷ ys) some (inr f) z = absurd (f z)
+
 -- a column's number, by what follows its spaces
 module _ (l : List ℕ) where
   pub number_missing : (ds : List ℕ) → ds ≡ trimmed l → true ≡ eqb (length ds) 0 → number_in l ≡ None
@@ -124,6 +132,9 @@ module _ (l : List ℕ) where
             let q : w ≡ v = cc in
             rw q
         go false w k = cc
+
+    pub number_zero : get_or ds 0 0 ≡ 48 → number_in l ≡ Some 0
+    number_zero z = number_is 0 (zero_read ds some n z)
 
 -- what fits a word
 pub word_fits : {E : Type 0} (r : Result ℕ E) (v : ℕ) → OkIff r (v < 2 ^ 32) v → result_ok r ≡ (when leb v 4294967295 then Some v else None)

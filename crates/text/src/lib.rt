@@ -45,6 +45,10 @@ fn read_number(column: &[u8]) -> Option<u32>
     if digits.is_empty() || digits[0] == b'0' && digits.len() > 1 {
         return None;
     }
+    // Measured: most columns of a sheet are 0, which needs no loop over digits.
+    if digits[0] == b'0' {
+        return Some(0);
+    }
     u32::try_from(read_digits(digits)?).ok()
 }
 

@@ -26,6 +26,7 @@ pub fn is_kind(sheet: &[u32], row: u32, kind: Kind) -> bool
 }
 
 // The kind of a row of a sheet.
+#[inline(always)]
 pub fn kind_at(sheet: &[u32], row: u32) -> Result<Kind, UnknownKind>
     ensures { ReadsKind (kind sheet.now row) result }
 {

@@ -11,4 +11,4 @@ returns c =
       c.note_child.ensures,
       c.note_next.ensures,
       c.get-e.ensures,
-    ) (noted_same _ _ _ _ _ c.read-w.ensures)
+    ) (noted_same _ _ _ _ _ c.requires)
