@@ -199,16 +199,28 @@ impl Row {
             && self.ends_fit(row, state)
             && self.first_declared(table)
     }
-}
 
-// The same of `row`, which has the words `w`, when the pass reaches it.
-fn row_fits(sheet: &[u32], last: u32, row: u32, w: Row, table: &[u32]) -> bool
-    requires { ReadsRow sheet.now row w }
-    ensures { result ≡ row_ok sheet.now last row table.now }
-{
-    let parent = word(table, row, known::PARENT);
-    let state = word(table, row, known::STATE);
-    w.is_as_asked(sheet, last, row, parent, state, table)
+    // The same when the pass reaches `row`, which has these words.
+    fn fits(self, sheet: &[u32], last: u32, row: u32, table: &[u32]) -> bool
+        requires { ReadsRow sheet.now row self }
+        ensures { result ≡ row_ok sheet.now last row table.now }
+    {
+        let parent = word(table, row, known::PARENT);
+        let state = word(table, row, known::STATE);
+        self.is_as_asked(sheet, last, row, parent, state, table)
+    }
+
+    // What `row`, which has these words, tells: the entries of its next row and first child, its own unit and class, the class that it declares.
+    fn note(self, sheet: &[u32], row: u32, table: &mut [u32])
+        requires { ReadsRow sheet.now row self }
+        ensures { table.new ≡ note_row sheet.now row table.old }
+    {
+        let e = Entry::get(table, row);
+        e.note_next(self, table);
+        e.note_child(sheet, row, self, table);
+        e.note_own(sheet, row, self, table);
+        note_declared(row, self, table);
+    }
 }
 
 impl Entry {
@@ -326,27 +338,15 @@ fn note_declared(row: u32, w: Row, table: &mut [u32])
     }
 }
 
-// What `row`, which has the words `w`, tells: the entries of its next row and first child, its own unit and class, the class that it declares.
-fn note_row(sheet: &[u32], row: u32, w: Row, table: &mut [u32])
-    requires { ReadsRow sheet.now row w }
-    ensures { table.new ≡ note_row sheet.now row table.old }
-{
-    let e = Entry::get(table, row);
-    e.note_next(w, table);
-    e.note_child(sheet, row, w, table);
-    e.note_own(sheet, row, w, table);
-    note_declared(row, w, table);
-}
-
 // Does `row` fit when the pass reaches it? If it does, the table has what it tells. The row is read once for both.
 pub fn pass_row(sheet: &[u32], last: u32, row: u32, table: &mut [u32]) -> bool
     ensures value { result ≡ row_ok sheet.now last row table.old }
     ensures table_after { result ≡ true → table.new ≡ note_row sheet.now row table.old }
 {
     let w = Row::read(sheet, row);
-    let fits = row_fits(sheet, last, row, w, table);
+    let fits = w.fits(sheet, last, row, table);
     if fits {
-        note_row(sheet, row, w, table);
+        w.note(sheet, row, table);
     }
     fits
 }

@@ -1,6 +1,6 @@
 use Rattle.row_fits.specs.Pass.{note_all}
 use Rattle.row_fits.proofs.Laws.{noted_same}
-use Rattle.row_fits.proofs.row.note_row.Goals as goal
+use Rattle.row_fits.proofs.row.Row.note.Goals as goal
 
 pub returns : goal.returns
 unfolding note_all
