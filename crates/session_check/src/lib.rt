@@ -44,7 +44,7 @@ fn entries_fit(words: &[u32]) -> bool
 }
 
 // Are all numbers of the session as they should be?
-#[tactic(auto, unfolding(crate::specs::Clauses::numbers_right))]
+#[tactic(auto, unfolding(crate::specs::Clauses::numbers_right), using(session_rows::proofs::OrderLaws::in_order))]
 fn numbers_fit(words: &[u32], starts: &[u32]) -> bool
     requires { Limited words.now }
     ensures { result ≡ numbers_right words.now starts.now }

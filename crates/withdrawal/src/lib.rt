@@ -40,6 +40,7 @@ fn ask_withdrawal(session: LentSession<'_>) -> Result<(), Question>
 }
 
 // Writes one entry less, and the counts that the row before the latest one tells. Words alone: no byte is read or written.
+#[tactic(auto, using(crate::proofs::WithdrawLaws::counts_cut))]
 fn cut_counts(words: &mut [u32])
     requires { (0 < get_or words.old 1 0) × (get_or words.old 1 0 ≤ 1000) }
     ensures { words.new ≡ words_without whole words.old [] }
