@@ -74,6 +74,7 @@ fn shown_fits(runs: SessionRuns<'_>) -> bool
 }
 
 // Question 23 of a session. Its listed names with their index, if it gets a yes.
+#[tactic(auto, using(session_names::proofs::NameLaws::listing_no, session_outside::proofs::ReadableLaws::runs_readable, crate::proofs::WholeLaws::runs_refuse, crate::proofs::WholeLaws::shown_decide))]
 pub fn check_session<'a>(session: LentSession<'a>, space: NameSpace<'a>) -> Option<NameIndex<'a>>
     ensures { Checked session.entry.words.now session.entry.bytes.now result }
 {

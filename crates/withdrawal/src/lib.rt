@@ -67,6 +67,7 @@ fn cut_counts(words: &mut [u32])
 }
 
 // The answer of a withdrawal: the question that got a no, or 0.
+#[tactic(auto, using(lexer::proofs::Laws::file_none, lexer::proofs::Laws::line_none, lexer::proofs::Laws::column_none))]
 fn answer_of(number: u32) -> Answer
     ensures { Tells (refused number) result }
 {
