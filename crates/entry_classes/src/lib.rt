@@ -138,6 +138,7 @@ fn member_of(source: Source<'_>, row: &[u32]) -> Member
 }
 
 // The class that an answer row tells. Its parent is raised from the number that the walk stored, as a method's function is.
+#[tactic(auto, using(crate::proofs::RowLaws::row_below, crate::proofs::RowLaws::class_told))]
 fn class_of(source: Source<'_>, row: &[u32]) -> Class
     requires { (length row.now ≡ 8) × T (row_fits row.now) }
     ensures { (o : Store) (nodes : List ℕ) → class_of result

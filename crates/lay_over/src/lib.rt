@@ -38,6 +38,7 @@ fn is_mutable(sheet: &[u32], row: u32) -> bool
 }
 
 // What open entry `i`, which is no mark, means to later entries.
+#[tactic(auto, using(crate::proofs::LaidLaws::function_words, crate::proofs::LaidLaws::class_words_lem, crate::proofs::LaidLaws::global_words, crate::proofs::LaidLaws::let_words, crate::proofs::LaidLaws::other_words))]
 fn left_at(left: Left<'_>, i: u32) -> Laid
     ensures { laid_of result ≡ laid_words (named (entry_word left.entry.entries.now i 1)
         (left_by left.entry.sheet.now left.entry.base (entry_word left.entry.entries.now i 0)
@@ -93,6 +94,7 @@ fn put_laid(words: &mut [u32], place: usize, d: Laid)
 }
 
 // How many declarations open entry `i` leaves: none, if it is a mark.
+#[tactic(auto, using(crate::proofs::LaidLaws::count_left))]
 fn count_left(entries: &[u32], i: u32) -> u32
     ensures { (s : Sheet) (n : ℕ) → result ≡ length (left_in s n entries.now i) }
 {
@@ -111,6 +113,7 @@ pub fn count_laid(entries: &[u32], first: u32, end: u32) -> u32
 }
 
 // Writes what open entry `i` leaves, and answers how many words that are, 0 for a mark.
+#[tactic(auto, using(crate::proofs::LaidLaws::mark_written, crate::proofs::LaidLaws::name_written))]
 fn put_left(words: &mut [u32], place: usize, left: Left<'_>, i: u32) -> usize
     requires { place ≤ 34359738368 }
     ensures { (words.new ≡ sets words.old place (concat_map laid_words (left_in left.entry.sheet.now left.entry.base left.entry.entries.now i)))

@@ -16,6 +16,7 @@ use words::{entry_at, put_entry, word_at};
 const LAST_CORE: u32 = 9;
 
 // Marks a name. Had it no mark? One that has a mark keeps it.
+#[tactic(auto, using(crate::proofs::CountLaws::known_counted, crate::proofs::CountLaws::new_counted))]
 fn mark_name(name: u32, marks: &mut [u32]) -> bool
     ensures { (y : Named) (ys : List Named) → name ≡ y.name
         → bit result + length (firsts marks.new ys) ≡ length (firsts marks.old (y ∷ ys)) }
@@ -52,6 +53,7 @@ fn count_core(marks: &mut [u32]) -> u32
 }
 
 // Counts all, with lent marks.
+#[tactic(auto, using(crate::proofs::CountLaws::all_counted))]
 fn count_marked(runs: SessionRuns<'_>, marks: &mut [u32]) -> u32
     requires { marks.old ≡ replicate 1049 0 }
     ensures { result ≡ length (visible_names runs.entry.words.now) }

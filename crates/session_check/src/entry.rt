@@ -109,6 +109,7 @@ impl Entry<'_> {
     }
 
     // Is declaration i as it should be?
+    #[tactic(auto, using(crate::proofs::ClauseLaws::laid_yes))]
     fn declaration_fits(self, i: usize) -> bool
         requires { i < 2 ^ 32 }
         ensures { result ≡ laid_fits whole self.entry.words.now [] self.entry.number i }

@@ -44,7 +44,7 @@ fn entries_fit(words: &[u32]) -> bool
 }
 
 // Are all numbers of the session as they should be?
-#[tactic(auto, unfolding(crate::specs::Clauses::numbers_right))]
+#[tactic(auto, unfolding(crate::specs::Clauses::numbers_right), using(session_rows::proofs::OrderLaws::in_order))]
 fn numbers_fit(words: &[u32], starts: &[u32]) -> bool
     requires { Limited words.now }
     ensures { result ≡ numbers_right words.now starts.now }
@@ -74,6 +74,7 @@ fn shown_fits(runs: SessionRuns<'_>) -> bool
 }
 
 // Question 23 of a session. Its listed names with their index, if it gets a yes.
+#[tactic(auto, using(session_names::proofs::NameLaws::listing_no, session_outside::proofs::ReadableLaws::runs_readable, crate::proofs::WholeLaws::runs_refuse, crate::proofs::WholeLaws::shown_decide))]
 pub fn check_session<'a>(session: LentSession<'a>, space: NameSpace<'a>) -> Option<NameIndex<'a>>
     ensures { Checked session.entry.words.now session.entry.bytes.now result }
 {

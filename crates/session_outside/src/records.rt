@@ -47,6 +47,7 @@ fn class_rows(runs: SessionRuns<'_>, first: u32, start: u32, out: &mut [u32]) ->
 }
 
 // Writes the rows of the core's records: UIEvent (name 7) with nine fields, AudioNeeded (8) with three, AudioData (9) with two; none has methods.
+#[tactic(auto, using(crate::proofs::RecordLaws::core_rows_written))]
 fn core_rows(row: u32, place: u32, out: &mut [u32])
     requires { (row ≤ 16384) × (place ≤ 131072) }
     ensures { out.new ≡ sets out.old (8 * row) (record_rows place core.records) }

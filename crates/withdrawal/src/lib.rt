@@ -40,6 +40,7 @@ fn ask_withdrawal(session: LentSession<'_>) -> Result<(), Question>
 }
 
 // Writes one entry less, and the counts that the row before the latest one tells. Words alone: no byte is read or written.
+#[tactic(auto, using(crate::proofs::WithdrawLaws::counts_cut))]
 fn cut_counts(words: &mut [u32])
     requires { (0 < get_or words.old 1 0) × (get_or words.old 1 0 ≤ 1000) }
     ensures { words.new ≡ words_without whole words.old [] }
@@ -66,6 +67,7 @@ fn cut_counts(words: &mut [u32])
 }
 
 // The answer of a withdrawal: the question that got a no, or 0.
+#[tactic(auto, using(lexer::proofs::Laws::file_none, lexer::proofs::Laws::line_none, lexer::proofs::Laws::column_none))]
 fn answer_of(number: u32) -> Answer
     ensures { Tells (refused number) result }
 {

@@ -9,4 +9,6 @@ use Rattle.entry_classes.proofs.append_part.Given as goal
 
 abbrev pub invariant-loop-i : goal.invariant-loop-i
 invariant-loop-i l =
-    Writing (λ (x : Store × List ℕ). part_in l.part (over l.source.outside.now) l.source.sheet.now (store_of x.0 l.source.results.now x.1) l.source.base) (part_words l.part) l.initial.words l.place l.out l.rows l.words l.i l.p
+    Writing
+    (λ (x : Store × List ℕ). part_in l.part (over l.source.outside.now) l.source.sheet.now (store_of x.0 l.source.results.now x.1) l.source.base)
+    (part_words l.part) l.initial.words l.place l.out l.rows l.words l.i l.p

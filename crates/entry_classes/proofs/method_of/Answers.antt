@@ -26,5 +26,5 @@ returns c =
     λ o q.
     let tells = c.find_method-found.ensures o q in
     ap (λ (f : ℕ). c.args.name ∷ f ∷ c.find_method-found.result.params ∷ []) (c.raised_function.ensures ∙ ap (raised_function c.args.source.base) tells.fun_is)
-    ∙ ap (λ (p : ℕ). c.args.name ∷ raised_function c.args.source.base (method_of c.args.name (methods_in (over c.args.source.outside.now) c.args.source.sheet.now (store_of o c.args.source.results.now q)
-    (rows c.args.source.sheet.now) (256 + c.args.row))).fun ∷ p ∷ []) tells.params_are
+    ∙ ap (λ (p : ℕ). c.args.name ∷ raised_function c.args.source.base (method_of c.args.name (methods_in (over c.args.source.outside.now)
+    c.args.source.sheet.now (store_of o c.args.source.results.now q) (rows c.args.source.sheet.now) (256 + c.args.row))).fun ∷ p ∷ []) tells.params_are

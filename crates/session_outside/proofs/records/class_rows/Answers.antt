@@ -32,7 +32,8 @@ loop-i-preserved c =
       omega arith,
       omega (arith, c.class_row-place.ensures.0, members_next c.args.runs.words.now c.loop-i.i, fields_count c.args.runs.words.now c.loop-i.i, methods_count c.args.runs.words.now c.loop-i.i),
       omega (arith, c.class_row-place.auto.out, c.loop-i.invariant.2),
-      row_next c.loop-i.out (c.args.first + c.loop-i.i) c.loop-i.place (records_next c.args.runs.words.now c.loop-i.i l) c.class_row-place.ensures.1 z c.class_row-place.ensures.0 ∙ c.loop-i.invariant.3,
+      row_next c.loop-i.out (c.args.first + c.loop-i.i) c.loop-i.place (records_next c.args.runs.words.now c.loop-i.i l) c.class_row-place.ensures.1 z c.class_row-place.ensures.0
+          ∙ c.loop-i.invariant.3,
     )
 
 pub shape_of-out : goal.shape_of-out

@@ -7,4 +7,5 @@ use Rattle.session_check.proofs.entry.Entry.declarations_fit.Goals as goal
 
 pub returns : goal.returns
 returns c =
-    all_between (laid_fits whole c.args.self.words.now [] c.args.self.number) c.all.ensures.ran (after c.args.self.words.now c.args.self.number 2) (after c.args.self.words.now (suc c.args.self.number) 2) (cc) (λ x b q k. search rules)
+    all_between (laid_fits whole c.args.self.words.now [] c.args.self.number) c.all.ensures.ran
+    (after c.args.self.words.now c.args.self.number 2) (after c.args.self.words.now (suc c.args.self.number) 2) (cc) (λ x b q k. search rules)
