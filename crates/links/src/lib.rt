@@ -9,6 +9,7 @@ ghost use Rattle.links.specs.Counting.{Counts};
 
 use ast::column;
 
+// Links are read by index and not by `word`: measured, as its test of the place costs a third more for each link.
 const NEXT: usize = column::NEXT as usize;
 
 const CHILD: usize = column::CHILD as usize;

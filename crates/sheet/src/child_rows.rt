@@ -36,11 +36,11 @@ impl<'a> Iterator for ChildRows<'a> {
     #[inline(always)]
     fn next(&mut self) -> Option<u32> {
         let row = word_at(self.sheet, self.link);
-        if row == 0 || self.left == 0 {
+        if row == 0 {
             return None;
         }
+        self.left = self.left.checked_sub(1)?;
         self.link = place(row, column::NEXT);
-        self.left -= 1;
         Some(row)
     }
 }

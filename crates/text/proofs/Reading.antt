@@ -90,7 +90,8 @@ not_padded (x ∷ xs) some n = rw (short n, le-leb 1 (suc (length xs)) (omega ar
     go false b = refl
 
 -- a zero that no digit follows
-zero_read : (ds : List ℕ) → false ≡ eqb (length ds) 0 → ((get_or ds 0 0 ≡ 48) × (length ds ≤ 1)) ⊎ (get_or ds 0 0 ≡ 48 → ⊥) → get_or ds 0 0 ≡ 48 → digits_from 0 ds ≡ Some 0
+zero_read : (ds : List ℕ) → false ≡ eqb (length ds) 0 → ((get_or ds 0 0 ≡ 48) × (length ds ≤ 1)) ⊎ (get_or ds 0 0 ≡ 48 → ⊥) → get_or ds 0 0 ≡ 48
+    → digits_from 0 ds ≡ Some 0
 unfolding digits_from
 zero_read [] some n z = absurd (omega (arith, z))
 zero_read (x ∷ []) some n z = rw z

@@ -10,6 +10,8 @@ use Rattle.names.proofs.sizes_fit.Goals as goal
 pub returns : goal.returns
 returns c =
     all_from_yields_List placed_sized c.all.new.self _ c.all.result c.all.ensures.ran
-    (YieldsList-from_enumerate (YieldsList-from_first (λ n. n.now) (λ left. listed left.0.now) (listed c.args.names.now) (ap (λ (i : Names). listed i.0.now) c.enumerate.ensures.source)) c.enumerate.ensures.count)
+    (YieldsList-from_enumerate
+    (YieldsList-from_first (λ n. n.now) (λ left. listed left.0.now) (listed c.args.names.now) (ap (λ (i : Names). listed i.0.now) c.enumerate.ensures.source))
+    c.enumerate.ensures.count)
     (λ x b q k. search (rules, tests))
     ∙ few_sized c.args.names.now
