@@ -7,8 +7,9 @@ ghost use Rattle.machine.specs.Machine.{entry_word, find_name, taken_in, loop_in
 ghost use Rattle.symbols.specs.OpenScopes.{scopes_of};
 
 use crate::{entry, tag};
-use ast::{FunId, column, kind};
-use words::word;
+use ast::FunId;
+use ast::kind::Kind;
+use words::is_kind;
 
 // The counters: entries in use, the next slot of a local, the innermost function or 0, the number of the next global.
 #[derive(Clone, Copy)]
@@ -41,50 +42,36 @@ pub fn find_name(sheet: &[u32], entries: &[u32], m: u32, n: u32) -> NamePlace
     ensures { (result.place ≡ find_name entries.now m n)
         × (result.marks ≡ marks_after sheet.now entries.now m n) }
 {
-    let mut i = n;
     let mut marks = 0;
-    while 0 < i {
-        let at = i - 1;
+    for at in (0..n).rev() {
         let w = 5 * (at as usize);
         let tag = entries[w];
         let name = entries[w + 1];
         if tag == tag::SCOPE {
-            if word(sheet, name, column::KIND) == kind::FUNCTION {
+            if is_kind(sheet, name, Kind::Function) {
                 marks += 1;
             }
-        } else {
-            if name == m {
-                if tag::SCOPE < tag {
-                    return NamePlace {
-                        place: i,
-                        marks: marks,
-                    };
-                }
-            }
+        } else if name == m && tag::SCOPE < tag {
+            return NamePlace {
+                place: at + 1,
+                marks,
+            };
         }
-        i = at;
     }
-    NamePlace {
-        place: 0,
-        marks: marks,
-    }
+    NamePlace { place: 0, marks }
 }
 
 // Is name `m` declared in the innermost scope?
 pub fn has_local(entries: &[u32], m: u32, n: u32) -> bool
     ensures { result ≡ taken_in entries.now m n }
 {
-    let mut i = n;
-    while 0 < i {
-        i -= 1;
+    for i in (0..n).rev() {
         let tag = entry_word(entries, i, entry::TAG);
         if tag == tag::SCOPE {
             return false;
         }
-        if entry_word(entries, i, entry::NAME) == m {
-            if tag::SCOPE < tag {
-                return true;
-            }
+        if entry_word(entries, i, entry::NAME) == m && tag::SCOPE < tag {
+            return true;
         }
     }
     false
@@ -94,17 +81,15 @@ pub fn has_local(entries: &[u32], m: u32, n: u32) -> bool
 pub fn in_loop(sheet: &[u32], entries: &[u32], n: u32) -> bool
     ensures { result ≡ loop_in sheet.now entries.now n }
 {
-    let mut i = n;
-    while 0 < i {
-        i -= 1;
+    for i in (0..n).rev() {
         let tag = entry_word(entries, i, entry::TAG);
         if tag == tag::LOOP {
             return true;
         }
-        if tag == tag::SCOPE {
-            if word(sheet, entry_word(entries, i, entry::NAME), column::KIND) == kind::FUNCTION {
-                return false;
-            }
+        if tag == tag::SCOPE
+            && is_kind(sheet, entry_word(entries, i, entry::NAME), Kind::Function)
+        {
+            return false;
         }
     }
     false
@@ -114,9 +99,7 @@ pub fn in_loop(sheet: &[u32], entries: &[u32], n: u32) -> bool
 fn last_mark(entries: &[u32], n: u32) -> u32
     ensures { result ≡ last_mark entries.now n }
 {
-    let mut i = n;
-    while 0 < i {
-        i -= 1;
+    for i in (0..n).rev() {
         if entry_word(entries, i, entry::TAG) == tag::SCOPE {
             return i;
         }
@@ -155,7 +138,7 @@ pub fn push_entry(
 fn fun_inside(sheet: &[u32], row: u32, fun: FunId) -> FunId
     ensures { result.0 ≡ (when is sheet.now 6 row then row else fun.0) }
 {
-    if word(sheet, row, column::KIND) == kind::FUNCTION {
+    if is_kind(sheet, row, Kind::Function) {
         FunId(row)
     } else {
         fun
@@ -166,13 +149,11 @@ fn fun_inside(sheet: &[u32], row: u32, fun: FunId) -> FunId
 pub fn push_scope(sheet: &[u32], row: u32, env: Env, entries: &mut [u32]) -> Env
     ensures { scopes_of result entries.new ≡ step_scopes sheet.now (enter row) (scopes_of env entries.old) }
 {
-    let fun = fun_inside(sheet, row, env.fun);
     let count = push_entry(entries, env.count, tag::SCOPE, row, env.fun.0, 0, env.slot);
     Env {
-        count: count,
-        slot: env.slot,
-        fun: fun,
-        globals: env.globals,
+        count,
+        fun: fun_inside(sheet, row, env.fun),
+        ..env
     }
 }
 
@@ -180,14 +161,8 @@ pub fn push_scope(sheet: &[u32], row: u32, env: Env, entries: &mut [u32]) -> Env
 pub fn push_loop(env: Env, entries: &mut [u32]) -> Env
     ensures { (s : Sheet) → scopes_of result entries.new ≡ step_scopes s loop (scopes_of env entries.old) }
 {
-    let fun = env.fun;
-    let count = push_entry(entries, env.count, tag::LOOP, 0, fun.0, 0, env.slot);
-    Env {
-        count: count,
-        slot: env.slot,
-        fun: fun,
-        globals: env.globals,
-    }
+    let count = push_entry(entries, env.count, tag::LOOP, 0, env.fun.0, 0, env.slot);
+    Env { count, ..env }
 }
 
 // Closes the innermost scope, and restores the function and the slot around it.

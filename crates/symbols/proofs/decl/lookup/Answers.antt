@@ -1,25 +1,23 @@
-use mathlib.Core.Path.{ap, ◌∙◌}
+use mathlib.Core.Path.{sym, ap, ◌∙◌}
 use Rattle.machine.specs.Machine.{find_name, marks_after}
 use Rattle.symbols.specs.OpenScopes.{scopes_of}
-use Rattle.symbols.proofs.DeclLaws.{searched_whole, found_near, found_far}
+use Rattle.symbols.proofs.DeclLaws.{searched_whole, found}
 use Rattle.symbols.proofs.decl.lookup.Goals as goal
 
 pub find_name-at-requires : goal.find_name-at-requires
 find_name-at-requires c =
     searched_whole (scopes_of c.args.env c.args.entries.now) _ c.entries_searched-n.ensures
 
-pub returns-then-d-ne-VARIABLE : goal.returns-then-d-ne-VARIABLE
-returns-then-d-ne-VARIABLE c =
+pub returns-then-is_variable : goal.returns-then-is_variable
+returns-then-is_variable c =
     let n = c.entries_searched-n.ensures in
-    let find_name_lem = c.find_name-at.ensures in
-    found_near c.args.sheet.now (scopes_of c.args.env c.args.entries.now) c.args.m _ _ _ (find_name_lem.0 ∙ ap (find_name c.args.entries.now c.args.m) n)
-    (find_name_lem.1 ∙ ap (marks_after c.args.sheet.now c.args.entries.now c.args.m) n)
-    c.decl_at-d.ensures c.if-d-ne-VARIABLE.true
+    let at = c.find_name-at.ensures in
+    found c.args.sheet.now (scopes_of c.args.env c.args.entries.now) c.args.m _ _ _ (sym c.if-is_variable.true ∙ c.is_variable.ensures)
+    (at.0 ∙ ap (find_name c.args.entries.now c.args.m) n) (at.1 ∙ ap (marks_after c.args.sheet.now c.args.entries.now c.args.m) n) c.decl_at-decl.ensures
 
-pub returns : goal.returns
-returns c =
+pub returns-else-is_variable : goal.returns-else-is_variable
+returns-else-is_variable c =
     let n = c.entries_searched-n.ensures in
-    let find_name_lem = c.find_name-at.ensures in
-    found_far c.args.sheet.now (scopes_of c.args.env c.args.entries.now) c.args.m _ _ _ (find_name_lem.0 ∙ ap (find_name c.args.entries.now c.args.m) n)
-    (find_name_lem.1 ∙ ap (marks_after c.args.sheet.now c.args.entries.now c.args.m) n)
-    c.decl_at-d.ensures c.if-d-ne-VARIABLE.false
+    let at = c.find_name-at.ensures in
+    found c.args.sheet.now (scopes_of c.args.env c.args.entries.now) c.args.m _ _ _ (sym c.if-is_variable.false ∙ c.is_variable.ensures)
+    (at.0 ∙ ap (find_name c.args.entries.now c.args.m) n) (at.1 ∙ ap (marks_after c.args.sheet.now c.args.entries.now c.args.m) n) c.decl_at-decl.ensures

@@ -5,9 +5,6 @@ use mathlib.Core.Path.{◌≡◌}
 use Rattle.symbols.proofs.env.find_name.Given as goal
 
 -- the entries from i on do not declare the name, and k functions' marks are among them
-abbrev pub invariant-loop-i : goal.invariant-loop-i
-invariant-loop-i l =
-    (find_name l.entries l.m l.i ≡ find_name l.entries l.m l.n) × (l.marks + length (function_marks l.sheet l.entries l.i) ≡ length (function_marks l.sheet l.entries l.n)) × (l.marks + l.i ≤ l.n)
-
-abbrev pub decreases-loop-i : goal.decreases-loop-i
-decreases-loop-i l = l.i
+abbrev pub invariant-loop-at : goal.invariant-loop-at
+invariant-loop-at l =
+    (find_name l.entries l.m l.at ≡ find_name l.entries l.m l.n) × (l.marks + length (function_marks l.sheet l.entries l.at) ≡ length (function_marks l.sheet l.entries l.n)) × (l.marks + l.at ≤ l.n)

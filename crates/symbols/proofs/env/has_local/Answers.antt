@@ -1,13 +1,10 @@
 use Rattle.symbols.proofs.EnvLaws.{taken_mark, taken_here, taken_other, taken_loop, taken_none}
 use native.Mathlib.Omega.{arith}
-use mathlib.Core.Path.{refl, sym, ◌∙◌}
+use mathlib.Core.Path.{◌≡◌, sym, ◌∙◌}
+use Prim.Native.Nat.{◌-◌}
+use Rattle.machine.specs.Machine.{entry_word, taken_in}
+use Rattle.symbols.proofs.env.has_local.Goals.{else-entry_word-m-via-then-entry_word-m+else-tag-gt-SCOPE, else-entry_word-m-via-else-entry_word-m}
 use Rattle.symbols.proofs.env.has_local.Goals as goal
-
-pub loop-i-init : goal.loop-i-init
-loop-i-init c = (omega arith, refl)
-
-pub overflow_sub-i : goal.overflow_sub-i
-overflow_sub-i c = omega arith
 
 pub returns-then-tag-eq-SCOPE : goal.returns-then-tag-eq-SCOPE
 returns-then-tag-eq-SCOPE c =
@@ -22,29 +19,16 @@ returns-then-tag-gt-SCOPE c =
     (sym c.entry_word.ensures ∙ c.if-entry_word-m.true)
     ∙ c.loop-i.invariant.1
 
-pub loop-i-smaller-else-tag-gt-SCOPE : goal.loop-i-smaller-else-tag-gt-SCOPE
-loop-i-smaller-else-tag-gt-SCOPE c = omega arith
-
-pub loop-i-preserved-else-tag-gt-SCOPE : goal.loop-i-preserved-else-tag-gt-SCOPE
-loop-i-preserved-else-tag-gt-SCOPE c = (
-  omega (arith, c.loop-i.invariant.0),
-  taken_loop c.args.entries.now c.args.m c.loop-i.i c.loop-i-test.true
-      (λ e. c.if-tag-eq-SCOPE.false (c.entry_word-tag.ensures ∙ e))
-      (omega (arith, c.entry_word-tag.ensures, c.if-tag-gt-SCOPE.false))
-      ∙ c.loop-i.invariant.1,
-)
-
-pub loop-i-smaller : goal.loop-i-smaller
-loop-i-smaller c = omega arith
-
 pub loop-i-preserved : goal.loop-i-preserved
-loop-i-preserved c = (
-  omega (arith, c.loop-i.invariant.0),
-  taken_other c.args.entries.now c.args.m c.loop-i.i c.loop-i-test.true
-      (λ e. c.if-tag-eq-SCOPE.false (c.entry_word-tag.ensures ∙ e))
-      (λ e. c.if-entry_word-m.false (c.entry_word.ensures ∙ e))
-      ∙ c.loop-i.invariant.1,
-)
+loop-i-preserved c =
+    let v = c.args.entries.now in
+    let tag : entry_word v (c.loop-i.i - 1) 0 ≡ 1 → ⊥ = λ e. c.if-tag-eq-SCOPE.false (c.entry_word-tag.ensures ∙ e) in
+    let passed : taken_in v c.args.m (c.loop-i.i - 1) ≡ taken_in v c.args.m c.loop-i.i = elim c.else-entry_word-m.branch [
+      | else-entry_word-m-via-then-entry_word-m+else-tag-gt-SCOPE w ↦
+          taken_loop v c.args.m c.loop-i.i c.loop-i-test.true tag (omega (arith, c.entry_word-tag.ensures, w.if-tag-gt-SCOPE.false))
+      | else-entry_word-m-via-else-entry_word-m w ↦ taken_other v c.args.m c.loop-i.i c.loop-i-test.true tag (λ e. w.if-entry_word-m.false (c.entry_word.ensures ∙ e))
+    ] in
+    (omega (arith, c.loop-i.invariant.0), passed ∙ c.loop-i.invariant.1)
 
 pub returns : goal.returns
 returns c =

@@ -5,6 +5,3 @@ use Rattle.symbols.proofs.env.has_local.Given as goal
 
 abbrev pub invariant-loop-i : goal.invariant-loop-i
 invariant-loop-i l = (l.i ≤ l.n) × (taken_in l.entries l.m l.i ≡ taken_in l.entries l.m l.n)
-
-abbrev pub decreases-loop-i : goal.decreases-loop-i
-decreases-loop-i l = l.i

@@ -5,6 +5,3 @@ use Rattle.symbols.proofs.env.in_loop.Given as goal
 
 abbrev pub invariant-loop-i : goal.invariant-loop-i
 invariant-loop-i l = (l.i ≤ l.n) × (loop_in l.sheet l.entries l.i ≡ loop_in l.sheet l.entries l.n)
-
-abbrev pub decreases-loop-i : goal.decreases-loop-i
-decreases-loop-i l = l.i

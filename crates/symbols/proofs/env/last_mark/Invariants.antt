@@ -5,6 +5,3 @@ use Rattle.symbols.proofs.env.last_mark.Given as goal
 
 abbrev pub invariant-loop-i : goal.invariant-loop-i
 invariant-loop-i l = (l.i ≤ l.n) × (last_mark l.entries l.i ≡ last_mark l.entries l.n)
-
-abbrev pub decreases-loop-i : goal.decreases-loop-i
-decreases-loop-i l = l.i
