@@ -1,81 +1,67 @@
 // What a declaration is told as in an answer row: document 01's `Decl`, whose code and values are the row's.
-ghost use Rattle.std.specs.Prelude.{◌≡◌, true, ◌≤◌, length};
+ghost use Rattle.std.specs.Prelude.{◌≡◌, ℕ, ◌≤◌, length};
 ghost use Rattle.ast.specs.Decl.{code_and_values};
-ghost use Rattle.definition.specs.Meaning.{is_declared};
+ghost use Rattle.definition.specs.Meaning.{variable};
 ghost use Rattle.machine.specs.Machine.{four_words, code_of, seen_in};
-ghost use Rattle.symbols.specs.OpenDecls.{means};
+ghost use Rattle.symbols.specs.OpenDecls.{means, slot_or, number_or};
 ghost use Rattle.store.specs.Stored.{store_of};
 
 use crate::nodes::{Store, index_of};
 use crate::result;
-use ast::{ClassId, Decl, FunId, column, flag, kind};
+use ast::kind::Kind;
+use ast::{Decl, FunId, column, flag};
 use sheet::param_index;
-use symbols::decl::{OpenDecl, is_mutable};
-use symbols::tag;
-use words::word;
+use symbols::decl::{OpenDecl, is_mutable, is_outer, row_of};
+use words::{is_kind, word};
 
 // An argument or a local.
-fn variable_code(sheet: &[u32], d: OpenDecl) -> Decl
-    requires { (length sheet.now ≤ 16384) × (d.tag ≡ 6) }
-    ensures { code_and_values result ≡ four_words (code_of sheet.now (means d) d.slot d.second) }
+fn variable_code(sheet: &[u32], row: u32, fun: FunId, slot: u32) -> Decl
+    requires { length sheet.now ≤ 16384 }
+    ensures { (g : ℕ) → code_and_values result ≡ four_words (code_of sheet.now (variable row fun.0) slot g) }
 {
-    let fun = FunId(d.second);
-    if word(sheet, d.first, column::KIND) == kind::PARAMETER {
-        let index = param_index(sheet, fun, d.first);
-        return Decl::Arg {
-            idx: index,
-            src_fun: fun,
-        };
+    if is_kind(sheet, row, Kind::Parameter) {
+        let idx = param_index(sheet, fun, row);
+        return Decl::Arg { idx, src_fun: fun };
     }
-    let mutable = word(sheet, d.first, column::B) == flag::MUTABLE;
     Decl::Local {
-        idx: d.slot,
+        idx: slot,
         src_fun: fun,
-        mutable: mutable,
+        mutable: word(sheet, row, column::B) == flag::MUTABLE,
     }
 }
 
-// A declaration, seen from its own function. The last arm is a let of a unit: what is not declared is not told.
+// A declaration, seen from its own function.
 pub fn code_of(sheet: &[u32], d: OpenDecl) -> Decl
-    requires { (length sheet.now ≤ 16384) × (is_declared (means d) ≡ true) }
-    ensures { code_and_values result ≡ four_words (code_of sheet.now (means d) d.slot d.second) }
+    requires { length sheet.now ≤ 16384 }
+    ensures { (k g : ℕ) → code_and_values result ≡ four_words (code_of sheet.now (means d) (slot_or k d) (number_or g d)) }
 {
-    let tag = d.tag;
-    match tag {
-        tag::FUN => Decl::Fun { id: FunId(d.first) },
-        tag::CLASS => Decl::Class {
-            id: ClassId(d.first),
+    match d {
+        OpenDecl::Fun(id) => Decl::Fun { id },
+        OpenDecl::Class(id) => Decl::Class { id },
+        OpenDecl::Global { number, mutable } => Decl::Global {
+            idx: number,
+            mutable: mutable == flag::MUTABLE,
         },
-        tag::GLOBAL => Decl::Global {
-            idx: d.first,
-            mutable: d.second == flag::MUTABLE,
-        },
-        tag::VARIABLE => variable_code(sheet, d),
-        _ => Decl::Global {
-            idx: d.second,
-            mutable: word(sheet, d.first, column::B) == flag::MUTABLE,
+        OpenDecl::Variable { row, fun, slot } => variable_code(sheet, row, fun, slot),
+        OpenDecl::Toplevel { row, number } => Decl::Global {
+            idx: number,
+            mutable: word(sheet, row, column::B) == flag::MUTABLE,
         },
     }
 }
 
 // A declaration, seen from function `fun`: the index of a capture, if it is a local or argument of another.
 pub fn seen_in(sheet: &[u32], d: OpenDecl, fun: FunId, results: &[u32], nodes: &[u32]) -> Decl
-    requires { (length sheet.now ≤ 16384) × (is_declared (means d) ≡ true) }
-    ensures { (o : Store) → code_and_values result
-        ≡ four_words (seen_in sheet.now (means d) d.slot d.second fun.0
-        (store_of o results.now nodes.now)) }
+    requires { length sheet.now ≤ 16384 }
+    ensures { (o : Store) (k g : ℕ) → code_and_values result
+        ≡ four_words (seen_in sheet.now (means d) (slot_or k d) (number_or g d) fun.0 (store_of o results.now nodes.now)) }
 {
-    if d.tag != tag::VARIABLE {
-        return code_of(sheet, d);
-    }
-    if d.second == fun.0 {
+    if !is_outer(d, fun) {
         return code_of(sheet, d);
     }
     let last = word(results, fun.0, result::CAPTURES);
-    let index = index_of(nodes, last, d.first);
-    let mutable = is_mutable(sheet, d);
     Decl::Captured {
-        idx: index,
-        mutable: mutable,
+        idx: index_of(nodes, last, row_of(d)),
+        mutable: is_mutable(sheet, d),
     }
 }

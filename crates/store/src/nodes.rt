@@ -7,10 +7,10 @@ ghost use Rattle.machine.specs.Machine.{entry_word, node_word, previous, chain_t
 ghost use Rattle.store.specs.Stored.{store_of, node_of, used_pushed, nodes_pushed, functions_from};
 
 use crate::{node, result};
-use ast::{column, kind};
+use ast::kind::Kind;
 use symbols::env::entry_word;
 use symbols::{entry, tag};
-use words::{put, word};
+use words::{is_kind, put, word};
 
 // The counters: nodes in use, and the last node of the constructor calls.
 #[derive(Clone, Copy)]
@@ -127,10 +127,7 @@ pub fn append_node(
         return store;
     }
     put(results, row, c, used);
-    Store {
-        used: used,
-        calls: store.calls,
-    }
+    Store { used, ..store }
 }
 
 // A constructor call appended, if there is room.
@@ -142,10 +139,7 @@ pub fn append_call(store: Store, nodes: &mut [u32], n: Node) -> Store
     if used == store.used {
         return store;
     }
-    Store {
-        used: used,
-        calls: used,
-    }
+    Store { used, calls: used }
 }
 
 // A node appended to the list of word `c` of `row`, unless its key is in that list.
@@ -164,10 +158,8 @@ fn add_new(store: Store, results: &mut [u32], nodes: &mut [u32], row: u32, c: u3
 fn marks_function(sheet: &[u32], entries: &[u32], i: u32) -> bool
     ensures { result ≡ (eqb (entry_word entries.now i 0) 1 && is sheet.now 6 (entry_word entries.now i 1)) }
 {
-    if entry_word(entries, i, entry::TAG) == tag::SCOPE {
-        return word(sheet, entry_word(entries, i, entry::NAME), column::KIND) == kind::FUNCTION;
-    }
-    false
+    entry_word(entries, i, entry::TAG) == tag::SCOPE
+        && is_kind(sheet, entry_word(entries, i, entry::NAME), Kind::Function)
 }
 
 // Where the scope of a function opens: the place of its mark, and the function.

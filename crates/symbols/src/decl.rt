@@ -2,9 +2,9 @@
 ghost use Rattle.std.specs.Prelude.{◌≡◌, List, ℕ, ◌≤◌, length, Some};
 ghost use Rattle.definition.specs.Basics.{when◌then◌else◌};
 ghost use Rattle.definition.specs.Sheet.{word as word_at};
-ghost use Rattle.definition.specs.Meaning.{Meaning, class_number, is_toplevel, is_variable};
+ghost use Rattle.definition.specs.Meaning.{Meaning, class_number, is_toplevel, is_variable, row_of, owner_of};
 ghost use Rattle.definition.specs.Slots.{is_local, is_mutable};
-ghost use Rattle.machine.specs.Machine.{tag_of, first_of, second_of, meaning_of, meaning_at, slot_at, global_at, one_more, searched, lookup_meaning, lookup_slot, lookup_global, lookup_distance, new_meaning, push_name};
+ghost use Rattle.machine.specs.Machine.{is_outer_variable, tag_of, first_of, second_of, meaning_of, meaning_at, slot_at, global_at, one_more, searched, lookup_meaning, lookup_slot, lookup_global, lookup_distance, new_meaning, push_name};
 ghost use Rattle.symbols.specs.OpenScopes.{scopes_of};
 ghost use Rattle.symbols.specs.OpenDecls.{means, meant, slot_or, number_or, StandsFor};
 
@@ -131,6 +131,46 @@ pub fn class_number(d: Option<OpenDecl>) -> ClassId
     match d {
         Some(OpenDecl::Class(class)) => class,
         _ => ClassId(0),
+    }
+}
+
+// Is it a local or argument of another function than `fun`?
+pub fn is_outer(d: OpenDecl, fun: FunId) -> bool
+    ensures { result ≡ is_outer_variable (means d) fun.0 }
+{
+    match d {
+        OpenDecl::Variable { fun: own, .. } => own.0 != fun.0,
+        _ => false,
+    }
+}
+
+// The let or parameter row of a local or argument; 0 of anything else.
+pub fn row_of(d: OpenDecl) -> u32
+    ensures { result ≡ row_of (means d) }
+{
+    match d {
+        OpenDecl::Variable { row, .. } => row,
+        _ => 0,
+    }
+}
+
+// The function of a local or argument; 0 of anything else.
+pub fn owner_of(d: OpenDecl) -> FunId
+    ensures { result.0 ≡ owner_of (means d) }
+{
+    match d {
+        OpenDecl::Variable { fun, .. } => fun,
+        _ => FunId(0),
+    }
+}
+
+// The slot of a local or argument; 0 of anything else.
+pub fn slot_of(d: OpenDecl) -> u32
+    ensures { result ≡ slot_or 0 d }
+{
+    match d {
+        OpenDecl::Variable { slot, .. } => slot,
+        _ => 0,
     }
 }
 
