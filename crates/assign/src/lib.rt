@@ -13,7 +13,7 @@ use ast::column;
 use ast::kind::Kind;
 use ast::question::{Question, Refusal};
 use sheet::has_named;
-use symbols::decl::is_mutable;
+use symbols::decl::is_assignable;
 use walk::state::Walk;
 use words::{entry_at, is_kind, word};
 
@@ -25,7 +25,7 @@ fn assign_name(walk: &Walk<'_, '_>, row: u32) -> Result<(), Refusal>
     let target = word(walk.sheet, row, column::CHILD);
     let name = word(walk.sheet, target, column::A);
     let found = walk.lookup(name);
-    if is_mutable(walk.sheet, found.decl) {
+    if is_assignable(walk.sheet, found.decl) {
         return Ok(());
     }
     Err(Refusal {

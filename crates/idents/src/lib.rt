@@ -9,15 +9,14 @@ ghost use Rattle.definition.specs.Outside.{Outside};
 ghost use Rattle.definition.specs.Meaning.{row_of, owner_of};
 ghost use Rattle.definition.specs.Walk.{visit};
 ghost use Rattle.machine.specs.Machine.{is_outer_variable, add_capture, open_functions, step_state};
-ghost use Rattle.symbols.specs.OpenDecls.{means};
+ghost use Rattle.symbols.specs.OpenDecls.{means, slot_or};
 ghost use Rattle.walk.specs.WalkState.{after, scopes_in, state_of, stored_of, Same};
 
 use ast::question::{Question, Refusal};
 use ast::{column, name};
 use store::nodes::Node;
 use store::table::write_use;
-use symbols::decl::{OpenDecl, is_declared};
-use symbols::tag;
+use symbols::decl::{OpenDecl, is_outer, owner_of, row_of, slot_of};
 use walk::state::Walk;
 use words::word;
 
@@ -38,19 +37,19 @@ fn capture(walk: &mut Walk<'_, '_>, d: OpenDecl)
     ensures step { stored_of walk.new
         ≡ (when is_outer_variable (means d) walk.old.env.fun.0
         then add_capture (open_functions walk.old.sheet.now (scopes_in walk.old))
-        (record { key = row_of (means d); one = owner_of (means d); two = d.slot })
+        (record { key = row_of (means d); one = owner_of (means d); two = slot_or 0 d })
         (stored_of walk.old)
         else stored_of walk.old) }
     ensures scopes { scopes_in walk.new ≡ scopes_in walk.old }
     ensures same { Same walk.old walk.new }
 {
-    if d.tag != tag::VARIABLE || d.second == walk.env.fun.0 {
+    if !is_outer(d, walk.env.fun) {
         return;
     }
     let x = Node {
-        key: d.first,
-        one: d.second,
-        two: d.slot,
+        key: row_of(d),
+        one: owner_of(d).0,
+        two: slot_of(d),
     };
     // It ends at a function that has it: an identifier in that function lies in those further out too, so they have it.
     let mut count = walk.env.count;
@@ -72,15 +71,15 @@ pub fn resolve_ident(walk: &mut Walk<'_, '_>, row: u32) -> Result<(), Refusal>
     let sheet = walk.sheet;
     let name = word(sheet, row, column::A);
     let found = walk.lookup(name);
-    if !is_declared(found.decl) {
+    let Some(decl) = found.decl else {
         return Err(Refusal {
             question: undeclared(name),
             at: row,
             name,
         });
-    }
-    capture(walk, found.decl);
-    let x = walk.seen_in(found.decl);
+    };
+    capture(walk, decl);
+    let x = walk.seen_in(decl);
     write_use(walk.results, row, x, found.distance);
     Ok(())
 }

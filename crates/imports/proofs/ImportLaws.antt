@@ -15,54 +15,34 @@ use Rattle.machine.specs.Machine.{State, Scopes, taken_in, push_name, step_scope
 use Rattle.machine.proofs.ByKind.{store_bring}
 use Rattle.sheet.specs.Exports.{export_of}
 use Rattle.symbols.specs.declared.decl.OpenDecl.{OpenDecl}
-use Rattle.symbols.specs.OpenDecls.{means, entry_for}
-use Rattle.symbols.proofs.DeclLaws.{means_back}
+use Rattle.symbols.specs.OpenDecls.{meant, slot_or, number_or, StandsFor}
+use Rattle.std.proofs.Common.{Option, Some}
 use Rattle.walk.specs.WalkState.{refused_by}
 use Rattle.walk.proofs.StepLaws.{stepped, refused}
 use Rattle.walk.proofs.RunLaws.{run_one, run_both, map_filter, concat_filter}
 
--- Export row x by its kind.
+-- Export row x by its kind j.
 module _ (s : Sheet) (x : ℕ) where
-  export_none : x ≡ 0 → export_of s x ≡ nothing
-  export_none e = rw e
+  pub export_none : x ≡ 0 → nothing ≡ export_of s x
+  export_none e = rw e refl
 
   module _ (f : x ≡ 0 → ⊥) where
-    export_function : kind s x ≡ 7 → export_of s x ≡ function (b s x)
-    export_function e = rw (ne_eqb x 0 f, e)
+    pub export_function : {n : ℕ} → kind s x ≡ 7 → n ≡ b s x → function n ≡ export_of s x
+    export_function e g = rw (ne_eqb x 0 f, e, g) refl
 
-    export_class : kind s x ≡ 4 → export_of s x ≡ class (256 + x)
-    export_class e = rw (ne_eqb x 0 f, e)
+    pub export_class : kind s x ≡ 4 → class (256 + x) ≡ export_of s x
+    export_class e = rw (ne_eqb x 0 f, e) refl
 
-    export_constant : kind s x ≡ 8 → export_of s x ≡ global (b s x) 0
-    export_constant e = rw (ne_eqb x 0 f, e)
+    pub export_constant : {n : ℕ} → kind s x ≡ 8 → n ≡ b s x → global n 0 ≡ export_of s x
+    export_constant e g = rw (ne_eqb x 0 f, e, g) refl
 
-    export_other : (kind s x ≡ 7 → ⊥) → (kind s x ≡ 4 → ⊥) → (kind s x ≡ 8 → ⊥) → export_of s x ≡ nothing
-    export_other g h i = rw (ne_eqb x 0 f, ne_eqb (kind s x) 7 g, ne_eqb (kind s x) 4 h, ne_eqb (kind s x) 8 i)
+    pub export_other : (kind s x ≡ 7 → ⊥) → (kind s x ≡ 4 → ⊥) → (kind s x ≡ 8 → ⊥) → nothing ≡ export_of s x
+    export_other g h i = rw (ne_eqb x 0 f, ne_eqb (kind s x) 7 g, ne_eqb (kind s x) 4 h, ne_eqb (kind s x) 8 i) refl
 
--- The entry of export row x; j is the row's kind, n its column b.
-module _ (s : Sheet) (x : ℕ) (p : Scopes) {y : OpenDecl} where
-  entry_of : (d : Meaning) → export_of s x ≡ d → y ≡ entry_for d p → y ≡ entry_for (export_of s x) p
-  entry_of d e h = h ∙ ap (λ (k : Meaning). entry_for k p) (sym e)
-
-  pub entry_none : x ≡ 0 → y ≡ record { tag = 2; first = 0; second = 0; slot = p.slot } → y ≡ entry_for (export_of s x) p
-  entry_none e h = entry_of nothing (export_none s x e) h
-
-  module _ (f : x ≡ 0 → ⊥) {j : ℕ} (i : j ≡ kind s x) where
-    pub entry_function : {n : ℕ} → j ≡ 7 → n ≡ b s x → y ≡ record { tag = 3; first = n; second = 0; slot = p.slot } → y ≡ entry_for (export_of s x) p
-    entry_function e g h = entry_of (function (b s x)) (export_function s x f (sym i ∙ e)) (h ∙ ap (λ (m : ℕ). entry_for (function m) p) g)
-
-    pub entry_class : j ≡ 4 → y ≡ record { tag = 4; first = 256 + x; second = 0; slot = p.slot } → y ≡ entry_for (export_of s x) p
-    entry_class e h = entry_of (class (256 + x)) (export_class s x f (sym i ∙ e)) h
-
-    pub entry_constant : {n : ℕ} → j ≡ 8 → n ≡ b s x → y ≡ record { tag = 5; first = n; second = 0; slot = p.slot } → y ≡ entry_for (export_of s x) p
-    entry_constant e g h = entry_of (global (b s x) 0) (export_constant s x f (sym i ∙ e)) (h ∙ ap (λ (m : ℕ). entry_for (global m 0) p) g)
-
-    pub entry_other : (j ≡ 7 → ⊥) → (j ≡ 4 → ⊥) → (j ≡ 8 → ⊥) → y ≡ record { tag = 2; first = 0; second = 0; slot = p.slot } → y ≡ entry_for (export_of s x) p
-    entry_other g k l h = entry_of nothing (export_other s x f (λ e. g (i ∙ e)) (λ e. k (i ∙ e)) (λ e. l (i ∙ e))) h
-
--- an entry is declared just if what it was made for is
-pub declared_as_lem : (d : Meaning) (p : Scopes) {y : OpenDecl} {t u : Bool} → y ≡ entry_for d p → t ≡ is_declared (means y) → t ≡ u → is_declared d ≡ u
-declared_as_lem d p e h i = sym (ap (λ (k : OpenDecl). is_declared (means k)) e ∙ ap is_declared (means_back d p)) ∙ sym h ∙ i
+-- a function, a class or a global known before the walk has neither slot nor number
+pub stands : (o : Option OpenDecl) {k : Meaning} → meant o ≡ k → ((d : OpenDecl) → o ≡ Some d → (n : ℕ) → (slot_or n d ≡ n) × (number_or n d ≡ n))
+    → (d : OpenDecl) (p : Scopes) → o ≡ Some d → StandsFor d k p
+stands o e h d p is = record { meaning = sym (ap meant is) ∙ e; next_slot = (h d is p.slot).0; next_number = (h d is p.next_global).1 }
 
 -- A name m that import row i brings as d.
 module _ (O : Outside) (s : Sheet) (i m : ℕ) (d : Meaning) (x : State) (z : x.refusal.number ≡ 0) where

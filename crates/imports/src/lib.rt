@@ -1,7 +1,7 @@
 // Imports: what a unit brings into its scope from other units.
 #![tactic(auto)]
 
-ghost use Rattle.std.specs.Prelude.{◌≡◌, List, [], ◌∷◌, map, ℕ, ◌≤◌, eqb, length};
+ghost use Rattle.std.specs.Prelude.{◌≡◌, List, [], ◌∷◌, map, ℕ, ◌≤◌, eqb, length, Some};
 ghost use Rattle.std.specs.Option.{unwrap_or};
 ghost use Rattle.ast.specs.Kind.{kind_number};
 ghost use Rattle.definition.specs.Basics.{when◌then◌else◌, first as first_with, concat_map};
@@ -9,49 +9,38 @@ ghost use Rattle.definition.specs.Sheet.{a, b, kids as kids_in, kids_of as kids_
 ghost use Rattle.definition.specs.Outside.{Outside};
 ghost use Rattle.definition.specs.Meaning.{named, nothing};
 ghost use Rattle.definition.specs.Walk.{bring as brings, exports, seen, imports};
-ghost use Rattle.machine.specs.Machine.{step_state, run_state};
+ghost use Rattle.machine.specs.Machine.{Scopes, step_state, run_state};
 ghost use Rattle.sheet.specs.Exports.{export_of};
-ghost use Rattle.symbols.specs.OpenDecls.{entry_for};
-ghost use Rattle.symbols.specs.OpenScopes.{scopes_of};
+ghost use Rattle.symbols.specs.OpenDecls.{meant, StandsFor};
 ghost use Rattle.walk.specs.WalkState.{after, state_of, Same};
 
 use ast::kind::Kind;
 use ast::question::{Question, Refusal};
-use ast::{FIRST_CLASS, column, flag};
+use ast::{ClassId, FIRST_CLASS, FunId, column, flag};
 use sheet::{find_export, kids, kids_of};
-use symbols::decl::{OpenDecl, define, is_declared};
-use symbols::env::Env;
-use symbols::tag;
+use symbols::decl::{OpenDecl, define};
 use walk::state::Walk;
 use words::{is_kind, word};
 
-// A declaration whose second value is 0.
-fn decl_of(tag: u32, first: u32, slot: u32) -> OpenDecl
-    ensures { result ≡ record { tag = tag; first = first; second = 0; slot = slot } }
-{
-    OpenDecl {
-        tag,
-        first,
-        second: 0,
-        slot,
-    }
-}
-
 // Export row `x` (0: none) as an open declaration.
-fn exported(sheet: &[u32], x: u32, env: Env) -> OpenDecl
+fn exported(sheet: &[u32], x: u32) -> Option<OpenDecl>
     requires { length sheet.now ≤ 16384 }
-    ensures { (entries : List ℕ) → result ≡ entry_for (export_of sheet.now x) (scopes_of env entries) }
+    ensures value { meant result ≡ export_of sheet.now x }
+    ensures stands { (d : OpenDecl) (p : Scopes) → result ≡ Some d → StandsFor d (export_of sheet.now x) p }
 {
     if x == 0 {
-        decl_of(tag::NOTHING, 0, env.slot)
+        None
     } else if is_kind(sheet, x, Kind::FunctionExport) {
-        decl_of(tag::FUN, word(sheet, x, column::B), env.slot)
+        Some(OpenDecl::Fun(FunId(word(sheet, x, column::B))))
     } else if is_kind(sheet, x, Kind::Class) {
-        decl_of(tag::CLASS, FIRST_CLASS + x, env.slot)
+        Some(OpenDecl::Class(ClassId(FIRST_CLASS + x)))
     } else if is_kind(sheet, x, Kind::ConstantExport) {
-        decl_of(tag::GLOBAL, word(sheet, x, column::B), env.slot)
+        Some(OpenDecl::Global {
+            number: word(sheet, x, column::B),
+            mutable: 0,
+        })
     } else {
-        decl_of(tag::NOTHING, 0, env.slot)
+        None
     }
 }
 
@@ -63,14 +52,13 @@ fn bring(walk: &mut Walk<'_, '_>, i: u32, m: u32, x: u32) -> Result<(), Refusal>
     ensures same { Same walk.old walk.new }
 {
     let (sheet, env) = (walk.sheet, walk.env);
-    let d = exported(sheet, x, env);
-    if !is_declared(d) {
+    let Some(d) = exported(sheet, x) else {
         return Err(Refusal {
             question: Question::Exported,
             at: i,
             name: m,
         });
-    }
+    };
     if walk.has_local(m) {
         return Err(Refusal {
             question: Question::NameFree,

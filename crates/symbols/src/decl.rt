@@ -198,6 +198,16 @@ pub fn is_mutable(sheet: &[u32], d: OpenDecl) -> bool
     }
 }
 
+// May what a name means be assigned to?
+pub fn is_assignable(sheet: &[u32], decl: Option<OpenDecl>) -> bool
+    ensures { result ≡ is_mutable sheet.now (meant decl) }
+{
+    match decl {
+        Some(d) => is_mutable(sheet, d),
+        None => false,
+    }
+}
+
 // What a let declares: its constant's global; in a unit function the function of a hoisted immutable literal, or else a new global; a
 // local in any other.
 fn declared_let(sheet: &[u32], row: u32, env: Env) -> OpenDecl

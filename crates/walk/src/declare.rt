@@ -4,13 +4,12 @@ ghost use Rattle.definition.specs.Basics.{when◌then◌else◌, filter};
 ghost use Rattle.definition.specs.Sheet.{is, kids as kids_in, kids_of as kids_of_in};
 ghost use Rattle.ast.specs.Kind.{kind_number};
 ghost use Rattle.ast.specs.Question.{question_number};
-ghost use Rattle.definition.specs.Meaning.{is_declared};
 ghost use Rattle.definition.specs.Slots.{is_local};
 ghost use Rattle.definition.specs.Walk.{literal_let, declare};
 ghost use Rattle.definition.specs.Outside.{Outside};
 ghost use Rattle.machine.specs.Machine.{one_more, new_meaning, raise_locals, step_store, step_state, run_state};
 ghost use Rattle.symbols.specs.OpenScopes.{scopes_of};
-ghost use Rattle.symbols.specs.OpenDecls.{means, entry_for};
+ghost use Rattle.symbols.specs.OpenDecls.{means, StandsFor};
 ghost use Rattle.store.specs.Stored.{store_of};
 ghost use Rattle.walk.specs.WalkState.{after, state_of, Same};
 
@@ -58,9 +57,9 @@ fn count_local(sheet: &[u32], env: Env, d: OpenDecl, results: &mut [u32])
 
 // What a let stores when it is declared as `d`: its local, and its code and values. Any other row stores nothing.
 fn store_let(sheet: &[u32], row: u32, env: Env, d: OpenDecl, results: &mut [u32])
-    requires { (length sheet.now ≤ 16384) × (is_declared (means d) ≡ true) }
-    ensures { (O : Outside) (o : Store) (entries nodes : List ℕ) → d
-        ≡ entry_for (new_meaning sheet.now row (scopes_of env entries)) (scopes_of env entries)
+    requires { length sheet.now ≤ 16384 }
+    ensures { (O : Outside) (o : Store) (entries nodes : List ℕ)
+        → StandsFor d (new_meaning sheet.now row (scopes_of env entries)) (scopes_of env entries)
         → store_of o results.new nodes
         ≡ step_store O sheet.now (declare row) (scopes_of env entries) (store_of o results.old nodes) }
 {

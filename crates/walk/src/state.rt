@@ -1,12 +1,11 @@
 // The state of the walk: what it reads, and the buffers that it fills.
-ghost use Rattle.std.specs.Prelude.{◌≡◌, true, ◌+◌, ◌*◌, ◌<◌, ◌≤◌, length, Some};
+ghost use Rattle.std.specs.Prelude.{◌≡◌, ℕ, ◌+◌, ◌*◌, ◌<◌, ◌≤◌, length, Some};
 ghost use Rattle.ast.specs.Decl.{code_and_values};
-ghost use Rattle.definition.specs.Meaning.{is_declared};
 ghost use Rattle.definition.specs.Sheet.{Sheet};
 ghost use Rattle.definition.specs.Walk.{leave};
 ghost use Rattle.machine.specs.Machine.{add_new, append_node, field_node, four_words, function_marks, has_key, list_at, seen_in, taken_in, loop_in, lookup_meaning, lookup_slot, lookup_global, lookup_distance, step_scopes};
 ghost use Rattle.symbols.specs.OpenScopes.{scopes_of};
-ghost use Rattle.symbols.specs.OpenDecls.{means};
+ghost use Rattle.symbols.specs.OpenDecls.{means, meant, slot_or, number_or};
 ghost use Rattle.store.specs.Stored.{functions_from, node_of};
 ghost use Rattle.walk.specs.WalkState.{state_of, scopes_in, stored_of, Same};
 
@@ -36,8 +35,9 @@ pub struct Walk<'s, 'b> {
 impl Walk<'_, '_> {
     // A declaration, seen from the innermost function: the index of a capture, if it is a local or argument of another.
     pub fn seen_in(&self, d: OpenDecl) -> Decl
-        requires { (length self.now.sheet.now ≤ 16384) × (is_declared (means d) ≡ true) }
-        ensures { code_and_values result ≡ four_words (seen_in self.now.sheet.now (means d) d.slot d.second self.now.env.fun.0 (stored_of self.now)) }
+        requires { length self.now.sheet.now ≤ 16384 }
+        ensures { (k g : ℕ) → code_and_values result
+            ≡ four_words (seen_in self.now.sheet.now (means d) (slot_or k d) (number_or g d) self.now.env.fun.0 (stored_of self.now)) }
     {
         seen_in(self.sheet, d, self.env.fun, self.results, self.nodes)
     }
@@ -86,9 +86,9 @@ impl Walk<'_, '_> {
 
     // What a name means here.
     pub fn lookup(&self, name: u32) -> Found
-        ensures { (means result.decl ≡ lookup_meaning (state_of self.now).scopes name)
-            × (result.decl.slot ≡ lookup_slot (state_of self.now).scopes name)
-            × (result.decl.second ≡ lookup_global (state_of self.now).scopes name)
+        ensures { (meant result.decl ≡ lookup_meaning (state_of self.now).scopes name)
+            × ((d : OpenDecl) → result.decl ≡ Some d → (slot_or (lookup_slot (state_of self.now).scopes name) d ≡ lookup_slot (state_of self.now).scopes name)
+            × (number_or (lookup_global (state_of self.now).scopes name) d ≡ lookup_global (state_of self.now).scopes name))
             × (result.distance ≡ lookup_distance self.now.sheet.now (state_of self.now).scopes name) }
     {
         lookup(self.sheet, self.env, self.entries, name)

@@ -1,22 +1,22 @@
-use Rattle.outside.specs.Words.{name_at}
+use mathlib.Core.Path.{refl, sym, ◌∙◌}
 use borrow.Author.Tests.{ne_eqb}
-use mathlib.Core.Path.{sym, ◌∙◌}
+use Rattle.outside.specs.Words.{name_at}
 use Rattle.outermost.proofs.visible_at.Goals as goal
 
-pub returns-in-1 : goal.returns-in-1
+pub returns-then-code : goal.returns-then-code
 unfolding name_at
-returns-in-1 c = λ v. rw (← c.word-number.ensures, sym c.word.ensures ∙ c.in-1.is)
+returns-then-code c = λ p. record { meaning = rw (← c.word-number.ensures, sym c.word-code.ensures ∙ c.if-code.true) refl; next_slot = refl; next_number = refl }
 
-pub returns-in-2 : goal.returns-in-2
+pub returns-then-code-2 : goal.returns-then-code-2
 unfolding name_at
-returns-in-2 c = λ v. rw (← c.word-number.ensures, sym c.word.ensures ∙ c.in-2.is)
+returns-then-code-2 c = λ p. record { meaning = rw (← c.word-number.ensures, sym c.word-code.ensures ∙ c.if-code-2.true) refl; next_slot = refl; next_number = refl }
 
-pub returns-in_default : goal.returns-in_default
+pub returns : goal.returns
 unfolding name_at
-returns-in_default c =
-    λ v. rw (
-      ← c.word-number.ensures,
-      ← c.word-in_default.ensures,
-      ne_eqb _ 1 (λ z. c.in_default.in_default-own.rest.0.1 (c.word.ensures ∙ z)),
-      ne_eqb _ 2 (λ z. c.in_default.in_default-own.rest.1 (c.word.ensures ∙ z)),
-    )
+returns c =
+    λ p. record {
+      meaning =
+          rw (← c.word-number.ensures, ← c.word.ensures, ne_eqb _ 1 (λ z. c.if-code.false (c.word-code.ensures ∙ z)), ne_eqb _ 2 (λ z. c.if-code-2.false (c.word-code.ensures ∙ z))) refl;
+      next_slot = refl;
+      next_number = refl;
+    }
