@@ -1,20 +1,13 @@
 use Rattle.std.proofs.Common.{refl, sym, ◌∙◌}
-use Rattle.symbols.specs.OpenScopes.{scopes_of}
 use Rattle.machine.specs.Machine.{new_meaning}
 use Rattle.walk.specs.WalkState.{state_of}
-use Rattle.walk.proofs.DeclareLaws.{new_declared, declare_no, declare_yes}
+use Rattle.walk.proofs.DeclareLaws.{declare_no, declare_yes}
 use Rattle.walk.proofs.declare.declare.Goals as goal
 
 pub returns-then-has_local-clause-step : goal.returns-then-has_local-clause-step
 returns-then-has_local-clause-step c =
     λ O. declare_no O c.args.walk.now.sheet.now c.args.row (state_of c.args.walk.now) refl _ c.word-name.ensures _ c.declare_question.ensures
     (sym c.has_local.ensures ∙ c.if-has_local.true) refl
-
-pub store_let-requires : goal.store_let-requires
-store_let-requires c = (
-  c.requires,
-  new_declared c.args.walk.now.sheet.now c.args.row (scopes_of c.args.walk.now.env c.args.walk.now.entries.now) _ (c.declared_by-d.ensures c.args.walk.now.entries.now),
-)
 
 pub returns-clause-step : goal.returns-clause-step
 returns-clause-step c =

@@ -17,5 +17,5 @@ pub returns : goal.returns
 returns c =
     λ O o v q e. let_stored O c.args.sheet.now c.args.row (scopes_of c.args.env v)
     (store_of o c.args.results.now q) c.args.d _ _ _ (eqb-true _ 29 (sym c.is_kind.ensures ∙ c.if-not-is_kind.false)) e
-    (c.count_local.ensures o q) (told_four c.code_of.result ∙ c.code_of.ensures)
+    (c.count_local.ensures o q) (told_four c.code_of.result ∙ c.code_of.ensures _ _)
     (c.write_decl.ensures o q)
