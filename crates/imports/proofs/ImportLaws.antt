@@ -14,35 +14,27 @@ use Rattle.definition.specs.Walk.{Event, bring, exports, seen, imports}
 use Rattle.machine.specs.Machine.{State, Scopes, taken_in, push_name, step_scopes, check_event, step_state, run_state}
 use Rattle.machine.proofs.ByKind.{store_bring}
 use Rattle.sheet.specs.Exports.{export_of}
-use Rattle.symbols.specs.declared.decl.OpenDecl.{OpenDecl}
-use Rattle.symbols.specs.OpenDecls.{meant, slot_or, number_or, StandsFor}
-use Rattle.std.proofs.Common.{Option, Some}
 use Rattle.walk.specs.WalkState.{refused_by}
 use Rattle.walk.proofs.StepLaws.{stepped, refused}
 use Rattle.walk.proofs.RunLaws.{run_one, run_both, map_filter, concat_filter}
 
--- Export row x by its kind j.
+-- Export row x by its kind.
 module _ (s : Sheet) (x : ℕ) where
-  pub export_none : x ≡ 0 → nothing ≡ export_of s x
-  export_none e = rw e refl
+  export_none : x ≡ 0 → export_of s x ≡ nothing
+  export_none e = rw e
 
   module _ (f : x ≡ 0 → ⊥) where
-    pub export_function : {n : ℕ} → kind s x ≡ 7 → n ≡ b s x → function n ≡ export_of s x
-    export_function e g = rw (ne_eqb x 0 f, e, g) refl
+    export_function : kind s x ≡ 7 → export_of s x ≡ function (b s x)
+    export_function e = rw (ne_eqb x 0 f, e)
 
-    pub export_class : kind s x ≡ 4 → class (256 + x) ≡ export_of s x
-    export_class e = rw (ne_eqb x 0 f, e) refl
+    export_class : kind s x ≡ 4 → export_of s x ≡ class (256 + x)
+    export_class e = rw (ne_eqb x 0 f, e)
 
-    pub export_constant : {n : ℕ} → kind s x ≡ 8 → n ≡ b s x → global n 0 ≡ export_of s x
-    export_constant e g = rw (ne_eqb x 0 f, e, g) refl
+    export_constant : kind s x ≡ 8 → export_of s x ≡ global (b s x) 0
+    export_constant e = rw (ne_eqb x 0 f, e)
 
-    pub export_other : (kind s x ≡ 7 → ⊥) → (kind s x ≡ 4 → ⊥) → (kind s x ≡ 8 → ⊥) → nothing ≡ export_of s x
-    export_other g h i = rw (ne_eqb x 0 f, ne_eqb (kind s x) 7 g, ne_eqb (kind s x) 4 h, ne_eqb (kind s x) 8 i) refl
-
--- a function, a class or a global known before the walk has neither slot nor number
-pub stands : (o : Option OpenDecl) {k : Meaning} → meant o ≡ k → ((d : OpenDecl) → o ≡ Some d → (n : ℕ) → (slot_or n d ≡ n) × (number_or n d ≡ n))
-    → (d : OpenDecl) (p : Scopes) → o ≡ Some d → StandsFor d k p
-stands o e h d p is = record { meaning = sym (ap meant is) ∙ e; next_slot = (h d is p.slot).0; next_number = (h d is p.next_global).1 }
+    export_other : (kind s x ≡ 7 → ⊥) → (kind s x ≡ 4 → ⊥) → (kind s x ≡ 8 → ⊥) → export_of s x ≡ nothing
+    export_other g h i = rw (ne_eqb x 0 f, ne_eqb (kind s x) 7 g, ne_eqb (kind s x) 4 h, ne_eqb (kind s x) 8 i)
 
 -- A name m that import row i brings as d.
 module _ (O : Outside) (s : Sheet) (i m : ℕ) (d : Meaning) (x : State) (z : x.refusal.number ≡ 0) where

@@ -13,7 +13,7 @@ pub loop-mark-preserved : goal.loop-mark-preserved
 loop-mark-preserved c =
     let a = c.args.walk.now in
     let l = c.loop-mark.walk in
-    let x = node_of (record { key = c.args.d.first; one = c.args.d.second; two = c.args.d.slot }) in
+    let x = node_of (record { key = c.row_of.result; one = c.owner_of.result.0; two = c.slot_of.result }) in
     let at = function_marks a.sheet.now a.entries.now in
     let marks : at c.loop-mark.count ≡ c.in-Some.mark.fun ∷ at c.in-Some.mark.at
         = rw (← c.loop-mark.invariant.2.sheet, ← ap (λ (p : Scopes). p.env) c.loop-mark.invariant.1) c.in-Some.ensures.marks in
@@ -30,7 +30,7 @@ unfolding open_functions
 returns-then-mark-x-clause-step c =
     let a = c.args.walk.now in
     let l = c.loop-mark.walk in
-    let x = node_of (record { key = c.args.d.first; one = c.args.d.second; two = c.args.d.slot }) in
+    let x = node_of (record { key = c.row_of.result; one = c.owner_of.result.0; two = c.slot_of.result }) in
     let at = function_marks a.sheet.now a.entries.now in
     let marks : at c.loop-mark.count ≡ c.in-Some.mark.fun ∷ at c.in-Some.mark.at
         = rw (← c.loop-mark.invariant.2.sheet, ← ap (λ (p : Scopes). p.env) c.loop-mark.invariant.1) c.in-Some.ensures.marks in
@@ -39,7 +39,7 @@ returns-then-mark-x-clause-step c =
           | then-mark-x-via-then-mark-x w ↦ rw (eq-eqb _ _ w.if-mark-x.true) refl
           | then-mark-x-via-else-mark-x+then-has_captured w ↦ rw (ne_eqb _ _ w.if-mark-x.false) (sym w.has_captured.ensures ∙ w.if-has_captured.true)
         ] in
-    rw (c.if-d-ne-VARIABLE.false, ne_eqb c.args.d.second a.env.fun.0 c.if-d-walk.false)
+    rw (sym c.is_outer.ensures ∙ c.if-not-is_outer.false, ← c.row_of.ensures, ← c.owner_of.ensures, ← c.slot_of.ensures)
     (sym (capture_ends x (stored_of l) c.in-Some.mark.fun (at c.in-Some.mark.at) has) ∙ sym (ap (λ (fs : List ℕ). add_capture fs x (stored_of l)) marks) ∙ c.loop-mark.invariant.0)
 
 pub returns-clause-step : goal.returns-clause-step
@@ -47,8 +47,8 @@ unfolding open_functions
 returns-clause-step c =
     let a = c.args.walk.now in
     let l = c.loop-mark.walk in
-    let x = node_of (record { key = c.args.d.first; one = c.args.d.second; two = c.args.d.slot }) in
+    let x = node_of (record { key = c.row_of.result; one = c.owner_of.result.0; two = c.slot_of.result }) in
     let at = function_marks a.sheet.now a.entries.now in
     let marks : at c.loop-mark.count ≡ [] = rw (← c.loop-mark.invariant.2.sheet, ← ap (λ (p : Scopes). p.env) c.loop-mark.invariant.1) c.in_default.ensures.marks in
-    rw (c.if-d-ne-VARIABLE.false, ne_eqb c.args.d.second a.env.fun.0 c.if-d-walk.false)
+    rw (sym c.is_outer.ensures ∙ c.if-not-is_outer.false, ← c.row_of.ensures, ← c.owner_of.ensures, ← c.slot_of.ensures)
     (sym (capture_none x (stored_of l)) ∙ sym (ap (λ (fs : List ℕ). add_capture fs x (stored_of l)) marks) ∙ c.loop-mark.invariant.0)
