@@ -15,7 +15,7 @@ use Rattle.machine.specs.Machine.{Store, Node, cell, node_word, node_at, previou
 use Rattle.machine.specs.Reads.{answer_row, meaning_of_node}
 use Rattle.machine.proofs.ByKind.{list_none, list_more}
 use Rattle.symbols.specs.declared.decl.OpenDecl.{OpenDecl}
-use Rattle.symbols.specs.OpenDecls.{means}
+use Rattle.symbols.specs.OpenDecls.{means, slot_or, number_or}
 use Rattle.after.specs.Rows.{literal_rows_in}
 use Rattle.sink.specs.Sink.{Sink, emit, emit_all}
 use Rattle.sink.proofs.SinkLaws.{emit_none, emit_last}
@@ -51,27 +51,18 @@ seen_short s d k g f o = go (is_variable d && not (eqb (owner_of d) f)) _ _
     go true i j = omega arith
     go false i j = code_short s d k g
 
--- the open declaration that node i of a capture list stands for
-abbrev pub decl_at : List ℕ → ℕ → OpenDecl
-decl_at q i = record { tag = 6; first = node_word q i 1; second = node_word q i 2; slot = node_word q i 3 }
+-- The row of node i of a capture list, which the declaration d stands for: in its own function, and seen from function f. A local or argument has no
+-- global number.
+module _ (s : Sheet) (r : ℕ) (q : List ℕ) (i : ℕ) (d : OpenDecl) (ws : List ℕ) (e : (means d ≡ meaning_of_node (node_at q i)) × (slot_or 0 d ≡ (node_at q i).two) × (number_or 0 d ≡ 0)) where
+  pub captured_row_lem : ws ≡ four_words (code_of s (means d) (slot_or 0 d) (number_or 0 d)) → answer_row r ws ≡ eight (r ∷ code_of s (meaning_of_node (node_at q i)) (node_at q i).two 0)
+  captured_row_lem h =
+      ap (answer_row r) (rw (e.0, e.1, e.2) at h) ∙ eight_four r (code_of s (meaning_of_node (node_at q i)) (node_at q i).two 0) (code_short s (meaning_of_node (node_at q i)) (node_at q i).two 0)
 
-pub captured_declared : (q : List ℕ) (i : ℕ) (d : OpenDecl) → d ≡ decl_at q i → is_declared (means d) ≡ true
-captured_declared q i d e = ap (λ (x : OpenDecl). is_declared (means x)) e
-
--- its row, in its own function and seen from function f; a local or argument has no global number
-pub captured_row_lem : (s : Sheet) (r : ℕ) (q : List ℕ) (i : ℕ) (d : OpenDecl) (ws : List ℕ) → d ≡ decl_at q i → ws ≡ four_words (code_of s (means d) d.slot d.second)
-    → answer_row r ws ≡ eight (r ∷ code_of s (meaning_of_node (node_at q i)) (node_at q i).two 0)
-unfolding code_of
-captured_row_lem s r q i d ws e h =
-    ap (answer_row r) (h ∙ ap (λ (x : OpenDecl). four_words (code_of s (means x) x.slot x.second)) e)
-    ∙ eight_four r (code_of s (meaning_of_node (node_at q i)) (node_at q i).two 0) (code_short s (meaning_of_node (node_at q i)) (node_at q i).two 0)
-
-pub source_row : (s : Sheet) (r f : ℕ) (o : Store) (q : List ℕ) (i : ℕ) (d : OpenDecl) (ws : List ℕ) → d ≡ decl_at q i → ws ≡ four_words (seen_in s (means d) d.slot d.second f o)
-    → answer_row r ws ≡ eight (r ∷ seen_in s (meaning_of_node (node_at q i)) (node_at q i).two 0 f o)
-unfolding seen_in code_of
-source_row s r f o q i d ws e h =
-    ap (answer_row r) (h ∙ ap (λ (x : OpenDecl). four_words (seen_in s (means x) x.slot x.second f o)) e)
-    ∙ eight_four r (seen_in s (meaning_of_node (node_at q i)) (node_at q i).two 0 f o) (seen_short s (meaning_of_node (node_at q i)) (node_at q i).two 0 f o)
+  pub source_row : (f : ℕ) (o : Store) → ws ≡ four_words (seen_in s (means d) (slot_or 0 d) (number_or 0 d) f o)
+      → answer_row r ws ≡ eight (r ∷ seen_in s (meaning_of_node (node_at q i)) (node_at q i).two 0 f o)
+  source_row f o h =
+      ap (answer_row r) (rw (e.0, e.1, e.2) at h)
+      ∙ eight_four r (seen_in s (meaning_of_node (node_at q i)) (node_at q i).two 0 f o) (seen_short s (meaning_of_node (node_at q i)) (node_at q i).two 0 f o)
 
 map_last : {A B : Type 0} (f : A → B) (xs : List A) (x : A) → map f (xs ++ x ∷ []) ≡ map f xs ++ f x ∷ []
 map_last f [] x = refl

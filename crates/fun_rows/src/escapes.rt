@@ -12,7 +12,7 @@ use ast::{FunId, column};
 use class_names::tables::Tables;
 use store::nodes::node_before;
 use store::result;
-use symbols::decl::is_mutable;
+use symbols::decl::{is_mutable, owner_of, slot_of};
 use words::word;
 
 // Is node `i` of a capture list the mutable local of function `f` in slot `j`?
@@ -21,7 +21,7 @@ fn is_slot(sheet: &[u32], nodes: &[u32], i: u32, f: FunId, j: u32) -> bool
         (node_at nodes.now i).one f.0 && eqb (node_at nodes.now i).two j) }
 {
     let d = captured_at(nodes, i);
-    is_mutable(sheet, d) && d.second == f.0 && d.slot == j
+    is_mutable(sheet, d) && owner_of(d).0 == f.0 && slot_of(d) == j
 }
 
 // Is that local in the list whose last node is node `p - 1`? A list is walked from there back, which no iterator does yet.

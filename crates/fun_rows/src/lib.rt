@@ -9,7 +9,8 @@ ghost use Rattle.std.specs.Prelude.{◌≡◌, [], ◌∷◌, map, ◌<◌, ◌�
 ghost use Rattle.ast.specs.Decl.{code_and_values};
 ghost use Rattle.definition.specs.Sheet.{rows};
 ghost use Rattle.definition.specs.Answer.{eight};
-ghost use Rattle.machine.specs.Machine.{chain_to, code_of, seen_in, node_word};
+ghost use Rattle.machine.specs.Machine.{chain_to, code_of, seen_in, node_at};
+ghost use Rattle.symbols.specs.OpenDecls.{means, slot_or, number_or};
 ghost use Rattle.machine.specs.Reads.{answer_row, meaning_of_node};
 ghost use Rattle.after.specs.Rows.{literal_rows_in, function_rows_in};
 ghost use Rattle.class_names.specs.Read.{store_in};
@@ -27,7 +28,6 @@ use store::code::{code_of, seen_in};
 use store::nodes::{Store, count_nodes, node_before, node_word};
 use store::{node, result};
 use symbols::decl::OpenDecl;
-use symbols::tag;
 use words::word;
 
 // The row of sheet row `r` with a code and three values.
@@ -54,18 +54,11 @@ fn emit_decl(row: u32, d: Decl, k: usize, out: &mut [u32]) -> usize
 
 // The local or argument that node `i` of a capture list stands for.
 fn captured_at(nodes: &[u32], i: u32) -> OpenDecl
-    ensures { result ≡ record {
-      tag = 6;
-      first = node_word nodes.now i 1;
-      second = node_word
-          nodes.now i 2;
-      slot = node_word nodes.now i 3;
-    } }
+    ensures { (means result ≡ meaning_of_node (node_at nodes.now i)) × (slot_or 0 result ≡ (node_at nodes.now i).two) × (number_or 0 result ≡ 0) }
 {
-    OpenDecl {
-        tag: tag::VARIABLE,
-        first: node_word(nodes, i, node::KEY),
-        second: node_word(nodes, i, node::ONE),
+    OpenDecl::Variable {
+        row: node_word(nodes, i, node::KEY),
+        fun: FunId(node_word(nodes, i, node::ONE)),
         slot: node_word(nodes, i, node::TWO),
     }
 }

@@ -4,7 +4,7 @@ use Rattle.sink.specs.Sink.{sink}
 use Rattle.machine.specs.Reads.{meaning_of_node}
 use Rattle.machine.specs.Machine.{code_of}
 use Rattle.definition.specs.Answer.{eight}
-use Rattle.fun_rows.proofs.ListLaws.{captured_declared, captured_row_lem, nodes_none, nodes_last}
+use Rattle.fun_rows.proofs.ListLaws.{captured_row_lem, nodes_none, nodes_last}
 use Rattle.fun_rows.proofs.+emit_captured.Goals as goal
 
 pub returns-then-p-eq0 : goal.returns-then-p-eq0
@@ -25,10 +25,6 @@ emit_captured-n-requires t c =
 pub captured_at-requires : goal.captured_at-requires
 captured_at-requires t c = tt
 
-pub code_of-x-requires : goal.code_of-x-requires
-code_of-x-requires t c =
-    (c.requires, captured_declared c.args.tables.nodes.now _ _ c.captured_at.ensures)
-
 pub emit_decl-requires : goal.emit_decl-requires
 emit_decl-requires t c = tt
 
@@ -37,5 +33,5 @@ returns t c =
     nodes_last (λ y. eight (c.args.row ∷ code_of c.args.tables.sheet.now (meaning_of_node y) y.two 0))
     c.args.tables.nodes.now c.args.p _ _ (sink c.args.k c.args.out.now) c.if-p-eq0.false
     c.node_before.ensures c.emit_captured-n.ensures (captured_row_lem c.args.tables.sheet.now c.args.row
-    c.args.tables.nodes.now _ _ _ c.captured_at.ensures c.code_of-x.ensures)
+    c.args.tables.nodes.now _ _ _ c.captured_at.ensures (c.code_of-x.ensures 0 0))
     c.emit_decl.ensures

@@ -5,7 +5,7 @@ use Rattle.store.specs.Stored.{store_of}
 use Rattle.machine.specs.Reads.{meaning_of_node}
 use Rattle.machine.specs.Machine.{seen_in}
 use Rattle.definition.specs.Answer.{eight}
-use Rattle.fun_rows.proofs.ListLaws.{captured_declared, source_row, nodes_none, nodes_last}
+use Rattle.fun_rows.proofs.ListLaws.{source_row, nodes_none, nodes_last}
 use Rattle.fun_rows.proofs.+emit_sources.Goals as goal
 
 pub returns-then-p-eq0 : goal.returns-then-p-eq0
@@ -29,10 +29,6 @@ emit_sources-n-requires t c =
 pub captured_at-requires : goal.captured_at-requires
 captured_at-requires t c = tt
 
-pub seen_in-x-requires : goal.seen_in-x-requires
-seen_in-x-requires t c =
-    (c.requires, captured_declared c.args.tables.nodes.now _ _ c.captured_at.ensures)
-
 pub emit_decl-requires : goal.emit_decl-requires
 emit_decl-requires t c = tt
 
@@ -43,7 +39,6 @@ returns t c =
     ∷ seen_in c.args.tables.sheet.now (meaning_of_node y) y.two 0 c.args.fun.0
     (store_of o c.args.tables.results.now c.args.tables.nodes.now)))
     c.args.tables.nodes.now c.args.p _ _ (sink c.args.k c.args.out.now) c.if-p-eq0.false
-    c.node_before.ensures (c.emit_sources-n.ensures o) (source_row c.args.tables.sheet.now c.args.row
-    c.args.fun.0 (store_of o c.args.tables.results.now c.args.tables.nodes.now) c.args.tables.nodes.now _
-    _ _ c.captured_at.ensures (c.seen_in-x.ensures o))
+    c.node_before.ensures (c.emit_sources-n.ensures o) (source_row c.args.tables.sheet.now c.args.row c.args.tables.nodes.now _ _ _ c.captured_at.ensures
+    c.args.fun.0 (store_of o c.args.tables.results.now c.args.tables.nodes.now) (c.seen_in-x.ensures o 0 0))
     c.emit_decl.ensures
