@@ -11,7 +11,7 @@ returns-in_default-clause-step c =
     let s = c.args.walk.now.sheet.now in
     let no = c.in_default.ensures.1 in
     λ O. runs_none O s (after s c.args.row) (state_of c.args.walk.now)
-        (after_none s c.args.row (no Unit) (no Function) (no Block) (no For) (no Let) (no Assign) (no Break) (no Continue) (no Identifier) (no HostConstant) (no Literal) (no Instanceof))
+    (after_none s c.args.row (no Unit) (no Function) (no Block) (no For) (no Let) (no Assign) (no Break) (no Continue) (no Identifier) (no HostConstant) (no Literal) (no Instanceof))
 
 pub returns-in-Unit-clause-step : goal.returns-in-Unit-clause-step
 returns-in-Unit-clause-step c =
@@ -61,5 +61,5 @@ returns-in_default-kind c =
           (no HostConstant c.in-Ok.ensures c.in_default-kind.not-HostConstant)
           (no Literal c.in-Ok.ensures c.in_default-kind.not-Literal)
           (no Instanceof c.in-Ok.ensures c.in_default-kind.not-Instanceof));
-      same = search rules
+      same = search rules;
     }

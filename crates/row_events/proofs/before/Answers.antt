@@ -30,5 +30,5 @@ returns-in_default-kind c =
       step = λ O. runs_none O s (before s c.args.row) (state_of c.args.walk.now)
           (before_none s c.args.row (no Unit c.in-Ok.ensures c.in_default-kind.not-Unit) (no Function c.in-Ok.ensures c.in_default-kind.not-Function) (no Block c.in-Ok.ensures c.in_default-kind.not-Block)
           (no For c.in-Ok.ensures c.in_default-kind.not-For) (no ClassDeclaration c.in-Ok.ensures c.in_default-kind.not-ClassDeclaration));
-      same = search rules
+      same = search rules;
     }
