@@ -83,7 +83,11 @@ fn after_let(walk: &mut Walk<'_, '_>, row: u32) -> Result<(), Refusal>
     ensures step { (O : Outside) → after walk.new result ≡ run_state O walk.old.sheet.now (after_all walk.old.sheet.now row) (state_of walk.old) }
     ensures same { Same walk.old walk.new }
 {
-    if is_kind(walk.sheet, word(walk.sheet, row, column::CHILD), Kind::Literal) {
+    if is_kind(
+        walk.sheet,
+        word(walk.sheet, row, column::CHILD),
+        Kind::Literal,
+    ) {
         return Ok(());
     }
     declare(walk, row)

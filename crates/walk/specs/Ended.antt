@@ -11,5 +11,5 @@ abbrev pub ended : Ended → List ℕ → List ℕ → List ℕ → State
 ended w entries results nodes = record {
   scopes = scopes_of w.env entries;
   store = store_of w.store results nodes;
-  refusal = refusal_in w.done
+  refusal = refusal_in w.done;
 }

@@ -11,7 +11,9 @@ ghost use Rattle.walk.specs.WalkState.{state_of, scopes_in, stored_of, Same};
 
 use ast::{Decl, FunId};
 use store::code::seen_in;
-use store::nodes::{FunctionMark, Node, Store, append_node, has_key, innermost_function, reg_field};
+use store::nodes::{
+    FunctionMark, Node, Store, append_node, has_key, innermost_function, reg_field,
+};
 use store::result;
 use symbols::decl::{Found, OpenDecl, lookup};
 use symbols::env::{Env, has_local, in_loop, pop_scope};

@@ -14,5 +14,6 @@ returns-then-has_named-clause-step c =
 
 pub returns-clause-step : goal.returns-clause-step
 returns-clause-step c =
-    rw c.reg_field.ensures.scopes λ O. member_new O c.args.walk.now.sheet.now c.args.row (state_of c.args.walk.now) c.requires.1 refl c.requires.2 _ (c.entry_at-class.ensures ∙ c.requires.0.entry _) _ _ (rw (← c.word-target.ensures) c.word-name.ensures)
+    rw c.reg_field.ensures.scopes λ O. member_new O c.args.walk.now.sheet.now c.args.row (state_of c.args.walk.now) c.requires.1 refl c.requires.2 _
+    (c.entry_at-class.ensures ∙ c.requires.0.entry _) _ _ (rw (← c.word-target.ensures) c.word-name.ensures)
     c.if-class-eq0.false (sym c.has_named.ensures ∙ c.if-has_named.false) c.reg_field.ensures.step

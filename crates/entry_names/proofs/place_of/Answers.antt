@@ -9,5 +9,6 @@ use Rattle.entry_names.proofs.place_of.Goals as goal
 
 pub returns : goal.returns
 returns c =
-    let found = position_from_yields_List (λ x. eqb x c.args.n) c.position.new.self _ c.position.result c.position.ensures.ran (YieldsList-from_slice c.args.numbers.now cc) (λ x b q k. search (rules, tests)) in
+    let found = position_from_yields_List (λ x. eqb x c.args.n) c.position.new.self _ c.position.result c.position.ensures.ran (YieldsList-from_slice c.args.numbers.now cc)
+    (λ x b q k. search (rules, tests)) in
     c.unwrap_or.ensures ∙ ap (λ (o : Option ℕ). unwrap_or o (length c.args.numbers.now)) found ∙ place_found (λ x. eqb x c.args.n) c.args.numbers.now

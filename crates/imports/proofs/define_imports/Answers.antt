@@ -23,7 +23,8 @@ returns-in_err-import_one-clause-step c =
     let same = ap (λ b. b.now) c.loop-import.invariant.1.sheet in
     λ O. after_err c.import_one.new.walk _ c.in_err-import_one.field-0.0 c.from_residual.ensures.1
     ∙ loop_no O s s (imports s c.args.u c.in-Some.import) (concat_map (imports s c.args.u) (kind_left c.next.new.self)) (state_of c.loop-import.walk) _ refl
-    (ap (concat_map (imports s c.args.u)) c.in-Some.ensures.steps) (import_brought O same c.in-Some.import _ c.args.u (c.in_err-import_one.ensures.step O)) (c.loop-import.invariant.0 O) (is_refused c.in_err-import_one.field-0.0)
+    (ap (concat_map (imports s c.args.u)) c.in-Some.ensures.steps) (import_brought O same c.in-Some.import _ c.args.u (c.in_err-import_one.ensures.step O)) (c.loop-import.invariant.0 O)
+    (is_refused c.in_err-import_one.field-0.0)
 
 pub returns-clause-step : goal.returns-clause-step
 returns-clause-step c =

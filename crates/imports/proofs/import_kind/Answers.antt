@@ -21,7 +21,8 @@ returns-in_err-bring-clause-step c =
     let same = ap (λ b. b.now) c.loop-export.invariant.1.sheet in
     λ O. after_err c.bring.new.walk _ c.in_err-bring.field-0.0 c.from_residual.ensures.1
     ∙ loop_no O s s (brought_row s c.args.i c.in-Some.export ∷ []) (map (brought_row s c.args.i) (kind_left c.next.new.self)) (state_of c.loop-export.walk) _ refl
-    (ap (map (brought_row s c.args.i)) c.in-Some.ensures.steps) (row_brought O same c.in-Some.export _ c.args.i c.word-name.ensures (c.in_err-bring.ensures.step O)) (c.loop-export.invariant.0 O) (is_refused c.in_err-bring.field-0.0)
+    (ap (map (brought_row s c.args.i)) c.in-Some.ensures.steps) (row_brought O same c.in-Some.export _ c.args.i c.word-name.ensures (c.in_err-bring.ensures.step O))
+    (c.loop-export.invariant.0 O) (is_refused c.in_err-bring.field-0.0)
 
 pub returns-clause-step : goal.returns-clause-step
 returns-clause-step c =

@@ -12,7 +12,9 @@ loop-listed-preserved c =
     let s = c.args.walk.now.sheet.now in
     let same = ap (λ b. b.now) c.loop-listed.invariant.1.sheet in (
       λ O. loop_on O s s (brought_listed s c.args.u c.args.i c.in-Some.listed ∷ []) (map (brought_listed s c.args.u c.args.i) (rows_left c.next.new.self)) (state_of c.loop-listed.walk) _ refl
-          (ap (map (brought_listed s c.args.u c.args.i)) c.in-Some.ensures.steps) (listed_brought O same c.in-Some.listed _ c.args.u c.args.i c.word-name.ensures (ap (export_of c.loop-listed.walk.sheet.now) c.unwrap_or-export.ensures ∙ c.find_export.ensures) (c.in_ok-bring.ensures.step O)) (c.loop-listed.invariant.0 O),
+          (ap (map (brought_listed s c.args.u c.args.i)) c.in-Some.ensures.steps)
+          (listed_brought O same c.in-Some.listed _ c.args.u c.args.i c.word-name.ensures (ap (export_of c.loop-listed.walk.sheet.now) c.unwrap_or-export.ensures ∙ c.find_export.ensures)
+          (c.in_ok-bring.ensures.step O)) (c.loop-listed.invariant.0 O),
       search rules,
     )
 
@@ -22,7 +24,9 @@ returns-in_err-bring-clause-step c =
     let same = ap (λ b. b.now) c.loop-listed.invariant.1.sheet in
     λ O. after_err c.bring.new.walk _ c.in_err-bring.field-0.0 c.from_residual.ensures.1
     ∙ loop_no O s s (brought_listed s c.args.u c.args.i c.in-Some.listed ∷ []) (map (brought_listed s c.args.u c.args.i) (rows_left c.next.new.self)) (state_of c.loop-listed.walk) _ refl
-    (ap (map (brought_listed s c.args.u c.args.i)) c.in-Some.ensures.steps) (listed_brought O same c.in-Some.listed _ c.args.u c.args.i c.word-name.ensures (ap (export_of c.loop-listed.walk.sheet.now) c.unwrap_or-export.ensures ∙ c.find_export.ensures) (c.in_err-bring.ensures.step O)) (c.loop-listed.invariant.0 O) (is_refused c.in_err-bring.field-0.0)
+    (ap (map (brought_listed s c.args.u c.args.i)) c.in-Some.ensures.steps)
+    (listed_brought O same c.in-Some.listed _ c.args.u c.args.i c.word-name.ensures (ap (export_of c.loop-listed.walk.sheet.now) c.unwrap_or-export.ensures ∙ c.find_export.ensures)
+    (c.in_err-bring.ensures.step O)) (c.loop-listed.invariant.0 O) (is_refused c.in_err-bring.field-0.0)
 
 pub returns-clause-step : goal.returns-clause-step
 returns-clause-step c =

@@ -11,7 +11,7 @@ returns-in_default-clause-step c =
     let s = c.args.walk.now.sheet.now in
     let no = c.in_default.ensures.1 in
     λ O. runs_none O s (after s c.args.row) (state_of c.args.walk.now)
-        (after_none s c.args.row (no Unit) (no Function) (no Block) (no For) (no Let) (no Assign) (no Break) (no Continue) (no Identifier) (no HostConstant) (no Literal) (no Instanceof))
+    (after_none s c.args.row (no Unit) (no Function) (no Block) (no For) (no Let) (no Assign) (no Break) (no Continue) (no Identifier) (no HostConstant) (no Literal) (no Instanceof))
 
 pub returns-in-Unit-clause-step : goal.returns-in-Unit-clause-step
 returns-in-Unit-clause-step c =
@@ -31,22 +31,26 @@ returns-in-Break-clause-step c =
 pub returns-in-Identifier-clause-step : goal.returns-in-Identifier-clause-step
 returns-in-Identifier-clause-step c =
     let s = c.args.walk.now.sheet.now in
-    λ O. runs_one O s (after s c.args.row) (visit c.args.row) (state_of c.args.walk.now) (after_ident s c.args.row (c.in-Ok.ensures ∙ ap kind_number c.in-Identifier.is)) (c.resolve_ident.ensures.step O)
+    λ O. runs_one O s (after s c.args.row) (visit c.args.row) (state_of c.args.walk.now) (after_ident s c.args.row (c.in-Ok.ensures ∙ ap kind_number c.in-Identifier.is))
+    (c.resolve_ident.ensures.step O)
 
 pub returns-in-HostConstant-clause-step : goal.returns-in-HostConstant-clause-step
 returns-in-HostConstant-clause-step c =
     let s = c.args.walk.now.sheet.now in
-    λ O. runs_one O s (after s c.args.row) (visit c.args.row) (state_of c.args.walk.now) (after_host s c.args.row (c.in-Ok.ensures ∙ ap kind_number c.in-HostConstant.is)) (c.resolve_host_const.ensures.step O)
+    λ O. runs_one O s (after s c.args.row) (visit c.args.row) (state_of c.args.walk.now) (after_host s c.args.row (c.in-Ok.ensures ∙ ap kind_number c.in-HostConstant.is))
+    (c.resolve_host_const.ensures.step O)
 
 pub returns-in-Literal-clause-step : goal.returns-in-Literal-clause-step
 returns-in-Literal-clause-step c =
     let s = c.args.walk.now.sheet.now in
-    λ O. runs_one O s (after s c.args.row) (visit c.args.row) (state_of c.args.walk.now) (after_function s c.args.row (c.in-Ok.ensures ∙ ap kind_number c.in-Literal.is)) (c.note_literal.ensures.step O)
+    λ O. runs_one O s (after s c.args.row) (visit c.args.row) (state_of c.args.walk.now) (after_function s c.args.row (c.in-Ok.ensures ∙ ap kind_number c.in-Literal.is))
+    (c.note_literal.ensures.step O)
 
 pub returns-in-Instanceof-clause-step : goal.returns-in-Instanceof-clause-step
 returns-in-Instanceof-clause-step c =
     let s = c.args.walk.now.sheet.now in
-    λ O. runs_one O s (after s c.args.row) (visit c.args.row) (state_of c.args.walk.now) (after_instanceof s c.args.row (c.in-Ok.ensures ∙ ap kind_number c.in-Instanceof.is)) (c.check_instanceof.ensures.step O)
+    λ O. runs_one O s (after s c.args.row) (visit c.args.row) (state_of c.args.walk.now) (after_instanceof s c.args.row (c.in-Ok.ensures ∙ ap kind_number c.in-Instanceof.is))
+    (c.check_instanceof.ensures.step O)
 
 pub returns-in_default-kind : goal.returns-in_default-kind
 returns-in_default-kind c =
@@ -54,12 +58,13 @@ returns-in_default-kind c =
     let no = other_kind c.in-Ok.kind in
     record {
       step = λ O. runs_none O s (after s c.args.row) (state_of c.args.walk.now)
-          (after_none s c.args.row (no Unit c.in-Ok.ensures c.in_default-kind.not-Unit) (no Function c.in-Ok.ensures c.in_default-kind.not-Function) (no Block c.in-Ok.ensures c.in_default-kind.not-Block) (no For c.in-Ok.ensures c.in_default-kind.not-For)
+          (after_none s c.args.row (no Unit c.in-Ok.ensures c.in_default-kind.not-Unit) (no Function c.in-Ok.ensures c.in_default-kind.not-Function)
+          (no Block c.in-Ok.ensures c.in_default-kind.not-Block) (no For c.in-Ok.ensures c.in_default-kind.not-For)
           (no Let c.in-Ok.ensures c.in_default-kind.not-Let) (no Assign c.in-Ok.ensures c.in_default-kind.not-Assign) (no Break c.in-Ok.ensures c.in_default-kind.not-Break)
           (no Continue c.in-Ok.ensures c.in_default-kind.not-Continue)
           (no Identifier c.in-Ok.ensures c.in_default-kind.not-Identifier)
           (no HostConstant c.in-Ok.ensures c.in_default-kind.not-HostConstant)
           (no Literal c.in-Ok.ensures c.in_default-kind.not-Literal)
           (no Instanceof c.in-Ok.ensures c.in_default-kind.not-Instanceof));
-      same = search rules
+      same = search rules;
     }

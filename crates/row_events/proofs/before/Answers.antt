@@ -20,7 +20,8 @@ returns-in-For-clause-step c =
 pub returns-in-ClassDeclaration-clause-step : goal.returns-in-ClassDeclaration-clause-step
 returns-in-ClassDeclaration-clause-step c =
     let s = c.args.walk.now.sheet.now in
-    λ O. runs_one O s (before s c.args.row) (visit c.args.row) (state_of c.args.walk.now) (before_class s c.args.row (c.in-Ok.ensures ∙ ap kind_number c.in-ClassDeclaration.is)) (c.resolve_parent.ensures.step O)
+    λ O. runs_one O s (before s c.args.row) (visit c.args.row) (state_of c.args.walk.now) (before_class s c.args.row (c.in-Ok.ensures ∙ ap kind_number c.in-ClassDeclaration.is))
+    (c.resolve_parent.ensures.step O)
 
 pub returns-in_default-kind : goal.returns-in_default-kind
 returns-in_default-kind c =
@@ -28,7 +29,8 @@ returns-in_default-kind c =
     let no = other_kind c.in-Ok.kind in
     record {
       step = λ O. runs_none O s (before s c.args.row) (state_of c.args.walk.now)
-          (before_none s c.args.row (no Unit c.in-Ok.ensures c.in_default-kind.not-Unit) (no Function c.in-Ok.ensures c.in_default-kind.not-Function) (no Block c.in-Ok.ensures c.in_default-kind.not-Block)
+          (before_none s c.args.row (no Unit c.in-Ok.ensures c.in_default-kind.not-Unit) (no Function c.in-Ok.ensures c.in_default-kind.not-Function)
+          (no Block c.in-Ok.ensures c.in_default-kind.not-Block)
           (no For c.in-Ok.ensures c.in_default-kind.not-For) (no ClassDeclaration c.in-Ok.ensures c.in_default-kind.not-ClassDeclaration));
-      same = search rules
+      same = search rules;
     }

@@ -14,7 +14,8 @@ count-requires-clause-fits c =
 pub returns : goal.returns
 returns c =
     count_from_yields_List c.take_while.result _ c.count.ensures.ran
-    (YieldsList-from_take_while _ (λ k. not (eqb k c.args.row)) (kind_given (ap kind_left c.take_while.ensures.source ∙ c.kids_of.ensures)) c.take_while.ensures.closure c.take_while.ensures.done (λ x b q k. search (rules, tests)))
+    (YieldsList-from_take_while _ (λ k. not (eqb k c.args.row))
+    (kind_given (ap kind_left c.take_while.ensures.source ∙ c.kids_of.ensures)) c.take_while.ensures.closure c.take_while.ensures.done (λ x b q k. search (rules, tests)))
     ∙ before_row c.args.row (kids_of c.args.sheet.now 11 c.args.f.0)
 
 pub overflow_cast-result : goal.overflow_cast-result

@@ -13,8 +13,7 @@ pub loop-child-preserved-in-Continue-1 : goal.loop-child-preserved-in-Continue-1
 loop-child-preserved-in-Continue-1 c =
     let s = c.args.walk.now.sheet.now in
     let same = ap (λ b. b.now) c.loop-child.invariant.1.sheet in
-    let here : literal_let s c.in-Some.child ≡ true = ap (λ (t : Sheet). literal_let t c.in-Some.child) (sym same) ∙ sym c.is_literal_let.ensures ∙ c.if-is_literal_let.true in
-    (
+    let here : literal_let s c.in-Some.child ≡ true = ap (λ (t : Sheet). literal_let t c.in-Some.child) (sym same) ∙ sym c.is_literal_let.ensures ∙ c.if-is_literal_let.true in (
       λ O. loop_on O s c.loop-child.walk.sheet.now (declare c.in-Some.child ∷ []) (map declare (filter (literal_let s) (rows_left c.next.new.self))) (state_of c.loop-child.walk) _
           same (literal_first s c.in-Some.child (rows_left c.next.new.self) c.in-Some.ensures.steps here) (run_one O _ _ _ (c.in_ok-declare.ensures.step O)) (c.loop-child.invariant.0 O),
       search rules,
