@@ -5,12 +5,12 @@ use mathlib.Core.List.{List}
 use Prim.Native.Nat.{ℕ, suc, ◌+◌, ◌-◌, ◌≤◌}
 use native.Mathlib.Omega.{arith}
 use lib.Dec.{leb→le}
-use lib.ListN.{length, get_or, take, drop, length-append, length-map}
-use Rattle.definition.specs.Basics.{when◌then◌else◌, any, unlike, from}
+use lib.ListN.{length, get_or, take, length-append, length-map}
+use Rattle.definition.specs.Basics.{any, unlike, from}
 use Rattle.definition.specs.Names.{Name, fixed, listed, same_name, names_fit}
 use Rattle.definition.specs.Sheet.{Sheet}
 use Rattle.session.proofs.SessionLaws.{from_length, runs_of}
-use Rattle.names.specs.Listed.{starts, numbered}
+use Rattle.names.specs.Listed.{numbered}
 use Rattle.names.proofs.Question.{fit_small}
 use Rattle.session.specs.Session.{Session, all_names}
 use Rattle.session.specs.Entry.{new_names, names_with, to_session}
@@ -19,7 +19,6 @@ use Rattle.session.proofs.NameLaws.{names_apart_lem}
 use Rattle.session.proofs.HeldRuns.{held_names}
 use Rattle.session.proofs.CountLaws.{list_fits, limits}
 use Rattle.entry_names.specs.Told.{NamesTold}
-use Rattle.entry_names.proofs.NumberLaws.{first_new}
 use Rattle.entry_ready.specs.Asked.{entry_no}
 use Rattle.entry_ready.proofs.PastLaws.{passed, shorter}
 use Rattle.prepare_entry.specs.declared.Prepared.{Prepared}
@@ -28,7 +27,7 @@ use Rattle.ast.specs.declared.question.Question.TheVariants.{Session as QSession
 use Rattle.ast.specs.Question.{question_number}
 use Rattle.std.proofs.Common.{Result, Ok, Err, refl}
 use Rattle.std.specs.Result.{IsErrAnd}
-use Rattle.prepare_entry.specs.Told.{Told, ToldBy, PreparedFor}
+use Rattle.prepare_entry.specs.Told.{Told, PreparedFor}
 
 module _ (w n : List ℕ) (fit : session_fits whole w n ≡ true) where
   abbrev S : Session

@@ -1,13 +1,13 @@
 use mathlib.Core.Path.{sym, ◌∙◌}
 use native.Mathlib.Omega.{arith}
 use Rattle.answer_rows.proofs.ScratchLaws.{zeros_long}
-use Rattle.prepare_entry.proofs.SpaceLaws.{copy_long, copy_fits, rows_fit_lem, front_long, front_is, front_written, ready}
+use Rattle.prepare_entry.proofs.SpaceLaws.{copy_long, copy_fits, rows_fit_lem, front_is, front_written, ready}
 use Rattle.entry_space.proofs.SpaceLaws.{enterable, entered_told}
 use Rattle.entry_space.proofs.enter_with.Goals as goal
 
-pub slice_bounds-copy-end : goal.slice_bounds-copy-end
-slice_bounds-copy-end g c =
-    copy_fits c.args.sheet.now (rows_fit_lem c.requires.0.2) c.requires.3
+pub whole_as_front-write_entry : goal.whole_as_front-write_entry
+whole_as_front-write_entry g c =
+    (copy_fits c.args.sheet.now (rows_fit_lem c.requires.0.2) c.requires.3, omega (arith, c.requires.3.small))
 
 pub slice_bounds-write_entry-end-2 : goal.slice_bounds-write_entry-end-2
 slice_bounds-write_entry-end-2 g c =
@@ -21,10 +21,6 @@ write_entry-requires g c =
       rows_fit_lem told,
       copy_long _ g.row.SHEET (copy_fits c.args.sheet.now (rows_fit_lem told) c.requires.3),
     )
-
-pub slice_bounds-copy-end-2 : goal.slice_bounds-copy-end-2
-slice_bounds-copy-end-2 g c =
-    front_long c.write_entry.ensures (c.write_entry.auto.copy ∙ copy_long _ g.row.SHEET (copy_fits c.args.sheet.now (rows_fit_lem c.requires.0.2) c.requires.3)) _
 
 pub slice_bounds-enter_in-end : goal.slice_bounds-enter_in-end
 slice_bounds-enter_in-end g c =

@@ -6,8 +6,8 @@ use Rattle.walk_space.proofs.RoomLaws.{small_room, large_room}
 use Rattle.prepare_entry.proofs.SpaceLaws.{rows_fit_lem}
 use Rattle.preview.proofs.try_sheet.Goals as goal
 
-pub try_with-requires-then-not-is_small : goal.try_with-requires-then-not-is_small
-try_with-requires-then-not-is_small c =
+pub try_with-requires : goal.try_with-requires
+try_with-requires c =
     let told = c.requires.2 in (
       c.requires,
       size_few (readable c.args.words.now c.requires.0 told.fits),
@@ -15,8 +15,8 @@ try_with-requires-then-not-is_small c =
       large_room _ _ _ (whole_few c.args.sheet.now (rows_fit_lem told)) (omega arith) (omega arith),
     )
 
-pub try_with-requires : goal.try_with-requires
-try_with-requires c =
+pub try_with-requires-then-outside_size-gt-SMALL_OUTSIDE : goal.try_with-requires-then-outside_size-gt-SMALL_OUTSIDE
+try_with-requires-then-outside_size-gt-SMALL_OUTSIDE c =
     let small = c.is_small.ensures c.if-not-is_small.false in (
       c.requires,
       size_few (readable c.args.words.now c.requires.0 c.requires.2.fits),
