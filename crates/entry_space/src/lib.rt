@@ -14,7 +14,8 @@ use prepare_entry::{LARGEST_OUTSIDE, SMALL_OUTSIDE, write_entry};
 use session_outside::outside_size;
 use walk_space::is_small;
 use walk_space::size::{
-    ENTRIES, NODE_WORDS, ROWS, SHEET, SMALL_ENTRIES, SMALL_NODE_WORDS, SMALL_ROWS, SMALL_SHEET,
+    ENTRIES, ENTRY_NAMES, NODE_WORDS, ROWS, SHEET, SMALL_ENTRIES, SMALL_NODE_WORDS, SMALL_ROWS,
+    SMALL_SHEET,
 };
 
 // Enters a sheet in scratch arrays of these sizes: what the session is to it, classes, open entries, results and copy, nodes.
@@ -33,7 +34,7 @@ fn enter_with<
     out: &mut [u32],
 ) -> Answer
     requires { ((n : List ℕ) × (ns : List ℕ) × Told words.old sheet.now numbers.now new bytes n ns) × (outside_size words.old ≤ OUTSIDE)
-        × (OUTSIDE ≤ 262144) × (RoomFor sheet.now 3120 ROWS ENTRIES SHEET NODE_WORDS) }
+        × (OUTSIDE ≤ LARGEST_OUTSIDE) × (RoomFor sheet.now ENTRY_NAMES ROWS ENTRIES SHEET NODE_WORDS) }
     ensures { EnteredTold words.old sheet.now numbers.now new bytes (length out.old) result out.new
         words.new }
 {

@@ -17,7 +17,8 @@ use session_outside::outside_size;
 use try_entry::try_over;
 use walk_space::is_small;
 use walk_space::size::{
-    ENTRIES, NODE_WORDS, ROWS, SHEET, SMALL_ENTRIES, SMALL_NODE_WORDS, SMALL_ROWS, SMALL_SHEET,
+    ENTRIES, ENTRY_NAMES, NODE_WORDS, ROWS, SHEET, SMALL_ENTRIES, SMALL_NODE_WORDS, SMALL_ROWS,
+    SMALL_SHEET,
 };
 
 // Tries a sheet in scratch arrays of these sizes: what the session is to it, classes, open entries, results and copy, nodes.
@@ -36,7 +37,7 @@ fn try_with<
     out: &mut [u32],
 ) -> Answer
     requires { ((n : List ℕ) × (ns : List ℕ) × Told words.now sheet.now numbers.now new bytes n ns) × (outside_size words.now ≤ OUTSIDE)
-        × (OUTSIDE ≤ 262144) × (RoomFor sheet.now 3120 ROWS ENTRIES SHEET NODE_WORDS) }
+        × (OUTSIDE ≤ LARGEST_OUTSIDE) × (RoomFor sheet.now ENTRY_NAMES ROWS ENTRIES SHEET NODE_WORDS) }
     ensures { AskedTold words.now sheet.now numbers.now new bytes (length out.old) result out.new }
 {
     let mut outside = [0u32; OUTSIDE];

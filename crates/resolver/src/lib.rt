@@ -17,8 +17,8 @@ use first_four::first_four;
 use outside::plain::core_words;
 use resolve_syms::resolve_units;
 use walk_space::size::{
-    MIDDLE_NODE_WORDS, MIDDLE_NODES, NODE_WORDS, PLAIN_ENTRIES, ROWS, SHEET, SMALL_NODE_WORDS,
-    SMALL_PLAIN_ENTRIES, SMALL_ROWS, SMALL_SHEET,
+    MIDDLE_NODE_WORDS, MIDDLE_NODES, NODE_WORDS, PLAIN_ENTRIES, PLAIN_NAMES, ROWS, SHEET,
+    SMALL_NODE_WORDS, SMALL_PLAIN_ENTRIES, SMALL_ROWS, SMALL_SHEET,
 };
 use walk_space::{is_small, nodes_for};
 
@@ -49,7 +49,7 @@ fn resolve_with<
     const SHEET: usize,
     const NODE_WORDS: usize,
 >(sheet: &[u32], outside: &[u32], out: &mut [u32]) -> Answer
-    requires { Plain (over outside.now) sheet.now × RoomFor sheet.now 1057 ROWS ENTRIES SHEET NODE_WORDS }
+    requires { Plain (over outside.now) sheet.now × RoomFor sheet.now PLAIN_NAMES ROWS ENTRIES SHEET NODE_WORDS }
     ensures { Settled (over outside.now) sheet.now (length out.old) result out.new }
 {
     let mut classes = [0u32; ROWS];

@@ -11,15 +11,19 @@ pub const SHEET: usize = 8 * ROWS;
 
 pub const SMALL_SHEET: usize = 8 * SMALL_ROWS;
 
-// Open entries, of five words: three for each row, one for each name, and three more. Of a plain sheet there are 1,048 names and nine from outside.
-pub const PLAIN_ENTRIES: usize = 5 * (3 * ROWS + 1060);
+// How many names there are at most: of a plain sheet 1,048 of its list and nine from outside, of an entry into a session 2,072 and 1,048 visible ones.
+pub const PLAIN_NAMES: usize = 1057;
 
-pub const SMALL_PLAIN_ENTRIES: usize = 5 * (3 * SMALL_ROWS + 1060);
+pub const ENTRY_NAMES: usize = 3120;
 
-// Of an entry into a session there are 2,072 names and 1,048 visible ones.
-pub const ENTRIES: usize = 5 * (3 * ROWS + 3123);
+// Open entries, of five words: three for each row, one for each name, and three more.
+pub const PLAIN_ENTRIES: usize = 5 * (3 * ROWS + PLAIN_NAMES + 3);
 
-pub const SMALL_ENTRIES: usize = 5 * (3 * SMALL_ROWS + 3123);
+pub const SMALL_PLAIN_ENTRIES: usize = 5 * (3 * SMALL_ROWS + PLAIN_NAMES + 3);
+
+pub const ENTRIES: usize = 5 * (3 * ROWS + ENTRY_NAMES + 3);
+
+pub const SMALL_ENTRIES: usize = 5 * (3 * SMALL_ROWS + ENTRY_NAMES + 3);
 
 // The nodes that a small sheet may take, as those do of which half of the rows are identifiers; and a middle one, as those of 2,048 rows do of which a quarter are.
 pub const SMALL_NODES: u32 = 3360;
