@@ -68,6 +68,9 @@ fn try_with<
     tried.answer
 }
 
+// Entering has the session lent for writing and a preview for reading alone, so that no routine takes both and the sizes are chosen here as `enter_sheet` of crate
+// `entry_space` chooses them.
+//
 // Tries a sheet over the session of the lent words: `numbers` are the session's numbers of its listed names, `new` of them new, in `bytes` bytes.
 fn try_sheet(
     words: &[u32],

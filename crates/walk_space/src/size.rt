@@ -1,5 +1,5 @@
-// The sizes of the scratch arrays of a walk, in words unless it says nodes. They are const parameters of the routines that make the arrays, each of its own
-// since no size can be computed from another there.
+// The sizes of the scratch arrays of a walk, in words unless it says nodes. Routines that make the arrays take the sizes as const parameters, one for each array, as a
+// const argument cannot be computed.
 
 // The most rows of a sheet, which has a class for each, and of a small one.
 pub const ROWS: usize = 2048;
