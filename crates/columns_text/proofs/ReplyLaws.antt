@@ -1,13 +1,12 @@
 -- What is read, rearranged and printed. Assumes nothing.
 use mathlib.Core.Path.{◌≡◌, refl, sym, ap, subst, ◌∙◌}
 use mathlib.Core.Bool.{Bool, true, false, not}
-use mathlib.Core.List.{List, ◌++◌}
+use mathlib.Core.List.{List}
 use Prim.Native.Nat.{ℕ, ◌*◌, ◌≤◌}
 use native.Mathlib.Omega.{arith}
-use lib.ListN.{length, take, drop, length-drop}
+use lib.ListN.{length, take}
 use lib.Dec.{T, eqb, ltb, eqb→eq}
-use lib.Seq.{take_at, drop_at, length-take-le}
-use borrow.Rule.Slice.PartMut.{put_mid}
+use lib.Seq.{take_all}
 use Rattle.definition.specs.Basics.{when◌then◌else◌, concat_map}
 use Rattle.definition.specs.Text.{sheet_of, text_of}
 use Rattle.definition.specs.Outcome.{Outcome, rows_fit, refused, report}
@@ -18,8 +17,9 @@ use Rattle.text.specs.Writing.{rows_in}
 use Rattle.text.proofs.Longer.{same_read, same_cut}
 use Rattle.answer.specs.declared.Answer.{Answer}
 use Rattle.answer.specs.Tells.{Tells}
-use Rattle.report.specs.Report.{Begins, reply, Printed}
-use Rattle.report.proofs.Laws.{rows_eights, rows_number, rows_joined, report_printed}
+use Rattle.report.specs.Report.{Begins, reply}
+use Rattle.report.specs.Asked.{report_text}
+use Rattle.report.proofs.Laws.{rows_eights, rows_number, rows_joined, report_is}
 use Rattle.columns.specs.Columns.{first_no, target_after, Rearranged}
 use Rattle.columns.specs.Ways.{way_of, opposite}
 use Rattle.columns.specs.declared.Way.{Way}
@@ -76,52 +76,39 @@ module _ (q lent : ℕ) (w : List ℕ) (size : length w ≡ 8 * lent) where
   few_of true = omega (arith, row_count)
   few_of false = omega arith
 
-  -- its rows stand at the start of the target, whatever follows it
-  rows_of : (rest : List ℕ) (n : ℕ) (t : Bool) → n ≡ length (outcome_of q w t).rows
-      → take (8 * n) (w ++ rest) ≡ concat_map (λ r. r) (outcome_of q w t).rows
-  rows_of rest n true e = take_at w rest (8 * n) (omega (arith, size, row_count)) ∙ sym (rows_joined w (omega (arith, size)))
-  rows_of rest n false e = ap (λ (k : ℕ). take (8 * k) (w ++ rest)) e
+  -- its rows stand at the start of the target
+  rows_of : (n : ℕ) (t : Bool) → n ≡ length (outcome_of q w t).rows → take (8 * n) w ≡ concat_map (λ r. r) (outcome_of q w t).rows
+  rows_of n true e = take_all (8 * n) w (omega (arith, size, row_count, e)) ∙ sym (rows_joined w (omega (arith, size)))
+  rows_of n false e = ap (λ (k : ℕ). take (8 * k) w) e
 
--- A text of which k lines were read into `words` and rearranged into m words, lent after room for the first line.
-module _ (way : Way) (lent : ℕ) (sheet rep out : List ℕ) (k : ℕ) (words : List ℕ) (m q : ℕ) (x : Answer) (low : lent ≤ 2048)
-    (size : length rep ≡ 16392) (e : m ≡ 8 * lent) (read : SheetRead sheet 16384 k words)
-    (kept : length out ≡ length (take m (drop 8 rep)))
-    (done : Rearranged (way_of way) (way_of (opposite way)) (take (8 * k) words) (length (take m (drop 8 rep))) q out) (told : x ≡ told_by q lent) where
-  words_lent : length (take m (drop 8 rep)) ≡ 8 * lent
-  words_lent = length-take-le m (drop 8 rep) (omega (arith, length-drop 8 rep)) ∙ e
+pub few_rows : (q : ℕ) {lent : ℕ} {x : Answer} → x ≡ told_by q lent → x.rows ≤ lent
+unfolding told_by
+few_rows q {lent} e = omega (arith, ap (λ (y : Answer). y.rows) e, few_if (eqb q 0))
+  where
+    few_if : (t : Bool) → (when t then lent else 0) ≤ lent
+    few_if true = omega arith
+    few_if false = omega arith
 
-  out_size : length out ≡ 8 * lent
-  out_size = kept ∙ words_lent
-
+-- A text of which k lines were read into `words` and rearranged into m words: its report is that of the outcome.
+module _ (way : Way) (lent : ℕ) (sheet : List ℕ) (k : ℕ) (words : List ℕ) {rows out : List ℕ} {m q : ℕ} {x : Answer} (low : lent ≤ 2048)
+    (read : SheetRead sheet 16384 k words) (are : rows ≡ take (8 * k) words) (room : m ≡ 8 * lent) (kept : length out ≡ 8 * lent)
+    (done : Rearranged (way_of way) (way_of (opposite way)) rows m q out) (told : x ≡ told_by q lent) where
   abbrev found : Outcome
   found = outcome_of q out (eqb q 0)
 
   found_is : rearranged way lent (sheet_of sheet) ≡ found
   found_is =
       sym (same_read (rearranged way lent) (refused 1) (refused_first way lent) sheet k words read)
-      ∙ rearranged_is way lent (take (8 * k) words) out q
-      (done.answer ∙ ap (first_no (take (8 * k) words)) words_lent)
-      (done.target ∙ ap (target_after (way_of way) (take (8 * k) words)) words_lent)
+      ∙ ap (rearranged way lent) (sym are)
+      ∙ rearranged_is way lent rows out q (done.answer ∙ ap (first_no rows) room) (done.target ∙ ap (target_after (way_of way) rows) room)
 
   tells : Tells found x
-  tells = subst (Tells found) (sym told) (tells_of q lent out out_size (eqb q 0) refl)
+  tells = subst (Tells found) (sym told) (tells_of q lent out kept (eqb q 0) refl)
 
-  pub few : x.rows ≤ 2048
-  few = omega (arith, tells.rows, few_of q lent out out_size (eqb q 0))
-
-  rows_there : take (8 * x.rows) (drop 8 (put_mid 8 m rep out)) ≡ concat_map (λ r. r) found.rows
-  rows_there =
-      let rest : List ℕ = drop m (drop 8 rep) in
-      ap (take (8 * x.rows)) (drop_at (take 8 rep) (out ++ rest) 8 (length-take-le 8 rep (omega arith)))
-      ∙ rows_of q lent out out_size rest x.rows (eqb q 0) tells.rows
-
-  -- what is printed of the answer is the report
-  pub printed_columns_lem : (before : List ℕ) (n : ℕ) (filled after : List ℕ) → Printed x (put_mid 8 m rep out) before n filled after
-      → Begins (printed_columns way lent sheet) before n after
-  printed_columns_lem before n filled after h =
-      subst (λ (o : Outcome). Begins (text_of (report o)) before n after) (sym found_is)
-      (report_printed found x (put_mid 8 m rep out) tells (good_of q lent out out_size (eqb q 0))
-      (omega (arith, few_of q lent out out_size (eqb q 0))) rows_there before n filled after h)
+  pub printed_columns_lem : report_text x out ≡ printed_columns way lent sheet
+  printed_columns_lem =
+      report_is found x out tells (good_of q lent out kept (eqb q 0)) (omega (arith, few_of q lent out kept (eqb q 0), low)) (rows_of q lent out kept x.rows (eqb q 0) tells.rows)
+      ∙ ap (λ (o : Outcome). text_of (report o)) (sym found_is)
 
 -- The reply to the bytes read of a text is the reply to the text.
 pub replied_text : {way : Way} {lent : ℕ} {sheet before : List ℕ} {n : ℕ} {after : List ℕ}

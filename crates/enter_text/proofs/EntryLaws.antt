@@ -1,15 +1,17 @@
 -- What comes of the rows that were read is what comes of the text, also of one that is longer than any accepted; and what is written of it. Assumes nothing.
+use denote.Ref.{Bor, MutBor}
+use Rattle.std.specs.Prelude.{Option, Some, None}
+use Rattle.std.specs.Option.{IfSome}
 use mathlib.Core.Path.{◌≡◌, refl, sym, ap, subst, ◌∙◌}
+use mathlib.Core.Logic.{◌⊎◌, inl, inr}
 use mathlib.Core.Bool.{Bool, true, false, not, ◌&&◌}
 use mathlib.Core.List.{List, [], ◌∷◌, ◌++◌, append-nil}
 use Prim.Native.Nat.{ℕ, zero, suc, ◌*◌, ◌<◌, ◌≤◌}
 use native.Mathlib.Omega.{arith}
-use lib.ListN.{length, get_or, set, take, drop, replicate, length-append, length-take, length-drop, length-replicate}
-use lib.Seq.{length-take-le}
+use lib.ListN.{length, get_or, set, take, drop, length-append, length-take, length-replicate}
 use lib.Dec.{eqb, leb}
 use borrow.Author.Tests.{le-leb, lt-leb}
-use borrow.Rule.Slice.PartMut.{put_mid}
-use Rattle.definition.specs.Basics.{when◌then◌else◌, concat_map}
+use Rattle.definition.specs.Basics.{when◌then◌else◌}
 use Rattle.definition.specs.Sheet.{Sheet, rows}
 use Rattle.definition.specs.Names.{names_fit, name_count}
 use Rattle.definition.specs.Format.{sheet_fits, depths_fit}
@@ -23,8 +25,9 @@ use Rattle.text.proofs.Laws.{rows_of_joined, rows_fit_lem}
 use Rattle.text.proofs.Longer.{same_read, same_cut}
 use Rattle.answer.specs.declared.Answer.{Answer}
 use Rattle.answer.specs.Tells.{Tells}
-use Rattle.report.specs.Report.{fitted, Begins, answer_text}
-use Rattle.report.proofs.Laws.{rows_number, lines_length, rows_there, rows_told}
+use Rattle.report.specs.Report.{fitted, Begins}
+use Rattle.report.specs.Asked.{report_text, RepliedBy}
+use Rattle.report.proofs.Laws.{rows_number, lines_length, rows_begin, report_is}
 use Rattle.session.specs.Session.{Session, outside_of, within}
 use Rattle.session.specs.Entry.{to_entry, entry_sheet}
 use Rattle.session.specs.Enter.{renamed, new_entry, accepting, entry_fits, asked_in, entered, after_entry}
@@ -177,9 +180,9 @@ pub session_written : (w : List ℕ) {row before after : List ℕ} {n : ℕ} →
     → Begins (session_row w) before 81 after
 session_written w {row} {before} {after} {n} e room h = row_written_lem (fitted 8 w) (eight_fitted w) room (subst (λ (r : List ℕ). RowsWritten r before n after) e h)
 
--- the words for the report
-pub report_size : length (replicate {A = ℕ} 16392 0) ≡ 16392
-report_size = length-replicate {A = ℕ} 16392 0
+-- the answer has no more rows than are lent
+pub few_rows : (w b s ns : List ℕ) {m lent : ℕ} {x : Answer} → Tells (enter_outcome whole w b s ns m) x → m ≡ 8 * lent → x.rows ≤ lent
+few_rows w b s ns {m} h e = omega (arith, h.rows, (good_entry m w b s ns).1, e)
 
 -- An entry with `lent` answer rows lent, and a text before it.
 module _ (lent : ℕ) (w b sheet names before : List ℕ) where
@@ -203,7 +206,7 @@ module _ (lent : ℕ) (w b sheet names before : List ℕ) where
   }
 
   -- nothing is entered
-  not_entered : lends ≡ false → RepliedOfEntry lent w b sheet names before 0 w b before
+  pub not_entered : lends ≡ false → RepliedOfEntry lent w b sheet names before 0 w b before
   not_entered e = replied_texts (record {
     text = subst (λ (t : Bool). Begins (when t then printed_entry lent w b sheet names else []) before 0 before) (sym e) (record { count = refl; text = refl });
     session = sym (ap (λ (t : Bool). when t then words_of lent w b sheet names else w) e);
@@ -222,15 +225,12 @@ module _ (lent : ℕ) (w b sheet names before : List ℕ) where
       never true = refl
       never false = refl
 
-  pub lent_many : 2048 < lent → RepliedOfEntry lent w b sheet names before 0 w b before
-  lent_many l = not_entered (many l)
+  pub none_lent : ((2048 < lent) ⊎ ((lent ≤ 2048) × (length before < 166050))) → is_lent lent (length before) ≡ false
+  none_lent (inl l) = many l
+  none_lent (inr l) = short l.1
 
-  pub lent_short : length before < 166050 → RepliedOfEntry lent w b sheet names before 0 w b before
-  lent_short l = not_entered (short l)
-
-  -- it is entered, with the answer rows in m words after the first eight of `rep`
-  module _ (low : lent ≤ 2048) (room : 166050 ≤ length before) (rep out w' b' : List ℕ) (m : ℕ) (x : Answer) (size : length rep ≡ 16392) (e : m ≡ 8 * lent)
-      (h : EnteredText w b sheet names (length (take m (drop 8 rep))) x out w' b') where
+  -- it is entered
+  module _ (low : lent ≤ 2048) (room : 166050 ≤ length before) {out w' b' : List ℕ} {x : Answer} (h : EnteredText w b sheet names (8 * lent) x out w' b') where
     abbrev o : Outcome
     o = outcome_of lent w b sheet names
 
@@ -238,29 +238,40 @@ module _ (lent : ℕ) (w b sheet names before : List ℕ) where
     unfolding is_lent
     has = ap (λ (t : Bool). t && leb 166050 (length before)) (le-leb lent 2048 low) ∙ le-leb 166050 (length before) room
 
-    here : EnteredText w b sheet names (8 * lent) x out w' b'
-    here = subst (λ (k : ℕ). EnteredText w b sheet names k x out w' b') (length-take-le m (drop 8 rep) (omega (arith, length-drop 8 rep)) ∙ e) h
-
     good : Good (8 * lent) o
     good = good_entry (8 * lent) w b (sheet_of sheet) names
 
-    pub few : x.rows ≤ 2048
-    few = omega (arith, here.tells.rows, good.1)
+    pub told : report_text x out ≡ text_of (report (outcome_of lent w b sheet names))
+    told = report_is o x out h.tells good.0 (omega (arith, good.1)) (rows_begin o x out h.tells good.0 (8 * lent) h.words)
 
-    there : take (8 * x.rows) (drop 8 (put_mid 8 m rep out)) ≡ concat_map (λ r. r) o.rows
-    there = rows_there o x m rep out here.tells good.0 (omega arith) (here.words ∙ ap (λ (k : ℕ). buffer k o) (sym e))
-
-    pub told : answer_text x (put_mid 8 m rep out) ≡ text_of (report (outcome_of lent w b sheet names))
-    told = ap text_of (rows_told o x (put_mid 8 m rep out) here.tells good.0 (omega (arith, good.1)) there)
-
-    pub entry_replied : {n : ℕ} {after : List ℕ} → Begins (answer_text x (put_mid 8 m rep out) ++ session_row w') before n after
-        → RepliedOfEntry lent w b sheet names before n w' b' after
+    pub entry_replied : {n : ℕ} {after : List ℕ} → Begins (report_text x out ++ session_row w') before n after → RepliedOfEntry lent w b sheet names before n w' b' after
     entry_replied {n} {after} p =
         let written : Begins (printed_entry lent w b sheet names) before n after =
         subst (λ (t : List ℕ). Begins t before n after)
-        (ap (λ (t : List ℕ). t ++ session_row w') told ∙ ap (λ (v : List ℕ). text_of (report o) ++ session_row v) here.session) p in
+        (ap (λ (t : List ℕ). t ++ session_row w') told ∙ ap (λ (v : List ℕ). text_of (report o) ++ session_row v) h.session) p in
         replied_texts (record {
           text = subst (λ (t : Bool). Begins (when t then printed_entry lent w b sheet names else []) before n after) (sym has) written;
-          session = here.session ∙ sym (ap (λ (t : Bool). when t then words_of lent w b sheet names else w) has);
-          bytes = here.bytes ∙ sym (ap (λ (t : Bool). when t then bytes_of lent w b sheet names else b) has);
+          session = h.session ∙ sym (ap (λ (t : Bool). when t then words_of lent w b sheet names else w) has);
+          bytes = h.bytes ∙ sym (ap (λ (t : Bool). when t then bytes_of lent w b sheet names else b) has);
         })
+
+  -- what an entry's text comes to, with a reply or with none
+  module _ {asked : Bor (List ℕ) → MutBor (List ℕ) → Answer → MutBor (List ℕ) → Type 0} {mid w' b' after : List ℕ} {end : ℕ} where
+    pub entered_by : (r : Option ℕ) → IfSome r (λ n. (lent ≤ 2048) × (166050 ≤ length before) × RepliedBy asked sheet lent before n mid)
+        → ((n : ℕ) → (a : RepliedBy asked sheet lent before n mid) → Entered w b a.rows.now names (length a.out.now) a.x a.out'.now w' b')
+        → (r ≡ None → ((2048 < lent) ⊎ ((lent ≤ 2048) × (length before < 166050))) × (mid ≡ before) × (w' ≡ w) × (b' ≡ b))
+        → IfSome r (λ n. (told before : List ℕ) → Begins told before n mid → Begins (told ++ session_row w') before end after)
+        → (r ≡ None → (end ≡ 0) × (after ≡ mid)) → RepliedOfEntry lent w b sheet names before end w' b' after
+    entered_by (Some n) h f g p q =
+        let a = h.2 in
+        let here : Entered w b (take (8 * a.k) a.words) names (8 * lent) a.x a.out'.now w' b' =
+        subst (λ (s : List ℕ). Entered w b s names (8 * lent) a.x a.out'.now w' b') a.rows_are
+        (subst (λ (k : ℕ). Entered w b a.rows.now names k a.x a.out'.now w' b') a.room (f n a)) in
+        entry_replied h.0 h.1 (entered_text w b (8 * lent) sheet names a.k a.words _ _ _ _ a.read here) (p _ _ a.text)
+    entered_by None h f g p q =
+        let none = g refl in
+        let last = q refl in
+        subst (λ (n : ℕ). RepliedOfEntry lent w b sheet names before n w' b' after) (sym last.0)
+        (subst (λ (t : List ℕ). RepliedOfEntry lent w b sheet names before 0 w' b' t) (sym (last.1 ∙ none.1))
+        (subst (λ (v : List ℕ). RepliedOfEntry lent w b sheet names before 0 v b' before) (sym none.2)
+        (subst (λ (v : List ℕ). RepliedOfEntry lent w b sheet names before 0 w v before) (sym none.3) (not_entered (none_lent none.0)))))

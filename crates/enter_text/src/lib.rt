@@ -2,35 +2,17 @@
 // to verb 2 of the pipe.
 #![tactic(auto)]
 
-ghost use Rattle.std.specs.Prelude.{◌≡◌, ◌++◌, ◌+◌, ◌*◌, ◌≤◌, length};
-ghost use Rattle.report.specs.Report.{Begins, answer_text};
-ghost use Rattle.enter_text.specs.Reply.{session_row, EnteredText, RepliedOfEntry};
+ghost use Rattle.std.specs.Prelude.{◌≡◌, Option, None, List, ℕ, ◌++◌, ◌+◌, ◌≤◌, length};
+ghost use Rattle.std.specs.Option.{IfSome};
+ghost use Rattle.report.specs.Report.{Begins};
+ghost use Rattle.enter_text.specs.Reply.{session_row, RepliedOfEntry};
 
-use answer::Answer;
-use ast::limit;
 use prompt::enter;
-use report::{LINE, print_answer, write_fitted};
-use text::{read_sheet, write_rows};
+use report::{LINE, reply_to, write_fitted};
+use text::write_rows;
 
 // The bytes of the longest report and the row of the session.
 pub const LONGEST: usize = report::LONGEST + LINE;
-
-// Enters a sheet's text, which is read into the lent words.
-fn enter_sheet(
-    words: &mut [u32],
-    bytes: &mut [u8],
-    sheet: &[u8],
-    names: &[u8],
-    rows: &mut [u32],
-    out: &mut [u32],
-) -> Answer
-    requires { length rows.old ≡ 16384 }
-    ensures { EnteredText words.old bytes.old sheet.now names.now (length out.old) result
-        out.new words.new bytes.new }
-{
-    let n = read_sheet(sheet, rows);
-    enter(words, bytes, &rows[..8 * n], names, out)
-}
 
 // Writes the row of a session: its counts, the first eight words.
 fn print_session(words: &[u32], text: &mut [u8])
@@ -42,12 +24,16 @@ fn print_session(words: &[u32], text: &mut [u8])
     write_rows(&row, text);
 }
 
-// Writes the report of an answer and the row of the session after it. Returns the number of bytes. A preview is told in the same form.
-pub fn print_entry(x: Answer, words: &[u32], report: &mut [u32], text: &mut [u8]) -> usize
-    requires { (8 * (x.rows + 1) ≤ length report.old) × (81 * (x.rows + 2) ≤ length text.old) }
-    ensures { Begins (answer_text x report.old ++ session_row words.now) text.old result text.new }
+// Writes the row of a session after a reply, if there is one. Returns the number of bytes of both.
+pub fn with_session(reply: Option<usize>, words: &[u32], text: &mut [u8]) -> usize
+    requires { IfSome reply (λ n. n + 81 ≤ length text.old) }
+    ensures told { IfSome reply (λ n. (told before : List ℕ) → Begins told before n text.old
+        → Begins (told ++ session_row words.now) before result text.new) }
+    ensures none { reply ≡ None → (result ≡ 0) × (text.new ≡ text.old) }
 {
-    let n = print_answer(x, report, text);
+    let Some(n) = reply else {
+        return 0;
+    };
     print_session(words, &mut text[n..]);
     n + LINE
 }
@@ -66,21 +52,7 @@ pub fn enter_lent(
     ensures { RepliedOfEntry lent words.old bytes.old sheet.now names.now text.old result
         words.new bytes.new text.new }
 {
-    if lent > limit::LENT_ROWS as usize {
-        return 0;
-    }
-    if text.len() < LONGEST {
-        return 0;
-    }
-    let mut rows = [0u32; 16384];
-    let mut report = [0u32; 16392];
-    let x = enter_sheet(
-        words,
-        bytes,
-        sheet,
-        names,
-        &mut rows,
-        &mut report[8..8 + 8 * lent],
-    );
-    print_entry(x, words, &mut report, text)
+    let mut ask = |rows: &[u32], out: &mut [u32]| enter(words, bytes, rows, names, out);
+    let reply = reply_to(sheet, lent, LONGEST, text, &mut ask);
+    with_session(reply, words, text)
 }

@@ -1,5 +1,4 @@
--- From what is told of an entry to what its walk needs: its sheet and its outside as they are written, and space of zeros in two sizes.
--- a sheet past question 1 fits the larger copy
+-- From what is told of an entry to what its walk needs: its sheet and its outside as they are written, and space of zeros.
 use mathlib.Core.Path.{◌≡◌, sym, ap, ◌∙◌, subst}
 use mathlib.Core.Bool.{true, ◌||◌}
 use mathlib.Core.List.{List, ◌++◌}
@@ -14,26 +13,27 @@ use Rattle.definition.specs.Sheet.{Sheet, rows}
 use Rattle.definition.specs.Outside.{Outside, based}
 use Rattle.definition.specs.Outcome.{rows_fit}
 use Rattle.machine.specs.Space.{nodes_of, nodes_for}
-use Rattle.machine.proofs.NodeBound.{nodes_few}
 use Rattle.machine.specs.Reads.{PastFour}
 use Rattle.outside.specs.Words.{over}
 use Rattle.row_events.specs.Prepared.{Ready}
-use Rattle.resolver.proofs.LentLaws.{lent_zeros, rows_small}
-use Rattle.answer_rows.proofs.ScratchLaws.{rows_most, zeros_long}
+use Rattle.walk_space.specs.Room.{RoomFor}
+use Rattle.resolver.proofs.LentLaws.{lent_zeros}
+use Rattle.answer_rows.proofs.ScratchLaws.{zeros_long}
 use Rattle.session.specs.Session.{outside_of}
 use Rattle.session.specs.Entry.{names_with, to_session, entry_sheet}
 use Rattle.session.specs.Words.{whole, session_in}
 use Rattle.session.proofs.Renaming.{Renamed}
 use Rattle.session.proofs.Extended.{total_same}
 use Rattle.session.proofs.EntryLaws.{entry_renamed}
-use Rattle.session.proofs.RowLaws.{whole_rows, whole_few}
+use Rattle.session.proofs.RowLaws.{whole_rows}
 use Rattle.session_outside.proofs.ReadableLaws.{over_few}
 use Rattle.entry_walk.specs.Laid.{OneUnit}
 use Rattle.entry_ready.proofs.PastLaws.{passed, entry_past, entry_one}
 use Rattle.prepare_entry.specs.Told.{Told, Written}
 
-pub copy_fits : (s : Sheet) → rows_fit s ≡ true → length s ≤ 16384
-copy_fits s e = omega (arith, whole_rows s e, whole_few s e)
+-- a sheet past question 1 fits a copy of eight words for each row
+pub copy_fits : (s : Sheet) → rows_fit s ≡ true → {names classes entries results nodes : ℕ} → RoomFor s names classes entries results nodes → length s ≤ results
+copy_fits s e r = omega (arith, whole_rows s e, r.for_classes, r.for_results)
 
 -- a part of a copy that is long enough, of zeros
 pub copy_long : (k l : ℕ) → k ≤ l → length {A = ℕ} (take k (replicate l 0)) ≡ k
@@ -60,15 +60,6 @@ module _ {w : List ℕ} {s : Sheet} {numbers : List ℕ} {new bytes : ℕ} {n ns
     pub few : length (over o).names ≤ 1048
     few = omega (arith, over_few w n o h.fits held)
 
-    -- the space of the walk
-    pub ready_large : Ready (over o) c (replicate 2048 0) (replicate 46340 0) (replicate 16384 0) (replicate 172032 0)
-    ready_large =
-        record {
-          past = past;
-          lent = lent_zeros past.names (over o) c 2048 2048 46340 16384 172032 (rows_most c past) (omega arith) (omega (arith, past.few, few)) (omega arith)
-              (omega (arith, nodes_few c, rows_most c past));
-        }
-
     -- kinds stay, so the nodes that the rows may take are those of the entry's own sheet
     nodes_same : nodes_for c ≡ nodes_for s
     unfolding nodes_for
@@ -82,12 +73,19 @@ module _ {w : List ℕ} {s : Sheet} {numbers : List ℕ} {new bytes : ℕ} {n ns
         e : Renamed (to_session (session_in whole w n) ns) (name_count ns) (length (names_with (session_in whole w n) ns)) s t
         e = entry_renamed (session_in whole w n) ns s rows_fit_lem (passed (get_or w 0 0) s ns h.none).names_fit_lem
 
-    pub ready_small : length c ≤ 2560 → nodes_for s ≤ 3360 → Ready (over o) c (replicate 320 0) (replicate 20420 0) (replicate 2560 0) (replicate 13440 0)
-    ready_small l few_nodes =
+    -- the space of the walk: room for the entry's own sheet is room for its copy
+    pub ready : length c ≡ length s → {classes entries results nodes : ℕ} → RoomFor s 3120 classes entries results nodes
+        → Ready (over o) c (replicate classes 0) (replicate entries 0) (replicate results 0) (replicate nodes 0)
+    ready long r =
         record {
           past = past;
-          lent = lent_zeros past.names (over o) c 320 320 20420 2560 13440 (rows_small c l) (omega arith) (omega (arith, past.few, few)) (omega arith)
-              (omega (arith, nodes_same, few_nodes));
+          lent = lent_zeros past.names (over o) (omega (arith, past.few, few)) (record {
+            for_classes = omega (arith, long, r.for_classes);
+            for_entries = r.for_entries;
+            for_results = r.for_results;
+            for_nodes = omega (arith, nodes_same, r.for_nodes);
+            small = r.small;
+          });
         }
 
 -- the copy as it is read again out of the array in whose beginning it was written
@@ -97,9 +95,6 @@ module _ {w : List ℕ} {s : Sheet} {numbers o c : List ℕ} (m : Written w s nu
 
   pub front_is : length (take (length s) (c ++ r)) ≡ length s
   front_is = length-take-le (length s) (c ++ r) front_long
-
-  pub front_small : {l : ℕ} → length s ≤ l → length (take (length s) (c ++ r)) ≤ l
-  front_small h = omega (arith, front_is, h)
 
   pub front_written : Written w s numbers o (take (length s) (c ++ r))
   front_written = subst (Written w s numbers o) (sym (take_at c r (length s) long)) m

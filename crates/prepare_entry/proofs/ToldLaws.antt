@@ -6,7 +6,7 @@ use Prim.Native.Nat.{ℕ, suc, ◌+◌, ◌-◌, ◌≤◌}
 use native.Mathlib.Omega.{arith}
 use lib.Dec.{leb→le}
 use lib.ListN.{length, get_or, take, length-append, length-map}
-use Rattle.definition.specs.Basics.{when◌then◌else◌, any, unlike, from}
+use Rattle.definition.specs.Basics.{any, unlike, from}
 use Rattle.definition.specs.Names.{Name, fixed, listed, same_name, names_fit}
 use Rattle.definition.specs.Sheet.{Sheet}
 use Rattle.session.proofs.SessionLaws.{from_length, runs_of}
@@ -27,7 +27,7 @@ use Rattle.ast.specs.declared.question.Question.TheVariants.{Session as QSession
 use Rattle.ast.specs.Question.{question_number}
 use Rattle.std.proofs.Common.{Result, Ok, Err, refl}
 use Rattle.std.specs.Result.{IsErrAnd}
-use Rattle.prepare_entry.specs.Told.{Told, ToldBy, PreparedFor}
+use Rattle.prepare_entry.specs.Told.{Told, PreparedFor}
 
 module _ (w n : List ℕ) (fit : session_fits whole w n ≡ true) where
   abbrev S : Session

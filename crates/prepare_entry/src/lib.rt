@@ -19,7 +19,10 @@ use session_names::space::{NameSpace, PLACES, STARTS};
 use session_outside::outside_words;
 use session_outside::runs::SessionRuns;
 
-// The words of what a small session is to an entry: what is entered or previewed chooses its scratch space by them, and by its sheet.
+// The words of what a session is to an entry at most, and of a small session: what is entered or previewed chooses its scratch space by them, and by its sheet
+// (sizes in crate `walk_space`).
+pub const LARGEST_OUTSIDE: usize = 41198;
+
 pub const SMALL_OUTSIDE: usize = 2048;
 
 // How many names an entry lists, how many of them are new to the session, in how many bytes with their ends, and the number of the first new one.

@@ -1,22 +1,26 @@
 -- What comes of the rows that were read is what comes of the text, and what is written of it. Assumes nothing.
+use denote.Ref.{Bor, MutBor}
+use Rattle.std.specs.Prelude.{Option, Some, None}
+use Rattle.std.specs.Option.{IfSome}
+use mathlib.Core.Logic.{◌⊎◌}
 use mathlib.Core.Path.{◌≡◌, refl, sym, ap, subst, ◌∙◌}
 use mathlib.Core.Bool.{Bool, false}
 use mathlib.Core.List.{List, [], ◌++◌}
 use Prim.Native.Nat.{ℕ, ◌*◌, ◌<◌, ◌≤◌}
-use lib.ListN.{length, take, drop}
+use lib.ListN.{length, take}
 use Rattle.definition.specs.Basics.{when◌then◌else◌}
 use Rattle.definition.specs.Text.{sheet_of, text_of}
 use Rattle.definition.specs.Outcome.{Outcome, report, buffer}
 use Rattle.text.specs.Reading.{SheetRead}
 use Rattle.answer.specs.declared.Answer.{Answer}
 use Rattle.answer.specs.Tells.{Tells}
-use Rattle.report.specs.Report.{Begins, answer_text}
+use Rattle.report.specs.Report.{Begins}
+use Rattle.report.specs.Asked.{RepliedBy}
 use Rattle.session.specs.Words.{whole, enter_words, enter_bytes}
 use Rattle.enter_text.specs.Reply.{session_row, outcome_of, is_lent, EnteredText}
-use Rattle.enter_text.proofs.EntryLaws.{outcome_read, outcome_cut, many, short, has, told}
+use Rattle.enter_text.proofs.EntryLaws.{outcome_read, outcome_cut, none_lent, has, told}
 use Rattle.preview.specs.Previewed.{Previewed}
 use Rattle.preview_text.specs.Reply.{printed_preview, RepliedOfPreview, PreviewedText}
-use borrow.Rule.Slice.PartMut.{put_mid}
 
 pub previewed_text : (w b : List ℕ) (lent : ℕ) (sheet ns : List ℕ) (k : ℕ) (ws : List ℕ) (x : Answer) (out : List ℕ) → SheetRead sheet 16384 k ws
     → Previewed w b (take (8 * k) ws) ns lent x out → PreviewedText w b sheet ns lent x out
@@ -46,18 +50,26 @@ module _ (lent : ℕ) (w b sheet names before : List ℕ) where
   none e =
       replied_texts (subst (λ (t : Bool). Begins (when t then printed_preview lent w b sheet names else []) before 0 before) (sym e) (record { count = refl; text = refl }))
 
-  pub lent_many : 2048 < lent → RepliedOfPreview lent w b sheet names before 0 before
-  lent_many l = none (many lent w b sheet names before l)
-
-  pub lent_short : length before < 166050 → RepliedOfPreview lent w b sheet names before 0 before
-  lent_short l = none (short lent w b sheet names before l)
-
-  pub preview_replied : (low : lent ≤ 2048) (room : 166050 ≤ length before) (rep out : List ℕ) (m : ℕ) (x : Answer) (size : length rep ≡ 16392) (e : m ≡ 8 * lent)
-      → PreviewedText w b sheet names (length (take m (drop 8 rep))) x out
-      → {n : ℕ} {after : List ℕ} → Begins (answer_text x (put_mid 8 m rep out) ++ session_row w) before n after → RepliedOfPreview lent w b sheet names before n after
-  preview_replied low room rep out m x size e h {n} {after} p =
-      let same = told lent w b sheet names before low room rep out _ _ m x size e (as_entered h) in
-      let full = has lent w b sheet names before low room rep out _ _ m x size e (as_entered h) in
-      replied_texts
-      (subst (λ (t : Bool). Begins (when t then printed_preview lent w b sheet names else []) before n after) (sym full)
-      (subst (λ (t : List ℕ). Begins (t ++ session_row w) before n after) same p))
+  -- what a preview's text comes to, with a reply or with none
+  module _ {asked : Bor (List ℕ) → MutBor (List ℕ) → Answer → MutBor (List ℕ) → Type 0} {mid after : List ℕ} {end : ℕ} where
+    pub previewed_by : (r : Option ℕ) → IfSome r (λ n. (lent ≤ 2048) × (166050 ≤ length before) × RepliedBy asked sheet lent before n mid)
+        → ((n : ℕ) → (a : RepliedBy asked sheet lent before n mid) → Previewed w b a.rows.now names (length a.out.now) a.x a.out'.now)
+        → (r ≡ None → ((2048 < lent) ⊎ ((lent ≤ 2048) × (length before < 166050))) × (mid ≡ before))
+        → IfSome r (λ n. (told before : List ℕ) → Begins told before n mid → Begins (told ++ session_row w) before end after)
+        → (r ≡ None → (end ≡ 0) × (after ≡ mid)) → RepliedOfPreview lent w b sheet names before end after
+    previewed_by (Some n) h f g p q =
+        let a = h.2 in
+        let here : Previewed w b (take (8 * a.k) a.words) names (8 * lent) a.x a.out'.now =
+        subst (λ (s : List ℕ). Previewed w b s names (8 * lent) a.x a.out'.now) a.rows_are
+        (subst (λ (k : ℕ). Previewed w b a.rows.now names k a.x a.out'.now) a.room (f n a)) in
+        let text = as_entered (previewed_text w b (8 * lent) sheet names a.k a.words _ _ a.read here) in
+        let same = told lent w b sheet names before h.0 h.1 text in
+        let full = has lent w b sheet names before h.0 h.1 text in
+        replied_texts
+        (subst (λ (t : Bool). Begins (when t then printed_preview lent w b sheet names else []) before end after) (sym full)
+        (subst (λ (t : List ℕ). Begins (t ++ session_row w) before end after) same (p _ _ a.text)))
+    previewed_by None h f g p q =
+        let no = g refl in
+        let last = q refl in
+        subst (λ (n : ℕ). RepliedOfPreview lent w b sheet names before n after) (sym last.0)
+        (subst (λ (t : List ℕ). RepliedOfPreview lent w b sheet names before 0 t) (sym (last.1 ∙ no.1)) (none (none_lent lent w b sheet names before no.0)))

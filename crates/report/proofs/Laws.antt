@@ -1,11 +1,15 @@
 -- What callers cite of the line that an answer tells, and of a report as text. Assumes nothing.
+use denote.Ref.{Bor, MutBor}
 use mathlib.Core.Path.{◌≡◌, refl, sym, ap, subst, ◌∙◌}
+use Rattle.std.specs.Prelude.{Option, Some, None}
+use Rattle.std.specs.Option.{IfSome, unwrap_or}
 use mathlib.Core.Logic.{◌⊎◌, inl, inr}
 use mathlib.Core.Bool.{Bool, true, false, ◌&&◌}
 use mathlib.Core.List.{List, [], ◌∷◌, ◌++◌, append_assoc, append-nil}
 use Prim.Native.Nat.{ℕ, zero, suc, ◌+◌, ◌-◌, ◌*◌, min, ◌<◌, ◌≤◌}
 use native.Mathlib.Omega.{arith}
 use lib.ListN.{length, get_or, take, drop, replicate, length-append, length-map, length-take, length-drop, drop_of_length-le}
+use Rattle.std.proofs.lemmas.List.{take-append-le}
 use lib.Seq.{take_at, take_all, take-append-add, drop_at, drop-drop, length-take-le}
 use lib.Dec.{leb}
 use borrow.Rule.Slice.PartMut.{mid_of, put_mid}
@@ -21,6 +25,7 @@ use Rattle.text.proofs.Lists.{map_at, from_length, concat_map_lem, parts_joined,
 use Rattle.text.proofs.Laws.{line_length, rows_of_joined}
 use Rattle.answer.specs.declared.Answer.{Answer}
 use Rattle.answer.specs.Tells.{Tells}
+use Rattle.report.specs.Asked.{report_text, RepliedBy}
 use Rattle.report.specs.Report.{report_line, told_by, fitted, Begins, reply, answer_text, Printed}
 
 -- an answer tells the line of its outcome
@@ -94,6 +99,23 @@ rows_there o x m ws out tells good room e =
     ∙ ap (take (8 * x.rows)) (append_assoc (flat o.rows) zeros rest)
     ∙ take_at (flat o.rows) (zeros ++ rest) (8 * x.rows) (flat_length good ∙ ap (λ (n : ℕ). 8 * n) (sym tells.rows))
 
+-- The report that is printed of an answer x, where its rows begin `out`, m words after the first eight of ws.
+module _ (x : Answer) (m : ℕ) (ws out : List ℕ) (room : 8 ≤ length ws) (few : 8 * x.rows ≤ length out) where
+  words_printed : take (8 * (x.rows + 1)) (told_by x ++ drop 8 (put_mid 8 m ws out)) ≡ told_by x ++ take (8 * x.rows) out
+  unfolding told_by
+  words_printed =
+      let rest : List ℕ = drop m (drop 8 ws) in
+      let size : 8 * (x.rows + 1) ≡ 8 + 8 * x.rows = omega arith in
+      ap (λ (k : ℕ). take k (told_by x ++ drop 8 (put_mid 8 m ws out))) size
+      ∙ take-append-add (told_by x) (drop 8 (put_mid 8 m ws out)) (8 * x.rows)
+      ∙ ap (λ (xs : List ℕ). told_by x ++ take (8 * x.rows) xs) (drop_at (take 8 ws) (out ++ rest) 8 (length-take-le 8 ws room))
+      ∙ ap (λ (xs : List ℕ). told_by x ++ xs) (take-append-le (8 * x.rows) out rest few)
+
+  pub asked_printed : (before : List ℕ) (n : ℕ) (filled after : List ℕ) → 8 * (x.rows + 1) ≤ length (put_mid 8 m ws out)
+      → Printed x (put_mid 8 m ws out) before n filled after → Begins (report_text x out) before n after
+  asked_printed before n filled after l h =
+      subst (λ (r : List ℕ). Begins (text_of (rows_in r)) before n after) words_printed (printed_begins x (put_mid 8 m ws out) before n filled after l h)
+
 -- The report of an outcome o, whose answer is x and whose rows stand in the words w from the ninth on.
 module _ (o : Outcome) (x : Answer) (w : List ℕ) (tells : Tells o x) (good : Eights o.rows) (few : length o.rows ≤ 4294967295)
     (there : take (8 * x.rows) (drop 8 w) ≡ flat o.rows) where
@@ -122,6 +144,18 @@ module _ (o : Outcome) (x : Answer) (w : List ℕ) (tells : Tells o x) (good : E
     count = omega (arith, h.count, report_length, tells.rows);
     text = h.text ∙ ap (λ (rs : List (List ℕ)). text_of rs ++ drop n before) rows_told;
   }
+
+-- The report of an outcome o, whose answer is x and whose rows begin the words `out`.
+module _ (o : Outcome) (x : Answer) (out : List ℕ) (tells : Tells o x) (good : Eights o.rows) where
+  pub rows_begin : (m : ℕ) → out ≡ buffer m o → take (8 * x.rows) out ≡ flat o.rows
+  rows_begin m e =
+      ap (take (8 * x.rows)) e
+      ∙ take_at (flat o.rows) (replicate (m - 8 * length o.rows) 0) (8 * x.rows) (flat_length good ∙ ap (λ (n : ℕ). 8 * n) (sym tells.rows))
+
+  pub report_is : length o.rows ≤ 4294967295 → take (8 * x.rows) out ≡ flat o.rows → report_text x out ≡ text_of (report o)
+  report_is few there =
+      ap (λ (ws : List ℕ). text_of (rows_in ws)) (ap (λ (xs : List ℕ). told_by x ++ xs) there ∙ ap (λ (xs : List ℕ). xs ++ flat o.rows) (told_line o x tells ∙ line_first o few))
+      ∙ ap text_of (rows_of_joined (report o) (eight_at (Eights.more refl good)))
 
 -- what a text begins with lies in it
 pub begins_within : {told before : List ℕ} {n : ℕ} {after : List ℕ} → Begins told before n after → n ≤ length after
@@ -183,3 +217,14 @@ module _ (lent : ℕ) (told before : List ℕ) where
   pub replied_none : (2048 < lent) ⊎ ((lent ≤ 2048) × (room < 165969)) → Begins (reply lent room told) before 0 before
   replied_none (inl l) = replied_many l
   replied_none (inr l) = replied_short l.1
+
+-- What is written of a reply whose report is `told`, or of none.
+module _ (lent : ℕ) (told before : List ℕ) {asked : Bor (List ℕ) → MutBor (List ℕ) → Answer → MutBor (List ℕ) → Type 0} {sheet after : List ℕ} where
+  pub replied_by : (r : Option ℕ) → IfSome r (λ n. (lent ≤ 2048) × (165969 ≤ length before) × RepliedBy asked sheet lent before n after)
+      → ((n : ℕ) → lent ≤ 2048 → (a : RepliedBy asked sheet lent before n after) → report_text a.x a.out'.now ≡ told)
+      → (r ≡ None → ((2048 < lent) ⊎ ((lent ≤ 2048) × (length before < 165969))) × (after ≡ before))
+      → Begins (reply lent (length before) told) before (unwrap_or r 0) after
+  replied_by (Some n) h f g = replied lent told before n after h.0 h.1 (subst (λ (t : List ℕ). Begins t before n after) (f n h.0 h.2) h.2.text)
+  replied_by None h f g =
+      let none = g refl in
+      subst (Begins (reply lent (length before) told) before 0) (sym none.1) (replied_none lent told before none.0)

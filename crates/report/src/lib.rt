@@ -1,11 +1,15 @@
 // Reports: an answer as the eight numbers of document 01, and with its rows as text.
 #![tactic(auto)]
 
-ghost use Rattle.std.specs.Prelude.{◌≡◌, ◌+◌, ◌*◌, ◌≤◌, min, length};
+ghost use Rattle.std.specs.Prelude.{◌≡◌, ◌⊎◌, ◌+◌, ◌*◌, ◌<◌, ◌≤◌, Option, None, min, length};
+ghost use Rattle.std.specs.Option.{IfSome};
 ghost use Rattle.report.specs.Report.{fitted, told_by, Printed};
+ghost use Rattle.report.specs.Asked.{RepliedBy};
+ghost use Rattle.answer.specs.declared.Answer.{Answer};
 
 use answer::Answer;
-use text::write_rows;
+use ast::limit;
+use text::{read_sheet, write_rows};
 use words::clear;
 
 // The bytes of a line.
@@ -57,4 +61,30 @@ pub fn print_answer(x: Answer, words: &mut [u32], text: &mut [u8]) -> usize
     let line = first_line(x);
     write_fitted(&line, &mut words[..8]);
     write_rows(&words[..8 * (x.rows + 1)], text)
+}
+
+// The reply to a sheet's text: `ask` answers the rows that are read, with so many answer rows lent, and the report is written. Returns the number of bytes: none
+// where more than 2,048 rows are lent or the lent text is shorter than `longest`, and then nothing is asked.
+pub fn reply_to<F: FnMut(&[u32], &mut [u32]) -> Answer>(
+    sheet: &[u8],
+    lent: usize,
+    longest: usize,
+    text: &mut [u8],
+    ask: &mut F,
+) -> Option<usize>
+    requires callable { F.IsAlwaysCallable ask.old }
+    requires few { (rows : _) (out : _) (x : Answer) (out' : _) (s : F) → length out.now ≡ 8 * lent → F.step ask.old rows out x out' s → x.rows ≤ lent }
+    requires room { 165969 ≤ longest }
+    ensures told { IfSome result (λ n. (lent ≤ 2048) × (longest ≤ length text.old)
+        × (RepliedBy (λ rows out x out'. F.step ask.old rows out x out' ask.new) sheet.now lent text.old n text.new)) }
+    ensures none { result ≡ None → ((2048 < lent) ⊎ ((lent ≤ 2048) × (length text.old < longest))) × (text.new ≡ text.old) × (ask.new ≡ ask.old) }
+{
+    if lent > limit::LENT_ROWS as usize || text.len() < longest {
+        return None;
+    }
+    let mut words = [0u32; 16384];
+    let mut report = [0u32; 16392];
+    let n = read_sheet(sheet, &mut words);
+    let x = ask(&words[..8 * n], &mut report[8..8 + 8 * lent]);
+    Some(print_answer(x, &mut report, text))
 }

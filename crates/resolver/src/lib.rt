@@ -1,10 +1,10 @@
 // The public routine: a sheet and its names, resolved into the lent answer words, or refused.
 #![tactic(auto)]
 
-ghost use Rattle.std.specs.Prelude.{◌≤◌, length};
-ghost use Rattle.machine.specs.Space.{nodes_for};
+ghost use Rattle.std.specs.Prelude.{length};
 ghost use Rattle.row_events.specs.Prepared.{Ready};
 ghost use Rattle.finish.specs.Settled.{Settled};
+ghost use Rattle.walk_space.specs.Room.{RoomFor};
 ghost use Rattle.resolver.specs.Plain.{Plain};
 ghost use Rattle.resolver.specs.Answered.{Answered};
 ghost use Rattle.definition.specs.Outside.{core};
@@ -16,10 +16,11 @@ use finish::finish;
 use first_four::first_four;
 use outside::plain::core_words;
 use resolve_syms::resolve_units;
+use walk_space::size::{
+    MIDDLE_NODE_WORDS, MIDDLE_NODES, NODE_WORDS, PLAIN_ENTRIES, PLAIN_NAMES, ROWS, SHEET,
+    SMALL_NODE_WORDS, SMALL_PLAIN_ENTRIES, SMALL_ROWS, SMALL_SHEET,
+};
 use walk_space::{is_small, nodes_for};
-
-// The nodes that `resolve_middle` has room for.
-const MIDDLE_NODES: u32 = 10752;
 
 // The walk, in lent scratch space, and what follows it.
 fn resolve_in(
@@ -41,16 +42,20 @@ fn resolve_in(
     }
 }
 
-// The walk's scratch space for up to 2,048 rows and nine names from outside: a class for each row, 7,204 open entries of five words, a table of
-// eight words a row, 43,008 nodes of four.
-fn resolve_large(sheet: &[u32], outside: &[u32], out: &mut [u32]) -> Answer
-    requires { Plain (over outside.now) sheet.now }
+// The walk in scratch arrays of these sizes, and what follows it: of classes, open entries, results and nodes.
+fn resolve_with<
+    const ROWS: usize,
+    const ENTRIES: usize,
+    const SHEET: usize,
+    const NODE_WORDS: usize,
+>(sheet: &[u32], outside: &[u32], out: &mut [u32]) -> Answer
+    requires { Plain (over outside.now) sheet.now × RoomFor sheet.now PLAIN_NAMES ROWS ENTRIES SHEET NODE_WORDS }
     ensures { Settled (over outside.now) sheet.now (length out.old) result out.new }
 {
-    let mut classes = [0u32; 2048];
-    let mut entries = [0u32; 36020];
-    let mut results = [0u32; 16384];
-    let mut nodes = [0u32; 172032];
+    let mut classes = [0u32; ROWS];
+    let mut entries = [0u32; ENTRIES];
+    let mut results = [0u32; SHEET];
+    let mut nodes = [0u32; NODE_WORDS];
     resolve_in(
         sheet,
         outside,
@@ -62,58 +67,21 @@ fn resolve_large(sheet: &[u32], outside: &[u32], out: &mut [u32]) -> Answer
     )
 }
 
-// The same for sheets that take at most 10,752 nodes, as those do of which a quarter of the rows are identifiers: 172 KB of nodes in place of 688.
-fn resolve_middle(sheet: &[u32], outside: &[u32], out: &mut [u32]) -> Answer
-    requires { Plain (over outside.now) sheet.now × (nodes_for sheet.now ≤ 10752) }
-    ensures { Settled (over outside.now) sheet.now (length out.old) result out.new }
-{
-    let mut classes = [0u32; 2048];
-    let mut entries = [0u32; 36020];
-    let mut results = [0u32; 16384];
-    let mut nodes = [0u32; 43008];
-    resolve_in(
-        sheet,
-        outside,
-        &mut classes,
-        &mut entries,
-        &mut results,
-        &mut nodes,
-        out,
-    )
-}
-
-// The same for small sheets, which would spend most of their time on clearing: 320 rows and 3,360 nodes.
-fn resolve_small(sheet: &[u32], outside: &[u32], out: &mut [u32]) -> Answer
-    requires { Plain (over outside.now) sheet.now × (length sheet.now ≤ 2560) × (nodes_for sheet.now ≤ 3360) }
-    ensures { Settled (over outside.now) sheet.now (length out.old) result out.new }
-{
-    let mut classes = [0u32; 320];
-    let mut entries = [0u32; 10100];
-    let mut results = [0u32; 2560];
-    let mut nodes = [0u32; 13440];
-    resolve_in(
-        sheet,
-        outside,
-        &mut classes,
-        &mut entries,
-        &mut results,
-        &mut nodes,
-        out,
-    )
-}
-
-// A sheet past the first four questions, by its rows and the nodes that they may take.
+// A sheet past the first four questions. Its rows and the nodes that they may take choose the scratch space: a small sheet would spend most of its time on clearing
+// the largest, 906 KB of words, and a middle one has 172 KB of nodes in place of 688.
 fn resolve_sized(sheet: &[u32], outside: &[u32], out: &mut [u32]) -> Answer
     requires { Plain (over outside.now) sheet.now }
     ensures { Settled (over outside.now) sheet.now (length out.old) result out.new }
 {
     if is_small(sheet) {
-        return resolve_small(sheet, outside, out);
+        return resolve_with::<SMALL_ROWS, SMALL_PLAIN_ENTRIES, SMALL_SHEET, SMALL_NODE_WORDS>(
+            sheet, outside, out,
+        );
     }
     if nodes_for(sheet) <= MIDDLE_NODES {
-        return resolve_middle(sheet, outside, out);
+        return resolve_with::<ROWS, PLAIN_ENTRIES, SHEET, MIDDLE_NODE_WORDS>(sheet, outside, out);
     }
-    resolve_large(sheet, outside, out)
+    resolve_with::<ROWS, PLAIN_ENTRIES, SHEET, NODE_WORDS>(sheet, outside, out)
 }
 
 // A plain sheet past the first four questions.

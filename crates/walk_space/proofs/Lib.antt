@@ -1,1 +1,2 @@
 mod SpaceLaws
+pub mod RoomLaws

@@ -6,12 +6,10 @@ ghost use Rattle.definition.specs.Sheet.{rows};
 ghost use Rattle.machine.specs.Space.{nodes_of, nodes_for};
 
 use ast::kind::Kind;
+use size::{SMALL_NODES, SMALL_SHEET};
 use words::is_kind;
 
-// A small sheet has at most 320 rows and takes at most 3,360 nodes, as those do of which half of the rows are identifiers.
-const SMALL_SHEET: usize = 2560;
-
-const SMALL_NODES: u32 = 3360;
+pub mod size;
 
 // No more functions than that lie around an identifier: depths are at most 64.
 const MOST_FUNCTIONS: u32 = 21;

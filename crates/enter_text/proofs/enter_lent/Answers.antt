@@ -1,35 +1,21 @@
 -- `enter_lent` meets its contract. Assumes nothing.
-use mathlib.Core.Path.{sym, ◌∙◌}
-use Prim.Native.Nat.{◌+◌, ◌-◌, ◌*◌}
-use native.Mathlib.Omega.{arith}
-use lib.ListN.{replicate}
-use borrow.Rule.Slice.PartMut.{same_len_mid}
-use Rattle.enter_text.proofs.EntryLaws.{report_size, lent_many, lent_short, few, entry_replied}
+use Rattle.std.proofs.Common.{rules, of_calls}
+use mathlib.Core.List.{List}
+use Prim.Native.Nat.{ℕ}
+use lib.ListN.{length}
+use Rattle.prompt.specs.Entered.{Entered}
+use Rattle.enter_text.proofs.EntryLaws.{few_rows, entered_by}
 use Rattle.enter_text.proofs.enter_lent.Goals as goal
 
-pub returns-then-lent : goal.returns-then-lent
-returns-then-lent c =
-    lent_many c.args.lent c.args.words.now c.args.bytes.now c.args.sheet.now c.args.names.now c.args.text.now c.if-lent.true
-
-pub returns-then-text-lt-LONGEST : goal.returns-then-text-lt-LONGEST
-returns-then-text-lt-LONGEST c =
-    lent_short c.args.lent c.args.words.now c.args.bytes.now c.args.sheet.now c.args.names.now c.args.text.now c.if-text-lt-LONGEST.true
-
-pub slice_bounds-print_entry-end : goal.slice_bounds-print_entry-end
-slice_bounds-print_entry-end c =
-    let out = c.enter_sheet-x.new.out in
-    sym (same_len_mid 8 (8 + 8 * c.args.lent - 8) (replicate 16392 0) out c.enter_sheet-x.auto.out ∙ report_size)
-
-pub print_entry-requires : goal.print_entry-requires
-print_entry-requires c =
-    let out = c.enter_sheet-x.new.out in
-    let rows = few c.args.lent c.args.words.now c.args.bytes.now c.args.sheet.now c.args.names.now c.args.text.now (omega (arith, c.if-lent.false)) c.if-text-lt-LONGEST.false
-    (replicate 16392 0) out _ _ (8 + 8 * c.args.lent - 8) c.enter_sheet-x.result report_size (omega arith) c.enter_sheet-x.ensures in
-    let size = same_len_mid 8 (8 + 8 * c.args.lent - 8) (replicate 16392 0) out c.enter_sheet-x.auto.out ∙ report_size in
-    (omega (arith, rows, size), omega (arith, rows, c.if-text-lt-LONGEST.false))
+pub reply_to-reply-requires-clause-few : goal.reply_to-reply-requires-clause-few
+reply_to-reply-requires-clause-few c rows out x out' s e called =
+    let a : (w' : List ℕ) × (b' : List ℕ) × Entered c.args.words.now c.args.bytes.now rows.now c.args.names.now (length out.now) x out'.now w' b' =
+    search (rules, of_calls) in
+    few_rows c.args.words.now c.args.bytes.now rows.now c.args.names.now a.2.tells e
 
 pub returns : goal.returns
 returns c =
-    entry_replied c.args.lent c.args.words.now c.args.bytes.now c.args.sheet.now c.args.names.now c.args.text.now (omega (arith, c.if-lent.false)) c.if-text-lt-LONGEST.false
-    (replicate 16392 0) c.enter_sheet-x.new.out _ _ (8 + 8 * c.args.lent - 8) c.enter_sheet-x.result report_size (omega arith)
-    c.enter_sheet-x.ensures c.print_entry.ensures
+    entered_by c.args.lent c.args.words.now c.args.bytes.now c.args.sheet.now c.args.names.now c.args.text.now c.reply_to-reply.result c.reply_to-reply.ensures.told
+    (λ n a. search (rules, of_calls))
+    (λ e. let none = c.reply_to-reply.ensures.none e in (none.0, none.1, search rules, search rules))
+    c.with_session.ensures.told c.with_session.ensures.none

@@ -1,5 +1,5 @@
 -- `prepare` meets its contract. Assumes nothing.
-use Rattle.std.proofs.Common.{refl, sym, ◌∙◌, ◌≡◌, ◌+◌, arith, length}
+use Rattle.std.proofs.Common.{sym, ◌≡◌, ◌+◌, arith, length}
 use Rattle.definition.specs.Names.{listed}
 use Rattle.entry_ready.proofs.PastLaws.{passed}
 use Rattle.session.specs.Words.{whole, session_in}

@@ -1,12 +1,34 @@
 use native.Mathlib.Omega.{arith}
+use Rattle.session_outside.proofs.WholeLaws.{size_few}
+use Rattle.session_outside.proofs.ReadableLaws.{readable}
+use Rattle.session.proofs.RowLaws.{whole_few}
+use Rattle.walk_space.proofs.RoomLaws.{small_room, large_room}
+use Rattle.prepare_entry.proofs.SpaceLaws.{rows_fit_lem}
 use Rattle.preview.proofs.try_sheet.Goals as goal
 
-pub try_middle-requires : goal.try_middle-requires
-try_middle-requires c =
-    let small = c.is_small.ensures c.if-not-is_small.false in
-    (c.requires, small.0, small.1)
+pub try_with-requires : goal.try_with-requires
+try_with-requires c =
+    let told = c.requires.2 in (
+      c.requires,
+      size_few (readable c.args.words.now c.requires.0 told.fits),
+      omega arith,
+      large_room _ _ _ (whole_few c.args.sheet.now (rows_fit_lem told)) (omega arith) (omega arith),
+    )
 
-pub try_small-requires : goal.try_small-requires
-try_small-requires c =
-    let small = c.is_small.ensures c.if-not-is_small.false in
-    (c.requires, small.0, omega (arith, c.if-outside_size-gt-SMALL_OUTSIDE.false, c.outside_size.ensures), small.1)
+pub try_with-requires-then-outside_size-gt-SMALL_OUTSIDE : goal.try_with-requires-then-outside_size-gt-SMALL_OUTSIDE
+try_with-requires-then-outside_size-gt-SMALL_OUTSIDE c =
+    let small = c.is_small.ensures c.if-not-is_small.false in (
+      c.requires,
+      size_few (readable c.args.words.now c.requires.0 c.requires.2.fits),
+      omega arith,
+      small_room _ _ _ small.0 small.1 (omega arith) (omega arith),
+    )
+
+pub try_with-requires-2 : goal.try_with-requires-2
+try_with-requires-2 c =
+    let small = c.is_small.ensures c.if-not-is_small.false in (
+      c.requires,
+      omega (arith, c.if-outside_size-gt-SMALL_OUTSIDE.false, c.outside_size.ensures),
+      omega arith,
+      small_room _ _ _ small.0 small.1 (omega arith) (omega arith),
+    )
