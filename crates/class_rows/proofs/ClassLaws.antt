@@ -116,7 +116,8 @@ full_stays : (rs : List (List ℕ)) (w : List ℕ) → sink (length w / 8 + 1) w
 full_stays [] w = emit_none (sink (length w / 8 + 1) w)
 full_stays (r ∷ rs) w = emit_first r rs (sink (length w / 8 + 1) w) (emit_full (length w / 8 + 1) w r (omega arith)) (full_stays rs w)
 
-pub class_full : (O : Outside) (s : Sheet) (o : Stored) (r k : ℕ) (w : List ℕ) → length w / 8 ≤ k
-    → sink (length w / 8 + 1) w ≡ emit_all (map (λ vs. eight (r ∷ vs)) (class_rows_named O s o r)) (sink k w)
+pub class_full : (O : Outside) (s : Sheet) (o : Stored) (r k : ℕ) (w : List ℕ) {n : ℕ} → n ≡ length w / 8 → n ≤ k
+    → sink (n + 1) w ≡ emit_all (map (λ vs. eight (r ∷ vs)) (class_rows_named O s o r)) (sink k w)
 unfolding class_rows_named head_words
-class_full O s o r k w l = emit_first (eight (r ∷ head_words O s o r)) _ (sink k w) (emit_full k w (eight (r ∷ head_words O s o r)) l) (full_stays _ w)
+class_full O s o r k w e l =
+    rw e (emit_first (eight (r ∷ head_words O s o r)) _ (sink k w) (emit_full k w (eight (r ∷ head_words O s o r)) (omega (arith, e, l))) (full_stays _ w))

@@ -110,9 +110,9 @@ module _ (O : Outside) (s : Sheet) (o : Stored) (w : List ℕ) (k r n : ℕ) {y 
   unfolding class_rows_named head_words
   columns c l = ap (column y c k) (sym counted) ∙ (written c l).1
 
-  pub stands_now : length y ≡ length w → ((j : ℕ) → Steady O s o (names_in O s o j) r) → Steady O s o (methods_in O s o) r → Stands O s o y n r k
+  pub stands_now : ((j : ℕ) → Steady O s o (names_in O s o j) r) → Steady O s o (methods_in O s o) r → Stands O s o y n r k
   unfolding head_words
-  stands_now l h u =
+  stands_now h u =
       record {
         below = rw (f, g) (omega (arith, (written 0 (omega arith)).0, counted));
         within = rw (f, g, l) (omega (arith, fit, counted));
@@ -125,6 +125,9 @@ module _ (O : Outside) (s : Sheet) (o : Stored) (w : List ℕ) (k r n : ℕ) {y 
         stable_methods = u;
       }
     where
+      l : length y ≡ length w
+      l = ap (λ (x : Sink). length x.words) e ∙ (all_kept 0 (map (λ vs. eight (r ∷ vs)) (class_rows_named O s o r)) (sink k w) (omega arith) (omega arith)).lengths
+
       f : names_in O s o 10 (rows s) (256 + r) ≡ fs
       f = names_fields O s o (rows s) (256 + r)
 

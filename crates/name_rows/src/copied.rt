@@ -26,11 +26,11 @@ fn own_or(tables: Tables, c: ClassId, m: u32, f: FunId) -> FunId
 
 // The name that row `at` tells, told of the wanted class at slot `i`.
 #[tactic(auto, using(ast::proofs::KindLaws::same_kind), unfolding(crate::specs::Put::copied_row))]
-fn copied_row(rows: &Rows<'_>, tables: Tables, wanted: Wanted, at: usize, i: u32) -> AnswerRow
-    requires { at < length rows.now.out.now / 8 }
-    ensures { words_of result ≡ copied_row (outside_in tables.entry) tables.entry.sheet.now wanted rows.now.out.now at i }
+fn copied_row(out: &Rows<'_>, tables: Tables, wanted: Wanted, at: usize, i: u32) -> AnswerRow
+    requires { at < length out.now.words.now / 8 }
+    ensures { words_of result ≡ copied_row (outside_in tables.entry) tables.entry.sheet.now wanted out.now.words.now at i }
 {
-    let last = rows.out[8 * at + 3];
+    let last = out.words[8 * at + 3];
     if wanted.kind == Kind::Field {
         return AnswerRow {
             row: wanted.row,
@@ -41,7 +41,7 @@ fn copied_row(rows: &Rows<'_>, tables: Tables, wanted: Wanted, at: usize, i: u32
             four: 0,
         };
     }
-    let m = rows.out[8 * at + 2];
+    let m = out.words[8 * at + 2];
     let fun = own_or(tables, wanted.class, m, FunId(last));
     AnswerRow {
         row: wanted.row,
@@ -55,23 +55,23 @@ fn copied_row(rows: &Rows<'_>, tables: Tables, wanted: Wanted, at: usize, i: u32
 
 // The names of `n` rows from row `i` on; the slot after them.
 pub fn put_copied(
-    rows: &mut Rows<'_>,
+    out: &mut Rows<'_>,
     tables: Tables,
     wanted: Wanted,
     i: usize,
     n: u32,
     slot: u32,
 ) -> u32
-    requires { (i + n ≤ rows.old.count) × (i + n ≤ length rows.old.out.now / 8) }
-    ensures names { filled result rows.new
-        ≡ put_all (copied_row (outside_in tables.entry) tables.entry.sheet.now wanted rows.old.out.now) (from i n)
-        (filled slot rows.old) }
-    ensures same { rows.new.out.ghost_name ≡ rows.old.out.ghost_name }
+    requires { (i + n ≤ out.old.count) × (i + n ≤ length out.old.words.now / 8) }
+    ensures step { filled result out.new
+        ≡ put_all (copied_row (outside_in tables.entry) tables.entry.sheet.now wanted out.old.words.now) (from i n)
+        (filled slot out.old) }
+    ensures same { out.new.words.ghost_name ≡ out.old.words.ghost_name }
 {
     let mut next = slot;
     for at in i..i + n as usize {
-        let x = copied_row(rows, tables, wanted, at, next);
-        next = put_row(rows, x, next);
+        let x = copied_row(out, tables, wanted, at, next);
+        next = put_row(out, x, next);
     }
     next
 }

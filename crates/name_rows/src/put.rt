@@ -76,144 +76,144 @@ fn name_row(tables: Tables, wanted: Wanted, m: u32, i: u32) -> AnswerRow
 }
 
 // One row more, that tells the name at slot `slot`; the next slot.
-pub fn put_row(rows: &mut Rows<'_>, x: AnswerRow, slot: u32) -> u32
-    ensures row { filled result rows.new ≡ record { done = emitted (words_of x) (written rows.old); slot = next_slot slot } }
-    ensures same { rows.new.out.ghost_name ≡ rows.old.out.ghost_name }
+pub fn put_row(out: &mut Rows<'_>, x: AnswerRow, slot: u32) -> u32
+    ensures step { filled result out.new ≡ record { done = emitted (words_of x) (written out.old); slot = next_slot slot } }
+    ensures same { out.new.words.ghost_name ≡ out.old.words.ghost_name }
 {
-    rows.push(x);
+    out.push(x);
     one_more(slot)
 }
 
 // One name more, unless it is inherited. Measured: as a call it gets a copy of the tables for each name.
 #[inline(always)]
 fn put_new(
-    rows: &mut Rows<'_>,
+    out: &mut Rows<'_>,
     tables: Tables,
     wanted: Wanted,
     p: Passed,
     m: u32,
     slot: u32,
 ) -> u32
-    ensures names { (o : Store) → filled result rows.new
+    ensures step { (o : Store) → filled result out.new
         ≡ put_new (outside_in tables.entry) tables.entry.sheet.now (store_in tables.entry o) wanted p
-        (m ∷ []) (filled slot rows.old) }
-    ensures same { rows.new.out.ghost_name ≡ rows.old.out.ghost_name }
+        (m ∷ []) (filled slot out.old) }
+    ensures same { out.new.words.ghost_name ≡ out.old.words.ghost_name }
 {
     if is_inherited(tables, wanted.kind, p.left, p.class, m) {
         return slot;
     }
-    put_row(rows, name_row(tables, wanted, m, slot), slot)
+    put_row(out, name_row(tables, wanted, m, slot), slot)
 }
 
 // Names in the words from outside, in order.
 fn put_recorded(
-    rows: &mut Rows<'_>,
+    out: &mut Rows<'_>,
     tables: Tables,
     wanted: Wanted,
     p: Passed,
     names: RecordedNames,
     slot: u32,
 ) -> u32
-    ensures names { (o : Store) → filled result rows.new
+    ensures step { (o : Store) → filled result out.new
         ≡ put_new (outside_in tables.entry) tables.entry.sheet.now (store_in tables.entry o) wanted p
-        (names_left names.entry) (filled slot rows.old) }
-    ensures same { rows.new.out.ghost_name ≡ rows.old.out.ghost_name }
+        (names_left names.entry) (filled slot out.old) }
+    ensures same { out.new.words.ghost_name ≡ out.old.words.ghost_name }
 {
     let mut next = slot;
     for name in names {
-        next = put_new(rows, tables, wanted, p, name, next);
+        next = put_new(out, tables, wanted, p, name, next);
     }
     next
 }
 
 // The names of the children of row `r`, in order.
 fn put_listed(
-    rows: &mut Rows<'_>,
+    out: &mut Rows<'_>,
     tables: Tables,
     wanted: Wanted,
     p: Passed,
     r: u32,
     slot: u32,
 ) -> u32
-    ensures names { (o : Store) → filled result rows.new
+    ensures step { (o : Store) → filled result out.new
         ≡ put_new (outside_in tables.entry) tables.entry.sheet.now (store_in tables.entry o) wanted p
-        (map (a tables.entry.sheet.now) (kids_of tables.entry.sheet.now (kind_number wanted.kind) r)) (filled slot rows.old) }
-    ensures same { rows.new.out.ghost_name ≡ rows.old.out.ghost_name }
+        (map (a tables.entry.sheet.now) (kids_of tables.entry.sheet.now (kind_number wanted.kind) r)) (filled slot out.old) }
+    ensures same { out.new.words.ghost_name ≡ out.old.words.ghost_name }
 {
     let mut next = slot;
     for row in kids_of(tables.sheet, r, wanted.kind) {
         let name = word(tables.sheet, row, column::A);
-        next = put_new(rows, tables, wanted, p, name, next);
+        next = put_new(out, tables, wanted, p, name, next);
     }
     next
 }
 
 // The keys of the list whose last node is node `last - 1`, in order.
 fn put_stored(
-    rows: &mut Rows<'_>,
+    out: &mut Rows<'_>,
     tables: Tables,
     wanted: Wanted,
     p: Passed,
     last: u32,
     slot: u32,
 ) -> u32
-    ensures names { (o : Store) → filled result rows.new
+    ensures step { (o : Store) → filled result out.new
         ≡ put_new (outside_in tables.entry) tables.entry.sheet.now (store_in tables.entry o) wanted p
-        (map (λ y. y.key) (chain_to tables.entry.nodes.now last)) (filled slot rows.old) }
-    ensures same { rows.new.out.ghost_name ≡ rows.old.out.ghost_name }
+        (map (λ y. y.key) (chain_to tables.entry.nodes.now last)) (filled slot out.old) }
+    ensures same { out.new.words.ghost_name ≡ out.old.words.ghost_name }
 {
     if last == 0 {
         return slot;
     }
     let i = last - 1;
     let before = node_before(tables.nodes, i);
-    let next = put_stored(rows, tables, wanted, p, before, slot);
+    let next = put_stored(out, tables, wanted, p, before, slot);
     let name = node_word(tables.nodes, i, node::KEY);
-    put_new(rows, tables, wanted, p, name, next)
+    put_new(out, tables, wanted, p, name, next)
 }
 
 // The own names of a class.
 pub fn put_own(
-    rows: &mut Rows<'_>,
+    out: &mut Rows<'_>,
     tables: Tables,
     wanted: Wanted,
     p: Passed,
     c: ClassId,
     slot: u32,
 ) -> u32
-    ensures names { (o : Store) → filled result rows.new
+    ensures step { (o : Store) → filled result out.new
         ≡ put_new (outside_in tables.entry) tables.entry.sheet.now (store_in tables.entry o) wanted p
         (own_in (outside_in tables.entry) tables.entry.sheet.now (store_in tables.entry o) (kind_number wanted.kind)
-        c.0) (filled slot rows.old) }
-    ensures same { rows.new.out.ghost_name ≡ rows.old.out.ghost_name }
+        c.0) (filled slot out.old) }
+    ensures same { out.new.words.ghost_name ≡ out.old.words.ghost_name }
 {
     if is_class_row(tables.sheet, c) {
         let r = c.0 - FIRST_CLASS;
-        let next = put_listed(rows, tables, wanted, p, r, slot);
+        let next = put_listed(out, tables, wanted, p, r, slot);
         if wanted.kind == Kind::Field {
             let last = word(tables.results, r, result::FIELDS);
-            return put_stored(rows, tables, wanted, p, last, next);
+            return put_stored(out, tables, wanted, p, last, next);
         }
         return next;
     }
     let names = recorded_names(tables.outside, wanted.kind, c);
-    put_recorded(rows, tables, wanted, p, names, slot)
+    put_recorded(out, tables, wanted, p, names, slot)
 }
 
 // The names of class `c`: the inherited, then the own ones that are new. It climbs at most `n` classes.
 pub fn put_names(
-    rows: &mut Rows<'_>,
+    out: &mut Rows<'_>,
     tables: Tables,
     wanted: Wanted,
     n: usize,
     c: ClassId,
     slot: u32,
 ) -> u32
-    ensures names { (o : Store) → filled result rows.new
+    ensures step { (o : Store) → filled result out.new
         ≡ put_all (name_row (outside_in tables.entry) tables.entry.sheet.now (store_in tables.entry o) wanted)
         (names_in (outside_in tables.entry) tables.entry.sheet.now (store_in tables.entry o) (kind_number wanted.kind) n
-        c.0) (filled slot rows.old) }
-    ensures same { rows.new.out.ghost_name ≡ rows.old.out.ghost_name }
+        c.0) (filled slot out.old) }
+    ensures same { out.new.words.ghost_name ≡ out.old.words.ghost_name }
 {
     if n == 0 {
         return slot;
@@ -224,10 +224,10 @@ pub fn put_names(
         left: n - 1,
     };
     if up.0 == 0 {
-        return put_own(rows, tables, wanted, p, c, slot);
+        return put_own(out, tables, wanted, p, c, slot);
     }
-    let next = put_names(rows, tables, wanted, n - 1, up, slot);
-    put_own(rows, tables, wanted, p, c, next)
+    let next = put_names(out, tables, wanted, n - 1, up, slot);
+    put_own(out, tables, wanted, p, c, next)
 }
 
 // How many names class `c` has, or the largest number of a word. Nothing is written: not one row fits.
@@ -237,9 +237,9 @@ pub fn count_names(tables: Tables, wanted: Wanted, n: usize, c: ClassId) -> u32
         (kind_number wanted.kind) n c.0)) 4294967295 }
 {
     let mut none = [0u32; 1];
-    let mut rows = Rows {
-        out: &mut none,
+    let mut out = Rows {
+        words: &mut none,
         count: 0,
     };
-    put_names(&mut rows, tables, wanted, n, c, 0)
+    put_names(&mut out, tables, wanted, n, c, 0)
 }

@@ -11,4 +11,4 @@ words_of x = x.row ∷ code_number x.code ∷ x.one ∷ x.two ∷ x.three ∷ x.
 
 -- the rows of a writer, and its words
 abbrev pub written : Rows → Sink
-written rows = sink rows.count rows.out.now
+written rows = sink rows.count rows.words.now

@@ -31,28 +31,28 @@ impl From<AnswerRow> for [u32; 8] {
 // a caller that lends them knows what they hold afterwards.
 #[derive(Drop)]
 pub struct Rows<'b> {
-    pub out: &'b mut [u32],
+    pub words: &'b mut [u32],
     pub count: usize,
 }
 
 impl Rows<'_> {
     // How many rows fit.
     pub fn room(&self) -> usize
-        ensures { result ≡ length self.now.out.now / 8 }
+        ensures { result ≡ length self.now.words.now / 8 }
     {
-        self.out.len() / 8
+        self.words.len() / 8
     }
 
     // One row more, as it is stored.
     #[tactic(auto, using(crate::proofs::SinkLaws::emit_fits, crate::proofs::SinkLaws::emit_full))]
     pub fn push_words(&mut self, words: [u32; 8])
-        ensures row { written self.new ≡ emitted words (written self.old) }
-        ensures same { self.new.out.ghost_name ≡ self.old.out.ghost_name }
+        ensures step { written self.new ≡ emitted words (written self.old) }
+        ensures same { self.new.words.ghost_name ≡ self.old.words.ghost_name }
     {
         let n = self.count;
-        let room = self.out.len() / 8;
+        let room = self.words.len() / 8;
         if n < room {
-            self.out[8 * n..8 * n + 8].copy_from_slice(&words);
+            self.words[8 * n..8 * n + 8].copy_from_slice(&words);
             self.count = n + 1;
         } else {
             self.count = room + 1;
@@ -61,8 +61,8 @@ impl Rows<'_> {
 
     // One row more.
     pub fn push(&mut self, row: AnswerRow)
-        ensures row { written self.new ≡ emitted (words_of row) (written self.old) }
-        ensures same { self.new.out.ghost_name ≡ self.old.out.ghost_name }
+        ensures step { written self.new ≡ emitted (words_of row) (written self.old) }
+        ensures same { self.new.words.ghost_name ≡ self.old.words.ghost_name }
     {
         self.push_words(<[u32; 8]>::from(row));
     }

@@ -18,19 +18,19 @@ pub loop-at-preserved : goal.loop-at-preserved
 loop-at-preserved c =
     let left = c.args.i + c.args.n - c.loop-at.at in
     let e : c.args.i + c.args.n - (c.loop-at.at + 1) ≡ left - 1 = omega arith in
-    let one = put_one (copied_row (over c.args.tables.outside.now) c.args.tables.sheet.now c.args.wanted c.loop-at.rows.out.now) c.loop-at.at (filled c.loop-at.next c.loop-at.rows) c.copied_row-x.ensures c.put_row-next.ensures.row in
-    let f = copied_row (over c.args.tables.outside.now) c.args.tables.sheet.now c.args.wanted c.args.rows.now.out.now in (
-      ap (λ (m : ℕ). put_all f (from (c.loop-at.at + 1) m) (filled c.put_row-next.result c.put_row-next.new.rows)) e
-          ∙ copied_next (over c.args.tables.outside.now) c.args.tables.sheet.now c.args.wanted c.args.rows.now.out.now c.loop-at.at left (filled c.loop-at.next c.loop-at.rows)
+    let one = put_one (copied_row (over c.args.tables.outside.now) c.args.tables.sheet.now c.args.wanted c.loop-at.out.words.now) c.loop-at.at (filled c.loop-at.next c.loop-at.out) c.copied_row-x.ensures c.put_row-next.ensures.step in
+    let f = copied_row (over c.args.tables.outside.now) c.args.tables.sheet.now c.args.wanted c.args.out.now.words.now in (
+      ap (λ (m : ℕ). put_all f (from (c.loop-at.at + 1) m) (filled c.put_row-next.result c.put_row-next.new.out)) e
+          ∙ copied_next (over c.args.tables.outside.now) c.args.tables.sheet.now c.args.wanted c.args.out.now.words.now c.loop-at.at left (filled c.loop-at.next c.loop-at.out)
           (omega (arith, c.loop-at-test.true)) (omega (arith, c.loop-at-test.true)) c.loop-at.invariant.1 one
           ∙ c.loop-at.invariant.0,
-      copied_kept (over c.args.tables.outside.now) c.args.tables.sheet.now c.args.wanted c.args.rows.now.out.now c.loop-at.at left (filled c.loop-at.next c.loop-at.rows)
+      copied_kept (over c.args.tables.outside.now) c.args.tables.sheet.now c.args.wanted c.args.out.now.words.now c.loop-at.at left (filled c.loop-at.next c.loop-at.out)
           (omega (arith, c.loop-at-test.true)) (omega (arith, c.loop-at-test.true)) c.loop-at.invariant.1 one c.requires.1,
       c.put_row-next.ensures.same ∙ c.loop-at.invariant.2,
     )
 
-pub returns-clause-names : goal.returns-clause-names
-returns-clause-names c =
-    copied_end (over c.args.tables.outside.now) c.args.tables.sheet.now c.args.wanted c.args.rows.now.out.now c.loop-at.at (c.args.i + c.args.n - c.loop-at.at) (filled c.loop-at.next c.loop-at.rows)
+pub returns-clause-step : goal.returns-clause-step
+returns-clause-step c =
+    copied_end (over c.args.tables.outside.now) c.args.tables.sheet.now c.args.wanted c.args.out.now.words.now c.loop-at.at (c.args.i + c.args.n - c.loop-at.at) (filled c.loop-at.next c.loop-at.out)
     (omega (arith, c.loop-at-test.false))
     ∙ c.loop-at.invariant.0

@@ -8,7 +8,7 @@ use Rattle.name_rows.proofs.copied.put_copied.Given as goal
 
 abbrev pub invariant-loop-at : goal.invariant-loop-at
 invariant-loop-at l =
-    (put_all (copied_row (over l.tables.outside.now) l.tables.sheet.now l.wanted l.initial.rows.out.now) (from l.at (l.at-end - l.at)) (filled l.next l.rows)
-    ≡ put_all (copied_row (over l.tables.outside.now) l.tables.sheet.now l.wanted l.initial.rows.out.now) (from l.i l.n) (filled l.initial.next l.initial.rows))
-    × Kept (l.i + l.n) (written l.initial.rows) (written l.rows)
-    × (l.rows.out.ghost_name ≡ l.initial.rows.out.ghost_name)
+    (put_all (copied_row (over l.tables.outside.now) l.tables.sheet.now l.wanted l.initial.out.words.now) (from l.at (l.at-end - l.at)) (filled l.next l.out)
+    ≡ put_all (copied_row (over l.tables.outside.now) l.tables.sheet.now l.wanted l.initial.out.words.now) (from l.i l.n) (filled l.initial.next l.initial.out))
+    × Kept (l.i + l.n) (written l.initial.out) (written l.out)
+    × (l.out.words.ghost_name ≡ l.initial.out.words.ghost_name)

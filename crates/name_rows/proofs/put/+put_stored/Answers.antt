@@ -7,14 +7,14 @@ use native.Mathlib.Omega.{arith}
 use Rattle.outside.specs.Words.{over}
 use Rattle.name_rows.proofs.put.+put_stored.Goals as goal
 
-pub returns-then-last-eq0-clause-names : goal.returns-then-last-eq0-clause-names
-returns-then-last-eq0-clause-names t c =
+pub returns-then-last-eq0-clause-step : goal.returns-then-last-eq0-clause-step
+returns-then-last-eq0-clause-step t c =
     λ o. stored_none (name_row (over c.args.tables.outside.now) c.args.tables.sheet.now
     (store_of o c.args.tables.results.now c.args.tables.nodes.now) c.args.wanted)
     (inherited (over c.args.tables.outside.now) c.args.tables.sheet.now
     (store_of o c.args.tables.results.now c.args.tables.nodes.now) (kind_number c.args.wanted.kind) c.args.p.left
     c.args.p.class.0)
-    c.args.tables.nodes.now c.args.last (filled c.args.slot c.args.rows.now) c.if-last-eq0.true
+    c.args.tables.nodes.now c.args.last (filled c.args.slot c.args.out.now) c.if-last-eq0.true
 
 pub overflow_sub-i : goal.overflow_sub-i
 overflow_sub-i t c = omega (arith, c.if-last-eq0.false)
@@ -24,12 +24,12 @@ put_stored-next-requires t c =
     (omega (arith, c.decreases, c.if-last-eq0.false, c.node_before-before.ensures), tt)
 
 
-pub returns-clause-names : goal.returns-clause-names
-returns-clause-names t c =
+pub returns-clause-step : goal.returns-clause-step
+returns-clause-step t c =
     λ o. stored_last (name_row (over c.args.tables.outside.now) c.args.tables.sheet.now
     (store_of o c.args.tables.results.now c.args.tables.nodes.now) c.args.wanted)
     (inherited (over c.args.tables.outside.now) c.args.tables.sheet.now
     (store_of o c.args.tables.results.now c.args.tables.nodes.now) (kind_number c.args.wanted.kind) c.args.p.left
     c.args.p.class.0)
-    c.args.tables.nodes.now c.args.last (filled c.args.slot c.args.rows.now) c.if-last-eq0.false
-    c.node_before-before.ensures c.node_word-name.ensures (c.put_stored-next.ensures.names o) (c.put_new.ensures.names o)
+    c.args.tables.nodes.now c.args.last (filled c.args.slot c.args.out.now) c.if-last-eq0.false
+    c.node_before-before.ensures c.node_word-name.ensures (c.put_stored-next.ensures.step o) (c.put_new.ensures.step o)

@@ -11,7 +11,7 @@ abbrev pub invariant-loop-row : goal.invariant-loop-row
 invariant-loop-row l =
     ((o : Store)
     → put_new (over l.tables.outside.now) l.tables.sheet.now (store_of o l.tables.results.now l.tables.nodes.now) l.wanted l.p (map (a l.tables.sheet.now) (kind_left l.row-iterator))
-    (filled l.next l.rows)
+    (filled l.next l.out)
     ≡ put_new (over l.tables.outside.now) l.tables.sheet.now (store_of o l.tables.results.now l.tables.nodes.now) l.wanted l.p (map (a l.tables.sheet.now)
-    (kind_left l.initial.row-iterator)) (filled l.initial.next l.initial.rows))
-    × (l.rows.out.ghost_name ≡ l.initial.rows.out.ghost_name)
+    (kind_left l.initial.row-iterator)) (filled l.initial.next l.initial.out))
+    × (l.out.words.ghost_name ≡ l.initial.out.words.ghost_name)
