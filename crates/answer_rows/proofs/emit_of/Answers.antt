@@ -11,7 +11,8 @@ use Rattle.outside.specs.Words.{over}
 use Rattle.answer_rows.proofs.RowLaws.{rows_let, rows_host, rows_instance, rows_identifier, rows_member}
 use Rattle.answer_rows.proofs.RowLaws.{rows_literal, rows_function, rows_class, rows_none, with_places}
 use Rattle.store.specs.Stored.{store_of}
-use Rattle.sink.specs.Sink.{sink, emit_all}
+use Rattle.sink.specs.Sink.{emit_all}
+use Rattle.sink.specs.Written.{written}
 use mathlib.Core.Path.{sym, ap, ◌∙◌}
 use Rattle.definition.specs.Answer.{eight}
 use Rattle.definition.proofs.Lists.Tests.{eqb_of}
@@ -32,14 +33,14 @@ pub emit_class-requires : goal.emit_class-requires
 emit_class-requires c =
     let ready = c.requires.0 in
     let t =
-    eqb_of (kind c.args.tables.sheet.now c.args.turn.row) 4
+    eqb_of (kind c.args.tables.sheet.now c.args.row) 4
     (c.in-Ok-Class.ensures ∙ ap kind_number c.in-Ok-Class.field-0-is) in (
       record {
         row = c.requires.1;
         short = ready.small;
         marked = ready.marked;
-        fields = ready.fields c.args.turn.row t;
-        methods = ready.methods c.args.turn.row t;
+        fields = ready.fields c.args.row t;
+        methods = ready.methods c.args.row t;
       },
       c.requires.2,
     )
@@ -49,35 +50,35 @@ returns-in-Ok-Let c =
     let kind_is_lem = c.in-Ok-Let.ensures ∙ ap kind_number c.in-Ok-Let.field-0-is in
     with_places c.requires.2 _ (λ o. rows_let (over c.args.tables.outside.now) c.args.tables.sheet.now
     (store_of o c.args.tables.results.now c.args.tables.nodes.now)
-    c.args.turn.row (sink c.args.turn.count c.args.out.now) kind_is_lem c.emit_row.ensures)
+    c.args.row (written c.args.out.now) kind_is_lem c.emit_row.ensures)
 
 pub returns-in-Ok-HostConstant : goal.returns-in-Ok-HostConstant
 returns-in-Ok-HostConstant c =
     let kind_is_lem = c.in-Ok-HostConstant.ensures ∙ ap kind_number c.in-Ok-HostConstant.field-0-is in
     with_places c.requires.2 _ (λ o. rows_host (over c.args.tables.outside.now) c.args.tables.sheet.now
     (store_of o c.args.tables.results.now c.args.tables.nodes.now)
-    c.args.turn.row (sink c.args.turn.count c.args.out.now) kind_is_lem c.emit_row-in-Ok-HostConstant.ensures)
+    c.args.row (written c.args.out.now) kind_is_lem c.emit_row-in-Ok-HostConstant.ensures)
 
 pub returns-in-Ok-Instanceof : goal.returns-in-Ok-Instanceof
 returns-in-Ok-Instanceof c =
     let kind_is_lem = c.in-Ok-Instanceof.ensures ∙ ap kind_number c.in-Ok-Instanceof.field-0-is in
     with_places c.requires.2 _ (λ o. rows_instance (over c.args.tables.outside.now) c.args.tables.sheet.now
     (store_of o c.args.tables.results.now c.args.tables.nodes.now)
-    c.args.turn.row (sink c.args.turn.count c.args.out.now) kind_is_lem c.emit_row-in-Ok-Instanceof.ensures)
+    c.args.row (written c.args.out.now) kind_is_lem c.emit_row-in-Ok-Instanceof.ensures)
 
 pub returns-in-Ok-Identifier : goal.returns-in-Ok-Identifier
 returns-in-Ok-Identifier c =
     let kind_is_lem = c.in-Ok-Identifier.ensures ∙ ap kind_number c.in-Ok-Identifier.field-0-is in
     with_places c.requires.2 _ (λ o. rows_identifier (over c.args.tables.outside.now) c.args.tables.sheet.now
     (store_of o c.args.tables.results.now c.args.tables.nodes.now)
-    c.args.turn.row (sink c.args.turn.count c.args.out.now) kind_is_lem c.emit_shown.ensures)
+    c.args.row (written c.args.out.now) kind_is_lem c.emit_shown.ensures)
 
 pub returns-in-Ok-Member : goal.returns-in-Ok-Member
 returns-in-Ok-Member c =
     let kind_is_lem = c.in-Ok-Member.ensures ∙ ap kind_number c.in-Ok-Member.field-0-is in
     with_places c.requires.2 _ (λ o. rows_member (over c.args.tables.outside.now) c.args.tables.sheet.now
     (store_of o c.args.tables.results.now c.args.tables.nodes.now)
-    c.args.turn.row (sink c.args.turn.count c.args.out.now) kind_is_lem
+    c.args.row (written c.args.out.now) kind_is_lem
     c.emit_member.ensures)
 
 pub returns-in-Ok-Literal : goal.returns-in-Ok-Literal
@@ -85,7 +86,7 @@ returns-in-Ok-Literal c =
     let kind_is_lem = c.in-Ok-Literal.ensures ∙ ap kind_number c.in-Ok-Literal.field-0-is in
     with_places c.requires.2 _ (λ o. rows_literal (over c.args.tables.outside.now) c.args.tables.sheet.now
     (store_of o c.args.tables.results.now c.args.tables.nodes.now)
-    c.args.turn.row (sink c.args.turn.count c.args.out.now) kind_is_lem
+    c.args.row (written c.args.out.now) kind_is_lem
     (c.emit_literal.ensures o))
 
 pub returns-in-Ok-Function : goal.returns-in-Ok-Function
@@ -93,25 +94,25 @@ returns-in-Ok-Function c =
     let kind_is_lem = c.in-Ok-Function.ensures ∙ ap kind_number c.in-Ok-Function.field-0-is in
     with_places c.requires.2 _ (λ o. rows_function (over c.args.tables.outside.now) c.args.tables.sheet.now
     (store_of o c.args.tables.results.now c.args.tables.nodes.now)
-    c.args.turn.row (sink c.args.turn.count c.args.out.now) kind_is_lem
+    c.args.row (written c.args.out.now) kind_is_lem
     (c.emit_function.ensures o))
 
 pub returns-in-Ok-Class : goal.returns-in-Ok-Class
 returns-in-Ok-Class c =
-    let k = sink c.args.turn.count c.args.out.now in
+    let k = written c.args.out.now in
     let kind_is_lem = c.in-Ok-Class.ensures ∙ ap kind_number c.in-Ok-Class.field-0-is in
     let said = c.emit_class.ensures in (
       λ o. rows_class (over c.args.tables.outside.now) c.args.tables.sheet.now
-          (store_of o c.args.tables.results.now c.args.tables.nodes.now) c.args.turn.row k kind_is_lem
+          (store_of o c.args.tables.results.now c.args.tables.nodes.now) c.args.row k kind_is_lem
           (said.0 o
-          ∙ ap (λ (l : List (List ℕ)). emit_all (map (λ vs. eight (c.args.turn.row ∷ vs)) l) k)
-          (c.requires.0.named c.args.turn.row o)),
+          ∙ ap (λ (l : List (List ℕ)). emit_all (map (λ vs. eight (c.args.row ∷ vs)) l) k)
+          (c.requires.0.named c.args.row o)),
       said.1,
     )
 
 pub returns-in_default : goal.returns-in_default
 returns-in_default c =
-    with_places c.requires.2 _ (λ o. rows_none (outside_in c.args.tables) c.args.tables.sheet.now (store_in c.args.tables o) c.args.turn.row (sink c.args.turn.count c.args.out.now)
+    with_places c.requires.2 _ (λ o. rows_none (outside_in c.args.tables) c.args.tables.sheet.now (store_in c.args.tables o) c.args.row (written c.args.out.now)
     (λ e. omega (arith, ap (tag_of the_type) (kind_of_number _ Let (sym c.in_default.ensures ∙ e))))
     (λ e. omega (arith, ap (tag_of the_type) (kind_of_number _ HostConstant (sym c.in_default.ensures ∙ e))))
     (λ e. omega (arith, ap (tag_of the_type) (kind_of_number _ Instanceof (sym c.in_default.ensures ∙ e))))
@@ -123,7 +124,7 @@ returns-in_default c =
 
 pub returns-in_default-2 : goal.returns-in_default-2
 returns-in_default-2 c =
-    let told : ReadsKind (kind c.args.tables.sheet.now c.args.turn.row) (Err c.in_default.field-0) = rw c.in_default.is at c.kind_at.ensures in
+    let told : ReadsKind (kind c.args.tables.sheet.now c.args.row) (Err c.in_default.field-0) = rw c.in_default.is at c.kind_at.ensures in
     let other = told.1 in
-    with_places c.requires.2 _ (λ o. rows_none (outside_in c.args.tables) c.args.tables.sheet.now (store_in c.args.tables o) c.args.turn.row (sink c.args.turn.count c.args.out.now)
+    with_places c.requires.2 _ (λ o. rows_none (outside_in c.args.tables) c.args.tables.sheet.now (store_in c.args.tables o) c.args.row (written c.args.out.now)
     (other Let) (other HostConstant) (other Instanceof) (other Identifier) (other Member) (other Literal) (other Function) (other Class))
