@@ -121,7 +121,7 @@ fn emit_of(out: &mut Rows<'_>, tables: Tables, links: Links, starts: &mut [usize
         Ok(Kind::Literal) => emit_literal(out, tables, row),
         Ok(Kind::Function) => emit_function(out, tables, links.literals, FunId(row)),
         Ok(Kind::Class) => emit_class(out, tables, links.subclassed, starts, row),
-        _ => {}
+        _ => return,
     }
 }
 
@@ -140,19 +140,20 @@ fn emit_each(out: &mut Rows<'_>, tables: Tables, links: Links, starts: &mut [usi
 
 // The same in lent scratch space: literals are chained by function and parents marked once, and not looked for at each row.
 fn emit_linked<'a>(
+    out: &mut Rows<'_>,
     tables: Tables,
     first: &'a mut [u32],
     after: &'a mut [u32],
     subclassed: &'a mut [u32],
     starts: &mut [usize],
-    out: &mut [u32],
-) -> usize
+)
     requires { (PastFour (outside_in tables) tables.sheet.now)
         × (FewFields (outside_in tables) tables.sheet.now tables.results.now tables.nodes.now)
-        × (Scratch tables.sheet.now first.old after.old subclassed.old) × (starts.old ≡ replicate 2048 0) }
-    ensures { (o : Store) → sink result out.new
+        × (Scratch tables.sheet.now first.old after.old subclassed.old) × (starts.old ≡ replicate 2048 0) × (out.old.count ≡ 0) }
+    ensures step { (o : Store) → written out.new
         ≡ emit_all (answers_in (outside_in tables.entry) tables.entry.sheet.now (store_in tables.entry o))
-        (sink 0 out.old) }
+        (written out.old) }
+    ensures same { out.new.words.ghost_name ≡ out.old.words.ghost_name }
 {
     link_literals(tables.sheet, tables.results, first, after);
     mark_parents(tables.sheet, tables.results, subclassed);
@@ -161,12 +162,7 @@ fn emit_linked<'a>(
         literals,
         subclassed,
     };
-    let mut rows = Rows {
-        words: out,
-        count: 0,
-    };
-    emit_each(&mut rows, tables, links, starts);
-    rows.count
+    emit_each(out, tables, links, starts);
 }
 
 // The answer rows of what the walk stored, with scratch space for 2,048 rows; their number, or one more than fit.
@@ -194,12 +190,17 @@ pub fn emit_rows(
     let mut after = [0u32; 2048];
     let mut subclassed = [0u32; 2048];
     let mut starts = [0usize; 2048];
+    let mut rows = Rows {
+        words: out,
+        count: 0,
+    };
     emit_linked(
+        &mut rows,
         tables,
         &mut first,
         &mut after,
         &mut subclassed,
         &mut starts,
-        out,
-    )
+    );
+    rows.count
 }
