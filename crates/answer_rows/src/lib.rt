@@ -103,13 +103,12 @@ pub struct Links<'a> {
 
 // The answer rows of a sheet row, by its kind. `starts` tells where the rows of earlier classes stand.
 fn emit_of(out: &mut Rows<'_>, tables: Tables, links: Links, starts: &mut [usize], row: u32)
-    requires { (RowsReady (outside_in tables) tables.sheet.now tables.results.now tables.nodes.now links.literals.first.now links.literals.after.now links.subclassed.now)
+    requires { (RowsReady tables links.literals.first.now links.literals.after.now links.subclassed.now)
         × (row < rows tables.sheet.now)
-        × (Placed (outside_in tables) tables.sheet.now tables.results.now tables.nodes.now starts.old out.old.words.now row out.old.count) }
+        × (Placed tables starts.old out.old.words.now row out.old.count) }
     ensures step { (o : Store) → written out.new
         ≡ emit_all (rows_in (outside_in tables.entry) tables.entry.sheet.now (store_in tables.entry o) row) (written out.old) }
-    ensures placed { Placed (outside_in tables.entry) tables.entry.sheet.now tables.entry.results.now tables.entry.nodes.now starts.new
-        out.new.words.now (row + 1) out.new.count }
+    ensures placed { Placed tables.entry starts.new out.new.words.now (row + 1) out.new.count }
     ensures same { out.new.words.ghost_name ≡ out.old.words.ghost_name }
 {
     match kind_at(tables.sheet, row) {
@@ -127,7 +126,7 @@ fn emit_of(out: &mut Rows<'_>, tables: Tables, links: Links, starts: &mut [usize
 
 // The answer rows of all sheet rows.
 fn emit_each(out: &mut Rows<'_>, tables: Tables, links: Links, starts: &mut [usize])
-    requires { (RowsReady (outside_in tables) tables.sheet.now tables.results.now tables.nodes.now links.literals.first.now links.literals.after.now links.subclassed.now)
+    requires { (RowsReady tables links.literals.first.now links.literals.after.now links.subclassed.now)
         × (starts.old ≡ replicate 2048 0) × (out.old.count ≡ 0) }
     ensures step { (o : Store) → written out.new
         ≡ emit_all (answers_in (outside_in tables.entry) tables.entry.sheet.now (store_in tables.entry o)) (written out.old) }
@@ -148,7 +147,7 @@ fn emit_linked<'a>(
     starts: &mut [usize],
 )
     requires { (PastFour (outside_in tables) tables.sheet.now)
-        × (FewFields (outside_in tables) tables.sheet.now tables.results.now tables.nodes.now)
+        × (FewFields tables)
         × (Scratch tables.sheet.now first.old after.old subclassed.old) × (starts.old ≡ replicate 2048 0) × (out.old.count ≡ 0) }
     ensures step { (o : Store) → written out.new
         ≡ emit_all (answers_in (outside_in tables.entry) tables.entry.sheet.now (store_in tables.entry o))

@@ -52,9 +52,9 @@ fn wanted(row: u32, kind: Kind) -> Wanted
 
 // The first row of a class: its parent, whether it has children, and the numbers of its fields and methods.
 fn class_head(tables: Tables, subclassed: &[u32], above: Inherited, row: u32) -> AnswerRow
-    requires { (ClassReady (outside_in tables) tables.sheet.now tables.results.now tables.nodes.now subclassed.now row)
-        × (Counted (outside_in tables) tables.sheet.now tables.results.now tables.nodes.now 10 (256 + row) above.fields)
-        × (Counted (outside_in tables) tables.sheet.now tables.results.now tables.nodes.now 6 (256 + row) above.methods) }
+    requires { (ClassReady tables subclassed.now row)
+        × (Counted tables 10 (256 + row) above.fields)
+        × (Counted tables 6 (256 + row) above.methods) }
     ensures { (o : Store) → words_of result
         ≡ eight (row ∷ head_words (outside_in tables.entry) tables.entry.sheet.now
         (store_in tables.entry o) row) }
@@ -81,9 +81,9 @@ fn write_class(
     above: Inherited,
     row: u32,
 )
-    requires { (ClassReady (outside_in tables) tables.sheet.now tables.results.now tables.nodes.now subclassed.now row)
-        × (Shown (outside_in tables) tables.sheet.now tables.results.now tables.nodes.now 10 (256 + row) out.old.words.now out.old.count above.fields)
-        × (Shown (outside_in tables) tables.sheet.now tables.results.now tables.nodes.now 6 (256 + row) out.old.words.now out.old.count above.methods) }
+    requires { (ClassReady tables subclassed.now row)
+        × (Shown tables 10 (256 + row) out.old.words.now out.old.count above.fields)
+        × (Shown tables 6 (256 + row) out.old.words.now out.old.count above.methods) }
     ensures step { (o : Store) → written out.new
         ≡ emit_all (map (λ vs. eight (row ∷ vs))
         (class_rows_named (outside_in tables.entry) tables.entry.sheet.now (store_in tables.entry o) row))
@@ -117,14 +117,13 @@ pub fn emit_class(
     starts: &mut [usize],
     row: u32,
 )
-    requires { (ClassReady (outside_in tables) tables.sheet.now tables.results.now tables.nodes.now subclassed.now row)
-        × (Placed (outside_in tables) tables.sheet.now tables.results.now tables.nodes.now starts.old out.old.words.now row out.old.count) }
+    requires { (ClassReady tables subclassed.now row)
+        × (Placed tables starts.old out.old.words.now row out.old.count) }
     ensures step { (o : Store) → written out.new
         ≡ emit_all (map (λ vs. eight (row ∷ vs))
         (class_rows_named (outside_in tables.entry) tables.entry.sheet.now (store_in tables.entry o) row))
         (written out.old) }
-    ensures placed { Placed (outside_in tables.entry) tables.entry.sheet.now tables.entry.results.now tables.entry.nodes.now starts.new
-        out.new.words.now (row + 1) out.new.count }
+    ensures placed { Placed tables.entry starts.new out.new.words.now (row + 1) out.new.count }
     ensures same { out.new.words.ghost_name ≡ out.old.words.ghost_name }
 {
     let room = out.room();

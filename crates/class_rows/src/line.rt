@@ -18,7 +18,7 @@ use sink::Rows;
 // The names of the wanted class; the slot after them.
 pub fn put_line(out: &mut Rows<'_>, tables: Tables, wanted: Wanted, a: Above, slot: u32) -> u32
     requires { (0 < rows tables.sheet.now) ×
-        (Shown (outside_in tables) tables.sheet.now tables.results.now tables.nodes.now (kind_number wanted.kind) wanted.class.0 out.old.words.now out.old.count a) }
+        (Shown tables (kind_number wanted.kind) wanted.class.0 out.old.words.now out.old.count a) }
     ensures step { (o : Store) → filled result out.new
         ≡ put_all (name_row (outside_in tables.entry) tables.entry.sheet.now (store_in tables.entry o) wanted)
         (names_in (outside_in tables.entry) tables.entry.sheet.now (store_in tables.entry o) (kind_number wanted.kind)
@@ -40,7 +40,7 @@ pub fn put_line(out: &mut Rows<'_>, tables: Tables, wanted: Wanted, a: Above, sl
 
 // How many names the wanted class has, or the largest number of a word.
 pub fn count_line(tables: Tables, wanted: Wanted, a: Above) -> u32
-    requires { (0 < rows tables.sheet.now) × (Counted (outside_in tables) tables.sheet.now tables.results.now tables.nodes.now (kind_number wanted.kind) wanted.class.0 a) }
+    requires { (0 < rows tables.sheet.now) × (Counted tables (kind_number wanted.kind) wanted.class.0 a) }
     ensures { (o : Store) → result ≡ min
         (length (names_in (outside_in tables.entry) tables.entry.sheet.now (store_in tables.entry o)
         (kind_number wanted.kind) (rows tables.entry.sheet.now) wanted.class.0)) 4294967295 }

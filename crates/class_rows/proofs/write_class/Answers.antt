@@ -11,14 +11,13 @@ use Rattle.class_rows.proofs.write_class.Goals as goal
 
 pub class_head-head-requires : goal.class_head-head-requires
 class_head-head-requires c =
-    (c.requires.0, shown_counted c.requires.1, shown_counted c.requires.2)
+    (c.requires.0, shown_counted c.args.tables c.requires.1, shown_counted c.args.tables c.requires.2)
 
 pub put_line-requires : goal.put_line-requires
 put_line-requires c = (
   omega (arith, c.requires.0.row),
-  shown_wanted (over c.args.tables.outside.now) c.args.tables.sheet.now c.args.tables.results.now
-      c.args.tables.nodes.now c.wanted.ensures
-      (shown_kept _ (emit_one _ (written c.args.out.now) c.push.ensures.step) c.requires.1),
+  shown_wanted c.args.tables c.wanted.ensures
+      (shown_kept c.args.tables _ (emit_one _ (written c.args.out.now) c.push.ensures.step) c.requires.1),
 )
 
 pub wanted-requires-2 : goal.wanted-requires-2
@@ -29,12 +28,11 @@ pub put_line-requires-2 : goal.put_line-requires-2
 put_line-requires-2 c =
     let o : Store = record { used = 0; calls = 0 } in (
       omega (arith, c.requires.0.row),
-      shown_wanted (over c.args.tables.outside.now) c.args.tables.sheet.now c.args.tables.results.now
-          c.args.tables.nodes.now c.wanted-2.ensures
-          (shown_kept _ (fields_told (over c.args.tables.outside.now) c.args.tables.sheet.now
+      shown_wanted c.args.tables c.wanted-2.ensures
+          (shown_kept c.args.tables _ (fields_told (over c.args.tables.outside.now) c.args.tables.sheet.now
           (store_of o c.args.tables.results.now c.args.tables.nodes.now) c.args.row c.wanted.result _
           c.wanted.ensures (c.requires.0.fields o) refl (c.put_line.ensures.step o))
-          (shown_kept _ (emit_one _ (written c.args.out.now) c.push.ensures.step) c.requires.2)),
+          (shown_kept c.args.tables _ (emit_one _ (written c.args.out.now) c.push.ensures.step) c.requires.2)),
     )
 
 pub returns-clause-step : goal.returns-clause-step
