@@ -7,12 +7,10 @@ ghost use Rattle.after.specs.Rows.{rows_in, answers_in};
 ghost use Rattle.machine.specs.Reads.{PastFour, StoreReads, row_words, answer_row, identifier_answer};
 ghost use Rattle.machine.specs.Machine.{cell};
 ghost use Rattle.definition.specs.Basics.{when◌then◌else◌};
-ghost use Rattle.store.specs.Stored.{store_of};
 ghost use Rattle.sink.specs.Sink.{sink, emit as emitted, emit_all};
 ghost use Rattle.sink.specs.Written.{written};
 ghost use Rattle.class_rows.specs.Places.{Placed};
 ghost use Rattle.answer_rows.specs.Ready.{FewFields, RowsReady, Scratch};
-ghost use Rattle.outside.specs.Words.{over};
 ghost use Rattle.class_names.specs.Read.{outside_in, store_in};
 
 use ast::FunId;
@@ -103,7 +101,7 @@ pub struct Links<'a> {
 
 // The answer rows of a sheet row, by its kind. `starts` tells where the rows of earlier classes stand.
 fn emit_of(out: &mut Rows<'_>, tables: Tables, links: Links, starts: &mut [usize], row: u32)
-    requires { (RowsReady tables links.literals.first.now links.literals.after.now links.subclassed.now)
+    requires { (RowsReady tables links)
         × (row < rows tables.sheet.now)
         × (Placed tables starts.old out.old.words.now row out.old.count) }
     ensures step { (o : Store) → written out.new
@@ -126,7 +124,7 @@ fn emit_of(out: &mut Rows<'_>, tables: Tables, links: Links, starts: &mut [usize
 
 // The answer rows of all sheet rows.
 fn emit_each(out: &mut Rows<'_>, tables: Tables, links: Links, starts: &mut [usize])
-    requires { (RowsReady tables links.literals.first.now links.literals.after.now links.subclassed.now)
+    requires { (RowsReady tables links)
         × (starts.old ≡ replicate 2048 0) × (out.old.count ≡ 0) }
     ensures step { (o : Store) → written out.new
         ≡ emit_all (answers_in (outside_in tables.entry) tables.entry.sheet.now (store_in tables.entry o)) (written out.old) }
@@ -165,26 +163,12 @@ fn emit_linked<'a>(
 }
 
 // The answer rows of what the walk stored, with scratch space for 2,048 rows; their number, or one more than fit.
-pub fn emit_rows(
-    sheet: &[u32],
-    outside: &[u32],
-    results: &[u32],
-    nodes: &[u32],
-    store: Store,
-    out: &mut [u32],
-) -> usize
-    requires { (PastFour (over outside.now) sheet.now)
-        × (StoreReads (over outside.now) sheet.now (store_of store results.now nodes.now)) }
+pub fn emit_rows(tables: Tables, store: Store, out: &mut [u32]) -> usize
+    requires { (PastFour (outside_in tables) tables.sheet.now)
+        × (StoreReads (outside_in tables) tables.sheet.now (store_in tables store)) }
     ensures { sink result out.new
-        ≡ emit_all (answers_in (over outside.now) sheet.now (store_of store results.now nodes.now))
-        (sink 0 out.old) }
+        ≡ emit_all (answers_in (outside_in tables.entry) tables.entry.sheet.now (store_in tables.entry store)) (sink 0 out.old) }
 {
-    let tables = Tables {
-        sheet,
-        outside,
-        results,
-        nodes,
-    };
     let mut first = [0u32; 2048];
     let mut after = [0u32; 2048];
     let mut subclassed = [0u32; 2048];

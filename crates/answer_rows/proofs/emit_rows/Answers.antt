@@ -5,7 +5,7 @@ use Rattle.answer_rows.proofs.emit_rows.Goals as goal
 
 pub emit_linked-requires : goal.emit_linked-requires
 emit_linked-requires c =
-    (c.requires.0, few_fields c.requires.0 c.requires.1, scratch_zeros _ 2048 (rows_most _ c.requires.0), refl, refl)
+    (c.requires.0, few_fields c.args.tables c.requires.0 c.args.store c.requires.1, scratch_zeros _ 2048 (rows_most _ c.requires.0), refl, refl)
 
 pub returns : goal.returns
 returns c =
