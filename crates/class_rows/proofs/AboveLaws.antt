@@ -15,7 +15,6 @@ use Rattle.definition.specs.Classes.{of_sheet, method_named}
 use Rattle.machine.specs.Machine.{Store as Stored}
 use Rattle.after.specs.Inherited.{parent_in, methods_in}
 use Rattle.sink.specs.Sink.{sink, emit_all}
-use Rattle.store.specs.Stored.{store_of}
 use Rattle.store.specs.declared.nodes.Store.{Store}
 use Rattle.class_names.specs.Names.{names_in}
 use Rattle.name_rows.specs.Put.{Wants}

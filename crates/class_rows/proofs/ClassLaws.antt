@@ -18,7 +18,6 @@ use Rattle.after.specs.Inherited.{parent_in, fields_in, methods_in, method_names
 use Rattle.after.specs.Rows.{class_rows_named}
 use Rattle.sink.specs.Sink.{Sink, sink, emit, emit_all}
 use Rattle.sink.proofs.SinkLaws.{emit_full, emit_none, emit_first, emit_both}
-use Rattle.store.specs.Stored.{store_of}
 use Rattle.store.specs.declared.nodes.Store.{Store}
 use Rattle.class_names.specs.Names.{names_in, ClassReady, head_words}
 use Rattle.class_names.specs.Read.{outside_in, store_in}

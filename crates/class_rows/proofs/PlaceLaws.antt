@@ -17,7 +17,6 @@ use Rattle.machine.specs.Machine.{Store as Stored}
 use Rattle.after.specs.Inherited.{fields_in, methods_in, method_names_in}
 use Rattle.after.specs.Rows.{class_rows_named}
 use Rattle.sink.specs.Sink.{Sink, sink, emit_all}
-use Rattle.store.specs.Stored.{store_of}
 use Rattle.store.specs.declared.nodes.Store.{Store}
 use Rattle.class_names.specs.Names.{names_in, head_words}
 use Rattle.class_names.specs.Read.{outside_in, store_in}

@@ -74,13 +74,7 @@ fn class_head(tables: Tables, subclassed: &[u32], above: Inherited, row: u32) ->
 }
 
 // The rows of the class of `row`: its counts, its fields by slot, its methods.
-fn write_class(
-    out: &mut Rows<'_>,
-    tables: Tables,
-    subclassed: &[u32],
-    above: Inherited,
-    row: u32,
-)
+fn write_class(out: &mut Rows<'_>, tables: Tables, subclassed: &[u32], above: Inherited, row: u32)
     requires { (ClassReady tables subclassed.now row)
         × (Shown tables 10 (256 + row) out.old.words.now out.old.count above.fields)
         × (Shown tables 6 (256 + row) out.old.words.now out.old.count above.methods) }

@@ -86,14 +86,7 @@ pub fn put_row(out: &mut Rows<'_>, x: AnswerRow, slot: u32) -> u32
 
 // One name more, unless it is inherited. Measured: as a call it gets a copy of the tables for each name.
 #[inline(always)]
-fn put_new(
-    out: &mut Rows<'_>,
-    tables: Tables,
-    wanted: Wanted,
-    p: Passed,
-    m: u32,
-    slot: u32,
-) -> u32
+fn put_new(out: &mut Rows<'_>, tables: Tables, wanted: Wanted, p: Passed, m: u32, slot: u32) -> u32
     ensures step { (o : Store) → filled result out.new
         ≡ put_new (outside_in tables.entry) tables.entry.sheet.now (store_in tables.entry o) wanted p
         (m ∷ []) (filled slot out.old) }

@@ -1,7 +1,6 @@
 use native.Mathlib.Omega.{arith}
 use Rattle.class_rows.proofs.AboveLaws.{counted_wanted}
 use Rattle.class_rows.proofs.ClassLaws.{head_row}
-use Rattle.outside.specs.Words.{over}
 use Rattle.class_rows.proofs.class_head.Goals as goal
 
 pub count_line-field_count-requires : goal.count_line-field_count-requires

@@ -32,7 +32,6 @@ pub put_names-next-requires : goal.put_names-next-requires
 put_names-next-requires t c =
     (omega (arith, c.decreases, c.if-n-eq0.false), tt)
 
-
 pub returns-clause-step : goal.returns-clause-step
 returns-clause-step t c =
     λ o. names_after _ (name_row (over c.args.tables.outside.now) c.args.tables.sheet.now

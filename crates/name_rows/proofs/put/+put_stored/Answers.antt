@@ -23,7 +23,6 @@ pub put_stored-next-requires : goal.put_stored-next-requires
 put_stored-next-requires t c =
     (omega (arith, c.decreases, c.if-last-eq0.false, c.node_before-before.ensures), tt)
 
-
 pub returns-clause-step : goal.returns-clause-step
 returns-clause-step t c =
     λ o. stored_last (name_row (over c.args.tables.outside.now) c.args.tables.sheet.now

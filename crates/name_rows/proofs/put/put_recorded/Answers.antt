@@ -9,15 +9,15 @@ use Rattle.name_rows.proofs.PutLaws.{new_rest, new_end}
 use Rattle.name_rows.proofs.put.put_recorded.Goals as goal
 
 pub loop-name-preserved : goal.loop-name-preserved
-loop-name-preserved c =
-    (
-    λ o.
-    let O = over c.args.tables.outside.now in
-    let st = store_of o c.args.tables.results.now c.args.tables.nodes.now in
-    let f = name_row O c.args.tables.sheet.now st c.args.wanted in
-    let up = inherited O c.args.tables.sheet.now st (kind_number c.args.wanted.kind) c.args.p.left c.args.p.class.0 in
-    new_rest f up (filled c.loop-name.next c.loop-name.out) c.in-Some.ensures.steps (c.put_new-next.ensures.step o) ∙ c.loop-name.invariant.0 o,
-    c.put_new-next.ensures.same ∙ c.loop-name.invariant.1)
+loop-name-preserved c = (
+  λ o.
+      let O = over c.args.tables.outside.now in
+      let st = store_of o c.args.tables.results.now c.args.tables.nodes.now in
+      let f = name_row O c.args.tables.sheet.now st c.args.wanted in
+      let up = inherited O c.args.tables.sheet.now st (kind_number c.args.wanted.kind) c.args.p.left c.args.p.class.0 in
+      new_rest f up (filled c.loop-name.next c.loop-name.out) c.in-Some.ensures.steps (c.put_new-next.ensures.step o) ∙ c.loop-name.invariant.0 o,
+  c.put_new-next.ensures.same ∙ c.loop-name.invariant.1,
+)
 
 pub returns-clause-step : goal.returns-clause-step
 returns-clause-step c =
