@@ -100,6 +100,7 @@ pub struct Links<'a> {
 }
 
 // The answer rows of a sheet row, by its kind. `starts` tells where the rows of earlier classes stand.
+#[tactic(auto, using(crate::proofs::RowLaws::rows_let, crate::proofs::RowLaws::rows_host, crate::proofs::RowLaws::rows_instance, crate::proofs::RowLaws::rows_identifier, crate::proofs::RowLaws::rows_member, crate::proofs::RowLaws::rows_literal, crate::proofs::RowLaws::rows_function, class_rows::proofs::PlaceLaws::placed_kept))]
 fn emit_of(out: &mut Rows<'_>, tables: Tables, links: Links, starts: &mut [usize], row: u32)
     requires { (RowsReady tables links)
         × (row < rows tables.sheet.now)

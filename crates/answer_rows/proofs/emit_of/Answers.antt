@@ -21,6 +21,7 @@ use mathlib.Core.List.{List, ◌∷◌, map}
 use Prim.Native.Nat.{ℕ}
 use Rattle.after.specs.Rows.{rows_in}
 use Rattle.class_rows.proofs.PlaceLaws.{placed_kept}
+use Rattle.sink.proofs.SinkLaws.{emit_one}
 use Rattle.store.specs.declared.nodes.Store.{Store}
 use Rattle.answer_rows.proofs.emit_of.Goals as goal
 
@@ -52,54 +53,26 @@ emit_class-requires c =
       c.requires.2,
     )
 
-pub returns-in-Ok-Let : goal.returns-in-Ok-Let
-returns-in-Ok-Let c =
-    let kind_is_lem = c.in-Ok-Let.ensures ∙ ap kind_number c.in-Ok-Let.field-0-is in
-    let step : (o : Store) → written c.emit_row.new.out ≡ emit_all (rows_in (over c.args.tables.outside.now) c.args.tables.sheet.now (store_in c.args.tables o) c.args.row) (written c.args.out.now) =
-    λ o. rows_let _ _ _ c.args.row (written c.args.out.now) kind_is_lem c.emit_row.ensures.step in
-    record { step = step; placed = placed_kept c.requires.2 _ (step no_counts); same = c.emit_row.ensures.same }
+pub returns-in-Ok-Let-clause-placed : goal.returns-in-Ok-Let-clause-placed
+returns-in-Ok-Let-clause-placed c = placed_kept c.requires.2 _ (emit_one _ _ c.emit_row.ensures.step)
 
-pub returns-in-Ok-HostConstant : goal.returns-in-Ok-HostConstant
-returns-in-Ok-HostConstant c =
-    let kind_is_lem = c.in-Ok-HostConstant.ensures ∙ ap kind_number c.in-Ok-HostConstant.field-0-is in
-    let step : (o : Store) → written c.emit_row-in-Ok-HostConstant.new.out ≡ emit_all (rows_in (over c.args.tables.outside.now) c.args.tables.sheet.now (store_in c.args.tables o) c.args.row) (written c.args.out.now) =
-    λ o. rows_host _ _ _ c.args.row (written c.args.out.now) kind_is_lem c.emit_row-in-Ok-HostConstant.ensures.step in
-    record { step = step; placed = placed_kept c.requires.2 _ (step no_counts); same = c.emit_row-in-Ok-HostConstant.ensures.same }
+pub returns-in-Ok-HostConstant-clause-placed : goal.returns-in-Ok-HostConstant-clause-placed
+returns-in-Ok-HostConstant-clause-placed c = placed_kept c.requires.2 _ (emit_one _ _ c.emit_row-in-Ok-HostConstant.ensures.step)
 
-pub returns-in-Ok-Instanceof : goal.returns-in-Ok-Instanceof
-returns-in-Ok-Instanceof c =
-    let kind_is_lem = c.in-Ok-Instanceof.ensures ∙ ap kind_number c.in-Ok-Instanceof.field-0-is in
-    let step : (o : Store) → written c.emit_row-in-Ok-Instanceof.new.out ≡ emit_all (rows_in (over c.args.tables.outside.now) c.args.tables.sheet.now (store_in c.args.tables o) c.args.row) (written c.args.out.now) =
-    λ o. rows_instance _ _ _ c.args.row (written c.args.out.now) kind_is_lem c.emit_row-in-Ok-Instanceof.ensures.step in
-    record { step = step; placed = placed_kept c.requires.2 _ (step no_counts); same = c.emit_row-in-Ok-Instanceof.ensures.same }
+pub returns-in-Ok-Instanceof-clause-placed : goal.returns-in-Ok-Instanceof-clause-placed
+returns-in-Ok-Instanceof-clause-placed c = placed_kept c.requires.2 _ (emit_one _ _ c.emit_row-in-Ok-Instanceof.ensures.step)
 
-pub returns-in-Ok-Identifier : goal.returns-in-Ok-Identifier
-returns-in-Ok-Identifier c =
-    let kind_is_lem = c.in-Ok-Identifier.ensures ∙ ap kind_number c.in-Ok-Identifier.field-0-is in
-    let step : (o : Store) → written c.emit_shown.new.out ≡ emit_all (rows_in (over c.args.tables.outside.now) c.args.tables.sheet.now (store_in c.args.tables o) c.args.row) (written c.args.out.now) =
-    λ o. rows_identifier _ _ _ c.args.row (written c.args.out.now) kind_is_lem c.emit_shown.ensures.step in
-    record { step = step; placed = placed_kept c.requires.2 _ (step no_counts); same = c.emit_shown.ensures.same }
+pub returns-in-Ok-Identifier-clause-placed : goal.returns-in-Ok-Identifier-clause-placed
+returns-in-Ok-Identifier-clause-placed c = placed_kept c.requires.2 _ c.emit_shown.ensures.step
 
-pub returns-in-Ok-Member : goal.returns-in-Ok-Member
-returns-in-Ok-Member c =
-    let kind_is_lem = c.in-Ok-Member.ensures ∙ ap kind_number c.in-Ok-Member.field-0-is in
-    let step : (o : Store) → written c.emit_member.new.out ≡ emit_all (rows_in (over c.args.tables.outside.now) c.args.tables.sheet.now (store_in c.args.tables o) c.args.row) (written c.args.out.now) =
-    λ o. rows_member _ _ _ c.args.row (written c.args.out.now) kind_is_lem c.emit_member.ensures.step in
-    record { step = step; placed = placed_kept c.requires.2 _ (step no_counts); same = c.emit_member.ensures.same }
+pub returns-in-Ok-Member-clause-placed : goal.returns-in-Ok-Member-clause-placed
+returns-in-Ok-Member-clause-placed c = placed_kept c.requires.2 _ c.emit_member.ensures.step
 
-pub returns-in-Ok-Literal : goal.returns-in-Ok-Literal
-returns-in-Ok-Literal c =
-    let kind_is_lem = c.in-Ok-Literal.ensures ∙ ap kind_number c.in-Ok-Literal.field-0-is in
-    let step : (o : Store) → written c.emit_literal.new.out ≡ emit_all (rows_in (over c.args.tables.outside.now) c.args.tables.sheet.now (store_in c.args.tables o) c.args.row) (written c.args.out.now) =
-    λ o. rows_literal _ _ _ c.args.row (written c.args.out.now) kind_is_lem (c.emit_literal.ensures.step o) in
-    record { step = step; placed = placed_kept c.requires.2 _ (step no_counts); same = c.emit_literal.ensures.same }
+pub returns-in-Ok-Literal-clause-placed : goal.returns-in-Ok-Literal-clause-placed
+returns-in-Ok-Literal-clause-placed c = placed_kept c.requires.2 _ (c.emit_literal.ensures.step no_counts)
 
-pub returns-in-Ok-Function : goal.returns-in-Ok-Function
-returns-in-Ok-Function c =
-    let kind_is_lem = c.in-Ok-Function.ensures ∙ ap kind_number c.in-Ok-Function.field-0-is in
-    let step : (o : Store) → written c.emit_function.new.out ≡ emit_all (rows_in (over c.args.tables.outside.now) c.args.tables.sheet.now (store_in c.args.tables o) c.args.row) (written c.args.out.now) =
-    λ o. rows_function _ _ _ c.args.row (written c.args.out.now) kind_is_lem (c.emit_function.ensures.step o) in
-    record { step = step; placed = placed_kept c.requires.2 _ (step no_counts); same = c.emit_function.ensures.same }
+pub returns-in-Ok-Function-clause-placed : goal.returns-in-Ok-Function-clause-placed
+returns-in-Ok-Function-clause-placed c = placed_kept c.requires.2 _ (c.emit_function.ensures.step no_counts)
 
 pub returns-in-Ok-Class-clause-step : goal.returns-in-Ok-Class-clause-step
 returns-in-Ok-Class-clause-step c =
