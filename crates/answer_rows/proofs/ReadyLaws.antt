@@ -17,9 +17,12 @@ use Rattle.after.specs.Rows.{class_rows_in, class_rows_named}
 use Rattle.after.proofs.Fields.{fields_same}
 use Rattle.after.proofs.Names.{methods_by_name, method_by}
 use Rattle.after.proofs.Sizes.{fields_few, methods_few}
-use Rattle.store.specs.Stored.{store_of}
+use Rattle.store.specs.declared.nodes.Store.{Store}
 use Rattle.fun_rows.specs.Literals.{LiteralChains}
 use Rattle.class_names.specs.Names.{ParentMarks}
+use Rattle.class_names.specs.Read.{outside_in, store_in}
+use Rattle.class_names.specs.declared.tables.Tables.{Tables}
+use Rattle.answer_rows.specs.declared.Links.{Links}
 use Rattle.answer_rows.specs.Ready.{FewFields, RowsReady}
 use Rattle.answer_rows.proofs.ScratchLaws.{small_sheet}
 
@@ -62,20 +65,24 @@ module _ {O : Outside} {s : Sheet} (ok : PastFour O s) where
       rows_with l rs =
           (22 ∷ parent_in s o (256 + r) ∷ bit (has_children_in s o (256 + r)) ∷ length (fields_in O s o (rows s) (256 + r)) ∷ l ∷ []) ∷ numbered 0 (fields_in O s o (rows s) (256 + r)) ++ rs
 
-  -- the store of counters x with the same buffers
-  pub few_fields : {o : Stored} → StoreReads O s o → FewFields O s o.table o.nodes
-  few_fields {o} k r t x =
-      let e : fields_in O s (store_of x o.table o.nodes) (rows s) (256 + r) ≡ fields O s (history O s) (rows s) (256 + r) =
-      same_fields O s x.used x.calls o.used o.calls o.table o.nodes (rows s) (256 + r) ∙ sym (fields_same ok k (rows s) (256 + r)) in
+-- Of tables past the first four questions, whose store the walk left, with counters o.
+module _ (tables : Tables) (ok : PastFour (outside_in tables) tables.sheet.now) where
+  pub few_fields : (o : Store) → StoreReads (outside_in tables) tables.sheet.now (store_in tables o) → FewFields tables
+  few_fields o k r t x =
+      let O = outside_in tables in
+      let s : Sheet = tables.sheet.now in
+      let e : fields_in O s (store_in tables x) (rows s) (256 + r) ≡ fields O s (history O s) (rows s) (256 + r) =
+      same_fields O s x.used x.calls o.used o.calls tables.results.now tables.nodes.now (rows s) (256 + r) ∙ sym (fields_same ok k (rows s) (256 + r)) in
       omega (arith, ap length e, fields_few ok (256 + r))
 
-  pub rows_ready : {t q hs ns ps : List ℕ} → FewFields O s t q → LiteralChains s t hs ns → ParentMarks s t ps → RowsReady O s t q hs ns ps
-  rows_ready {t} {q} f c p =
+  pub rows_ready : {links : Links} → FewFields tables → LiteralChains tables.sheet.now tables.results.now links.literals.first.now links.literals.after.now
+      → ParentMarks tables.sheet.now tables.results.now links.subclassed.now → RowsReady tables links
+  rows_ready f c p =
       record {
         small = small_sheet ok;
         chains = c;
         marked = p;
-        named = λ r x. classes_named (store_of x t q) r;
+        named = λ r x. classes_named ok (store_in tables x) r;
         fields = f;
-        methods = λ r i x. omega (arith, methods_few ok (store_of x t q) (256 + r));
+        methods = λ r i x. omega (arith, methods_few ok (store_in tables x) (256 + r));
       }

@@ -10,6 +10,7 @@ use Rattle.machine.specs.Reads.{PastFour}
 use Rattle.machine.proofs.Theorems.{rows_few}
 use Rattle.after.proofs.Ranges.{rows_whole}
 use Rattle.classes.specs.Table.{Clear}
+use Rattle.class_names.specs.declared.tables.Tables.{Tables}
 use Rattle.class_rows.specs.Places.{Placed}
 use Rattle.answer_rows.specs.Ready.{Scratch}
 
@@ -42,8 +43,8 @@ pub small_sheet : {O : Outside} {s : Sheet} → PastFour O s → length s ≤ 16
 small_sheet {s = s} ok = omega (arith, rows_whole s ok.whole, rows_few s ok.whole)
 
 -- no class has a place yet
-pub places_zeros : (O : Outside) (s t q : List ℕ) (n : ℕ) (ps w : List ℕ) → length s ≤ 16384 → 2048 ≤ n → ps ≡ replicate n 0 → Placed O s t q ps w 0 0
-places_zeros O s t q n ps w l b e = record {
+pub places_zeros : (tables : Tables) (n : ℕ) (ps w : List ℕ) → length tables.sheet.now ≤ 16384 → 2048 ≤ n → ps ≡ replicate n 0 → Placed tables ps w 0 0
+places_zeros tables n ps w l b e = record {
   room = omega (arith, ap length e ∙ zeros_long n);
   told = λ j p g. absurd (omega (arith, g, ap (λ (z : List ℕ). get_or z j 0) e ∙ zero_at n j));
 }

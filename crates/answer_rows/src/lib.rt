@@ -7,11 +7,10 @@ ghost use Rattle.after.specs.Rows.{rows_in, answers_in};
 ghost use Rattle.machine.specs.Reads.{PastFour, StoreReads, row_words, answer_row, identifier_answer};
 ghost use Rattle.machine.specs.Machine.{cell};
 ghost use Rattle.definition.specs.Basics.{when◌then◌else◌};
-ghost use Rattle.store.specs.Stored.{store_of};
 ghost use Rattle.sink.specs.Sink.{sink, emit as emitted, emit_all};
+ghost use Rattle.sink.specs.Written.{written};
 ghost use Rattle.class_rows.specs.Places.{Placed};
 ghost use Rattle.answer_rows.specs.Ready.{FewFields, RowsReady, Scratch};
-ghost use Rattle.outside.specs.Words.{over};
 ghost use Rattle.class_names.specs.Read.{outside_in, store_in};
 
 use ast::FunId;
@@ -22,77 +21,75 @@ use class_names::tables::Tables;
 use class_rows::emit_class;
 use fun_rows::literals::{Literals, link_literals};
 use fun_rows::{emit_function, emit_literal};
-use sink::{AnswerRow, emit};
+use sink::{AnswerRow, Rows};
 use store::nodes::Store;
 use store::result;
 use words::{kind_at, word};
 
 // The row of a let, host constant, instanceof or member, as the results have it.
 #[tactic(auto, unfolding(machine::specs::Reads::row_words))]
-fn emit_row(results: &[u32], row: u32, k: usize, out: &mut [u32]) -> usize
-    ensures { sink result out.new ≡ emitted (answer_row row (row_words results.now row)) (sink k out.old) }
+fn emit_row(out: &mut Rows<'_>, results: &[u32], row: u32)
+    ensures step { written out.new ≡ emitted (answer_row row (row_words results.now row)) (written out.old) }
+    ensures same { out.new.words.ghost_name ≡ out.old.words.ghost_name }
 {
-    let told = AnswerRow {
-        row: row,
-        code: word(results, row, result::CODE),
-        one: word(results, row, result::ONE),
-        two: word(results, row, result::TWO),
-        three: word(results, row, result::THREE),
-        four: 0,
-    };
-    emit(out, k, told)
+    out.push_words([
+        row,
+        word(results, row, result::CODE),
+        word(results, row, result::ONE),
+        word(results, row, result::TWO),
+        word(results, row, result::THREE),
+        0,
+        0,
+        0,
+    ]);
 }
 
 // The row of an identifier. Of a captured one the results have the distance where its second value would be.
 #[tactic(auto, using(crate::proofs::RowLaws::use_plain, crate::proofs::RowLaws::use_captured))]
-fn emit_use(results: &[u32], row: u32, k: usize, out: &mut [u32]) -> usize
-    ensures { sink result out.new ≡ emitted (identifier_answer row (row_words results.now row)) (sink k out.old) }
+fn emit_use(out: &mut Rows<'_>, results: &[u32], row: u32)
+    ensures step { written out.new ≡ emitted (identifier_answer row (row_words results.now row)) (written out.old) }
+    ensures same { out.new.words.ghost_name ≡ out.old.words.ghost_name }
 {
     if word(results, row, result::CODE) != Code::Captured as u32 {
-        return emit_row(results, row, k, out);
+        emit_row(out, results, row);
+        return;
     }
-    let told = AnswerRow {
+    out.push(AnswerRow {
         row: row,
-        code: Code::Captured as u32,
+        code: Code::Captured,
         one: word(results, row, result::ONE),
         two: 0,
         three: word(results, row, result::THREE),
         four: word(results, row, result::DISTANCE),
-    };
-    emit(out, k, told)
+    });
 }
 
 // An identifier has a row unless it is the base of a method called on a class.
 #[tactic(auto, using(sink::proofs::SinkLaws::emit_none, sink::proofs::SinkLaws::emit_one))]
-fn emit_shown(results: &[u32], row: u32, k: usize, out: &mut [u32]) -> usize
-    ensures { sink result out.new
+fn emit_shown(out: &mut Rows<'_>, results: &[u32], row: u32)
+    ensures step { written out.new
         ≡ emit_all (when eqb (cell results.now row 4) 0 then identifier_answer row (row_words results.now row) ∷ [] else [])
-        (sink k out.old) }
+        (written out.old) }
+    ensures same { out.new.words.ghost_name ≡ out.old.words.ghost_name }
 {
     if word(results, row, result::HIDDEN) != 0 {
-        return k;
+        return;
     }
-    emit_use(results, row, k, out)
+    emit_use(out, results, row);
 }
 
 // A member has a row if it is the callee of such a call.
 #[tactic(auto, using(sink::proofs::SinkLaws::emit_none, sink::proofs::SinkLaws::emit_one))]
-fn emit_member(results: &[u32], row: u32, k: usize, out: &mut [u32]) -> usize
-    ensures { sink result out.new
+fn emit_member(out: &mut Rows<'_>, results: &[u32], row: u32)
+    ensures step { written out.new
         ≡ emit_all (when eqb (cell results.now row 0) 0 then [] else answer_row row (row_words results.now row) ∷ [])
-        (sink k out.old) }
+        (written out.old) }
+    ensures same { out.new.words.ghost_name ≡ out.old.words.ghost_name }
 {
     if word(results, row, result::CODE) == Code::Nothing as u32 {
-        return k;
+        return;
     }
-    emit_row(results, row, k, out)
-}
-
-// A sheet row whose turn it is, and the number of answer rows before its own.
-#[derive(Clone, Copy)]
-pub struct Turn {
-    pub row: u32,
-    pub count: usize,
+    emit_row(out, results, row);
 }
 
 // What links the rows: the literals of each function, and the marks of the classes that have children.
@@ -103,65 +100,58 @@ pub struct Links<'a> {
 }
 
 // The answer rows of a sheet row, by its kind. `starts` tells where the rows of earlier classes stand.
-fn emit_of(tables: Tables, links: Links, starts: &mut [usize], turn: Turn, out: &mut [u32]) -> usize
-    requires { (RowsReady (outside_in tables) tables.sheet.now tables.results.now tables.nodes.now links.literals.first.now links.literals.after.now links.subclassed.now)
-        × (turn.row < rows tables.sheet.now)
-        × (Placed (outside_in tables) tables.sheet.now tables.results.now tables.nodes.now starts.old out.old turn.row turn.count) }
-    ensures { ((o : Store) → sink result out.new
-        ≡ emit_all (rows_in (outside_in tables.entry) tables.entry.sheet.now
-        (store_in tables.entry o) turn.row) (sink turn.count out.old))
-        × (Placed (outside_in tables.entry) tables.entry.sheet.now tables.entry.results.now tables.entry.nodes.now starts.new
-        out.new (turn.row + 1) result) }
+#[tactic(auto, using(crate::proofs::RowLaws::rows_let, crate::proofs::RowLaws::rows_host, crate::proofs::RowLaws::rows_instance, crate::proofs::RowLaws::rows_identifier, crate::proofs::RowLaws::rows_member, crate::proofs::RowLaws::rows_literal, crate::proofs::RowLaws::rows_function, class_rows::proofs::PlaceLaws::placed_kept))]
+fn emit_of(out: &mut Rows<'_>, tables: Tables, links: Links, starts: &mut [usize], row: u32)
+    requires { (RowsReady tables links)
+        × (row < rows tables.sheet.now)
+        × (Placed tables starts.old out.old.words.now row out.old.count) }
+    ensures step { (o : Store) → written out.new
+        ≡ emit_all (rows_in (outside_in tables.entry) tables.entry.sheet.now (store_in tables.entry o) row) (written out.old) }
+    ensures placed { Placed tables.entry starts.new out.new.words.now (row + 1) out.new.count }
+    ensures same { out.new.words.ghost_name ≡ out.old.words.ghost_name }
 {
-    match kind_at(tables.sheet, turn.row) {
-        Ok(Kind::Let) => emit_row(tables.results, turn.row, turn.count, out),
-        Ok(Kind::HostConstant) => emit_row(tables.results, turn.row, turn.count, out),
-        Ok(Kind::Instanceof) => emit_row(tables.results, turn.row, turn.count, out),
-        Ok(Kind::Identifier) => emit_shown(tables.results, turn.row, turn.count, out),
-        Ok(Kind::Member) => emit_member(tables.results, turn.row, turn.count, out),
-        Ok(Kind::Literal) => emit_literal(tables, turn.row, turn.count, out),
-        Ok(Kind::Function) => emit_function(
-            tables,
-            links.literals,
-            FunId(turn.row),
-            turn.count,
-            out,
-        ),
-        Ok(Kind::Class) => emit_class(tables, links.subclassed, starts, turn.row, turn.count, out),
-        _ => turn.count,
+    match kind_at(tables.sheet, row) {
+        Ok(Kind::Let) => emit_row(out, tables.results, row),
+        Ok(Kind::HostConstant) => emit_row(out, tables.results, row),
+        Ok(Kind::Instanceof) => emit_row(out, tables.results, row),
+        Ok(Kind::Identifier) => emit_shown(out, tables.results, row),
+        Ok(Kind::Member) => emit_member(out, tables.results, row),
+        Ok(Kind::Literal) => emit_literal(out, tables, row),
+        Ok(Kind::Function) => emit_function(out, tables, links.literals, FunId(row)),
+        Ok(Kind::Class) => emit_class(out, tables, links.subclassed, starts, row),
+        _ => return,
     }
 }
 
-// The answer rows of all sheet rows; their number, or one more than fit.
-fn emit_each(tables: Tables, links: Links, starts: &mut [usize], out: &mut [u32]) -> usize
-    requires { (RowsReady (outside_in tables) tables.sheet.now tables.results.now tables.nodes.now links.literals.first.now links.literals.after.now links.subclassed.now)
-        × (starts.old ≡ replicate 2048 0) }
-    ensures { (o : Store) → sink result out.new
-        ≡ emit_all (answers_in (outside_in tables.entry) tables.entry.sheet.now (store_in tables.entry o))
-        (sink 0 out.old) }
+// The answer rows of all sheet rows.
+fn emit_each(out: &mut Rows<'_>, tables: Tables, links: Links, starts: &mut [usize])
+    requires { (RowsReady tables links)
+        × (starts.old ≡ replicate 2048 0) × (out.old.count ≡ 0) }
+    ensures step { (o : Store) → written out.new
+        ≡ emit_all (answers_in (outside_in tables.entry) tables.entry.sheet.now (store_in tables.entry o)) (written out.old) }
+    ensures same { out.new.words.ghost_name ≡ out.old.words.ghost_name }
 {
-    let mut k = 0;
     for row in 0..(tables.sheet.len() / 8) as u32 {
-        k = emit_of(tables, links, starts, Turn { row, count: k }, out);
+        emit_of(out, tables, links, starts, row);
     }
-    k
 }
 
 // The same in lent scratch space: literals are chained by function and parents marked once, and not looked for at each row.
 fn emit_linked<'a>(
+    out: &mut Rows<'_>,
     tables: Tables,
     first: &'a mut [u32],
     after: &'a mut [u32],
     subclassed: &'a mut [u32],
     starts: &mut [usize],
-    out: &mut [u32],
-) -> usize
+)
     requires { (PastFour (outside_in tables) tables.sheet.now)
-        × (FewFields (outside_in tables) tables.sheet.now tables.results.now tables.nodes.now)
-        × (Scratch tables.sheet.now first.old after.old subclassed.old) × (starts.old ≡ replicate 2048 0) }
-    ensures { (o : Store) → sink result out.new
+        × (FewFields tables)
+        × (Scratch tables.sheet.now first.old after.old subclassed.old) × (starts.old ≡ replicate 2048 0) × (out.old.count ≡ 0) }
+    ensures step { (o : Store) → written out.new
         ≡ emit_all (answers_in (outside_in tables.entry) tables.entry.sheet.now (store_in tables.entry o))
-        (sink 0 out.old) }
+        (written out.old) }
+    ensures same { out.new.words.ghost_name ≡ out.old.words.ghost_name }
 {
     link_literals(tables.sheet, tables.results, first, after);
     mark_parents(tables.sheet, tables.results, subclassed);
@@ -170,40 +160,31 @@ fn emit_linked<'a>(
         literals,
         subclassed,
     };
-    emit_each(tables, links, starts, out)
+    emit_each(out, tables, links, starts);
 }
 
 // The answer rows of what the walk stored, with scratch space for 2,048 rows; their number, or one more than fit.
-pub fn emit_rows(
-    sheet: &[u32],
-    outside: &[u32],
-    results: &[u32],
-    nodes: &[u32],
-    store: Store,
-    out: &mut [u32],
-) -> usize
-    requires { (PastFour (over outside.now) sheet.now)
-        × (StoreReads (over outside.now) sheet.now (store_of store results.now nodes.now)) }
+pub fn emit_rows(tables: Tables, store: Store, out: &mut [u32]) -> usize
+    requires { (PastFour (outside_in tables) tables.sheet.now)
+        × (StoreReads (outside_in tables) tables.sheet.now (store_in tables store)) }
     ensures { sink result out.new
-        ≡ emit_all (answers_in (over outside.now) sheet.now (store_of store results.now nodes.now))
-        (sink 0 out.old) }
+        ≡ emit_all (answers_in (outside_in tables.entry) tables.entry.sheet.now (store_in tables.entry store)) (sink 0 out.old) }
 {
-    let tables = Tables {
-        sheet,
-        outside,
-        results,
-        nodes,
-    };
     let mut first = [0u32; 2048];
     let mut after = [0u32; 2048];
     let mut subclassed = [0u32; 2048];
     let mut starts = [0usize; 2048];
+    let mut rows = Rows {
+        words: out,
+        count: 0,
+    };
     emit_linked(
+        &mut rows,
         tables,
         &mut first,
         &mut after,
         &mut subclassed,
         &mut starts,
-        out,
-    )
+    );
+    rows.count
 }

@@ -9,6 +9,8 @@ use Rattle.machine.specs.Machine.{Store as Stored, cell, list_at}
 use Rattle.after.specs.Inherited.{parent_in, fields_in, method_names_in, has_children_in}
 use Rattle.store.specs.Stored.{store_of}
 use Rattle.store.specs.declared.nodes.Store.{Store}
+use Rattle.class_names.specs.Read.{outside_in, store_in}
+use Rattle.class_names.specs.declared.tables.Tables.{Tables}
 
 -- the own names of the class of row r: those that it lists, and of fields then those that the walk stored
 unfoldable pub row_names : Sheet → Stored → ℕ → ℕ → List ℕ
@@ -39,13 +41,13 @@ pub record ParentMarks (s t marks : List ℕ) : Type 0 where
   pub room : rows s ≤ length marks
   pub told : (o : Store) (q : List ℕ) (j : ℕ) → j < rows s → not (eqb (get_or marks j 0) 0) ≡ has_children_in s (store_of o t q) (256 + j)
 
--- Row r stands in a sheet that is not too long, with the marks of its parents, and its fields and methods can be counted in a word.
-pub record ClassReady (O : Outside) (s t q marks : List ℕ) (r : ℕ) : Type 0 where
-  pub row : r < rows s
-  pub short : length s ≤ 16384
-  pub marked : ParentMarks s t marks
-  pub fields : (o : Store) → length (fields_in O s (store_of o t q) (rows s) (256 + r)) ≤ 4294967295
-  pub methods : (o : Store) → length (method_names_in O s (store_of o t q) (rows s) (256 + r)) ≤ 4294967295
+-- Row r stands in the sheet of tables t, which is not too long, with the marks of its parents, and its fields and methods can be counted in a word.
+pub record ClassReady (t : Tables) (marks : List ℕ) (r : ℕ) : Type 0 where
+  pub row : r < rows t.sheet.now
+  pub short : length t.sheet.now ≤ 16384
+  pub marked : ParentMarks t.sheet.now t.results.now marks
+  pub fields : (o : Store) → length (fields_in (outside_in t) t.sheet.now (store_in t o) (rows t.sheet.now) (256 + r)) ≤ 4294967295
+  pub methods : (o : Store) → length (method_names_in (outside_in t) t.sheet.now (store_in t o) (rows t.sheet.now) (256 + r)) ≤ 4294967295
 
 -- the code and the values of the first row of the class of row r
 unfoldable pub head_words : Outside → Sheet → Stored → ℕ → List ℕ

@@ -18,9 +18,10 @@ use Rattle.after.specs.Inherited.{parent_in, fields_in, methods_in, method_names
 use Rattle.after.specs.Rows.{class_rows_named}
 use Rattle.sink.specs.Sink.{Sink, sink, emit, emit_all}
 use Rattle.sink.proofs.SinkLaws.{emit_full, emit_none, emit_first, emit_both}
-use Rattle.store.specs.Stored.{store_of}
 use Rattle.store.specs.declared.nodes.Store.{Store}
 use Rattle.class_names.specs.Names.{names_in, ClassReady, head_words}
+use Rattle.class_names.specs.Read.{outside_in, store_in}
+use Rattle.class_names.specs.declared.tables.Tables.{Tables}
 use Rattle.name_rows.specs.Put.{Filled, Wants, name_row, put, put_all}
 use Rattle.name_rows.specs.declared.put.Wanted.{Wanted}
 use Rattle.class_names.proofs.NameLaws.{names_fields, names_methods}
@@ -33,22 +34,22 @@ wanted_methods : (O : Outside) (s : Sheet) (o : Stored) {r : ℕ} {w : Wanted} �
 wanted_methods O s o {r} h = rw (h.kind_is, h.class_is) (names_methods O s o (rows s) (256 + r))
 
 -- The first row.
-module _ (O : Outside) (s t q marks : List ℕ) (r : ℕ) (h : ClassReady O s t q marks r) (o : Store) where
+module _ (tables : Tables) (marks : List ℕ) (r : ℕ) (h : ClassReady tables marks r) (o : Store) where
   abbrev st : Stored
-  st = store_of o t q
+  st = store_in tables o
 
-  pub head_row : {p b f m : ℕ} {u v : Wanted} → p ≡ parent_in s st (256 + r) → b ≡ bit (not (eqb (get_or marks r 0) 0))
-      → Wants r 10 u → f ≡ min (length (names_in O s st (kind_number u.kind) (rows s) u.class.0)) 4294967295
-      → Wants r 6 v → m ≡ min (length (names_in O s st (kind_number v.kind) (rows s) v.class.0)) 4294967295
-      → r ∷ 22 ∷ p ∷ b ∷ f ∷ m ∷ 0 ∷ 0 ∷ [] ≡ eight (r ∷ head_words O s st r)
+  pub head_row : {p b f m : ℕ} {u v : Wanted} → p ≡ parent_in tables.sheet.now st (256 + r) → b ≡ bit (not (eqb (get_or marks r 0) 0))
+      → Wants r 10 u → f ≡ min (length (names_in (outside_in tables) tables.sheet.now st (kind_number u.kind) (rows tables.sheet.now) u.class.0)) 4294967295
+      → Wants r 6 v → m ≡ min (length (names_in (outside_in tables) tables.sheet.now st (kind_number v.kind) (rows tables.sheet.now) v.class.0)) 4294967295
+      → r ∷ 22 ∷ p ∷ b ∷ f ∷ m ∷ 0 ∷ 0 ∷ [] ≡ eight (r ∷ head_words (outside_in tables) tables.sheet.now st r)
   unfolding head_words
-  head_row {p} {b} {f} {m} {u} {v} d e x g y i = rw (d, e ∙ ap bit (h.marked.told o q r h.row), fields_equal, methods_equal)
+  head_row {p} {b} {f} {m} {u} {v} d e x g y i = rw (d, e ∙ ap bit (h.marked.told o tables.nodes.now r h.row), fields_equal, methods_equal)
     where
-      fields_equal : f ≡ length (fields_in O s st (rows s) (256 + r))
-      fields_equal = omega (arith, g, ap length (wanted_fields O s st x), h.fields o)
+      fields_equal : f ≡ length (fields_in (outside_in tables) tables.sheet.now st (rows tables.sheet.now) (256 + r))
+      fields_equal = omega (arith, g, ap length (wanted_fields (outside_in tables) tables.sheet.now st x), h.fields o)
 
-      methods_equal : m ≡ length (method_names_in O s st (rows s) (256 + r))
-      methods_equal = omega (arith, i, ap length (wanted_methods O s st y), h.methods o)
+      methods_equal : m ≡ length (method_names_in (outside_in tables) tables.sheet.now st (rows tables.sheet.now) (256 + r))
+      methods_equal = omega (arith, i, ap length (wanted_methods (outside_in tables) tables.sheet.now st y), h.methods o)
 
 -- The rows of the fields and of the methods.
 module _ (f : ℕ → ℕ → List ℕ) (r : ℕ) where
@@ -116,7 +117,8 @@ full_stays : (rs : List (List ℕ)) (w : List ℕ) → sink (length w / 8 + 1) w
 full_stays [] w = emit_none (sink (length w / 8 + 1) w)
 full_stays (r ∷ rs) w = emit_first r rs (sink (length w / 8 + 1) w) (emit_full (length w / 8 + 1) w r (omega arith)) (full_stays rs w)
 
-pub class_full : (O : Outside) (s : Sheet) (o : Stored) (r k : ℕ) (w : List ℕ) → length w / 8 ≤ k
-    → sink (length w / 8 + 1) w ≡ emit_all (map (λ vs. eight (r ∷ vs)) (class_rows_named O s o r)) (sink k w)
+pub class_full : (O : Outside) (s : Sheet) (o : Stored) (r k : ℕ) (w : List ℕ) {n : ℕ} → n ≡ length w / 8 → n ≤ k
+    → sink (n + 1) w ≡ emit_all (map (λ vs. eight (r ∷ vs)) (class_rows_named O s o r)) (sink k w)
 unfolding class_rows_named head_words
-class_full O s o r k w l = emit_first (eight (r ∷ head_words O s o r)) _ (sink k w) (emit_full k w (eight (r ∷ head_words O s o r)) l) (full_stays _ w)
+class_full O s o r k w e l =
+    rw e (emit_first (eight (r ∷ head_words O s o r)) _ (sink k w) (emit_full k w (eight (r ∷ head_words O s o r)) (omega (arith, e, l))) (full_stays _ w))

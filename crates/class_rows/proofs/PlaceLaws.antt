@@ -17,9 +17,10 @@ use Rattle.machine.specs.Machine.{Store as Stored}
 use Rattle.after.specs.Inherited.{fields_in, methods_in, method_names_in}
 use Rattle.after.specs.Rows.{class_rows_named}
 use Rattle.sink.specs.Sink.{Sink, sink, emit_all}
-use Rattle.store.specs.Stored.{store_of}
 use Rattle.store.specs.declared.nodes.Store.{Store}
 use Rattle.class_names.specs.Names.{names_in, head_words}
+use Rattle.class_names.specs.Read.{outside_in, store_in}
+use Rattle.class_names.specs.declared.tables.Tables.{Tables}
 use Rattle.class_rows.specs.Places.{column, Stands, Placed}
 use Rattle.class_names.proofs.NameLaws.{names_fields, names_methods}
 use Rattle.name_rows.proofs.KeptLaws.{Kept, all_kept}
@@ -110,9 +111,9 @@ module _ (O : Outside) (s : Sheet) (o : Stored) (w : List ℕ) (k r n : ℕ) {y 
   unfolding class_rows_named head_words
   columns c l = ap (column y c k) (sym counted) ∙ (written c l).1
 
-  pub stands_now : length y ≡ length w → ((j : ℕ) → Steady O s o (names_in O s o j) r) → Steady O s o (methods_in O s o) r → Stands O s o y n r k
+  pub stands_now : ((j : ℕ) → Steady O s o (names_in O s o j) r) → Steady O s o (methods_in O s o) r → Stands O s o y n r k
   unfolding head_words
-  stands_now l h u =
+  stands_now h u =
       record {
         below = rw (f, g) (omega (arith, (written 0 (omega arith)).0, counted));
         within = rw (f, g, l) (omega (arith, fit, counted));
@@ -125,6 +126,9 @@ module _ (O : Outside) (s : Sheet) (o : Stored) (w : List ℕ) (k r n : ℕ) {y 
         stable_methods = u;
       }
     where
+      l : length y ≡ length w
+      l = ap (λ (x : Sink). length x.words) e ∙ (all_kept 0 (map (λ vs. eight (r ∷ vs)) (class_rows_named O s o r)) (sink k w) (omega arith) (omega arith)).lengths
+
       f : names_in O s o 10 (rows s) (256 + r) ≡ fs
       f = names_fields O s o (rows s) (256 + r)
 
@@ -155,17 +159,17 @@ stands_kept {O} {s} {o} {w} {y} {k} {n} {r} {p} rs e h =
     m : Kept (p + suc (length fn + length mn)) (sink k w) (sink n y)
     m = subst (Kept (p + suc (length fn + length mn)) (sink k w)) (sym e) (all_kept (p + suc (length fn + length mn)) rs (sink k w) h.below h.within)
 
-module _ {O : Outside} {s t q places w : List ℕ} {r k : ℕ} (h : Placed O s t q places w r k) {y : List ℕ} {n : ℕ} (rs : List (List ℕ)) (e : sink n y ≡ emit_all rs (sink k w)) where
-  pub placed_kept : Placed O s t q places y (r + 1) n
+module _ {tables : Tables} {places w : List ℕ} {r k : ℕ} (h : Placed tables places w r k) {y : List ℕ} {n : ℕ} (rs : List (List ℕ)) (e : sink n y ≡ emit_all rs (sink k w)) where
+  pub placed_kept : Placed tables places y (r + 1) n
   placed_kept = record { room = h.room; told = λ j p g. (omega (arith, (h.told j p g).0), λ o. stands_kept rs e ((h.told j p g).1 o)) }
 
   -- and with the place of row r
-  pub placed_more : ((o : Store) → Stands O s (store_of o t q) y n r k) → r < length places → Placed O s t q (set places r (k + 1)) y (r + 1) n
+  pub placed_more : ((o : Store) → Stands (outside_in tables) tables.sheet.now (store_in tables o) y n r k) → r < length places → Placed tables (set places r (k + 1)) y (r + 1) n
   placed_more f l = record { room = omega (arith, h.room, length-set places r (k + 1)); told = λ j p g. go j p (eqb j r) refl g }
     where
-      go : (j p : ℕ) (u : Bool) → eqb j r ≡ u → get_or (set places r (k + 1)) j 0 ≡ suc p → (j < r + 1) × ((o : Store) → Stands O s (store_of o t q) y n j p)
+      go : (j p : ℕ) (u : Bool) → eqb j r ≡ u → get_or (set places r (k + 1)) j 0 ≡ suc p → (j < r + 1) × ((o : Store) → Stands (outside_in tables) tables.sheet.now (store_in tables o) y n j p)
       go j p true i g =
           let a : j ≡ r = eqb-true j r i in
           let b : k ≡ p = omega (arith, g, ap (λ (x : ℕ). get_or (set places r (k + 1)) x 0) a, get_or-set_same places r (k + 1) 0 l) in
-          (omega arith, λ o. subst (λ (x : ℕ). Stands O s (store_of o t q) y n x p) (sym a) (subst (λ (x : ℕ). Stands O s (store_of o t q) y n r x) b (f o)))
+          (omega arith, λ o. subst (λ (x : ℕ). Stands (outside_in tables) tables.sheet.now (store_in tables o) y n x p) (sym a) (subst (λ (x : ℕ). Stands (outside_in tables) tables.sheet.now (store_in tables o) y n r x) b (f o)))
       go j p false i g = placed_kept.told j p (sym (get_or-set_other places r j (k + 1) 0 (eqb-false j r i)) ∙ g)

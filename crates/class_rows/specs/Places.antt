@@ -6,9 +6,10 @@ use Rattle.definition.specs.Outside.{Outside}
 use Rattle.definition.specs.Classes.{method_named}
 use Rattle.machine.specs.Machine.{Store as Stored}
 use Rattle.after.specs.Inherited.{parent_in, methods_in}
-use Rattle.store.specs.Stored.{store_of}
 use Rattle.store.specs.declared.nodes.Store.{Store}
 use Rattle.class_names.specs.Names.{names_in}
+use Rattle.class_names.specs.Read.{outside_in, store_in}
+use Rattle.class_names.specs.declared.tables.Tables.{Tables}
 use Rattle.class_rows.specs.declared.places.Above.{Above}
 
 -- column c of the n rows from row i on
@@ -40,10 +41,10 @@ pub record Stands (O : Outside) (s : Sheet) (o : Stored) (w : List ℕ) (k r p :
   pub stable : (j n : ℕ) → r < n → names_in O s o j n (256 + r) ≡ names_of O s o j r
   pub stable_methods : (n : ℕ) → r < n → methods_in O s o n (256 + r) ≡ methods_in O s o (rows s) (256 + r)
 
--- In the table of places, an entry that is not 0 is one more than the row where a class stands. All such classes have rows below r.
-pub record Placed (O : Outside) (s t q places w : List ℕ) (r k : ℕ) : Type 0 where
-  pub room : rows s ≤ length places
-  pub told : (j p : ℕ) → get_or places j 0 ≡ suc p → (j < r) × ((o : Store) → Stands O s (store_of o t q) w k j p)
+-- In the table of places of tables t, an entry that is not 0 is one more than the row where a class stands. All such classes have rows below r.
+pub record Placed (t : Tables) (places w : List ℕ) (r k : ℕ) : Type 0 where
+  pub room : rows t.sheet.now ≤ length places
+  pub told : (j p : ℕ) → get_or places j 0 ≡ suc p → (j < r) × ((o : Store) → Stands (outside_in t) t.sheet.now (store_in t o) w k j p)
 
 -- the entry of class c in the table of places
 unfoldable pub place_of : List ℕ → ℕ → ℕ
@@ -65,11 +66,12 @@ pub record Shows (O : Outside) (s : Sheet) (o : Stored) (j c : ℕ) (w : List �
   pub functions : (j ≡ 10 → ⊥) → column w 3 a.row a.count ≡ map (function_in O s o (rows s - 1) (parent_in s o c)) (names_in O s o j (rows s - 1) (parent_in s o c))
 
 -- If `a` tells a row, the names of kind j of the parent of class c stand there.
-abbrev pub Shown : Outside → List ℕ → List ℕ → List ℕ → ℕ → ℕ → List ℕ → ℕ → Above → Type 0
-Shown O s t q j c w k a = (a.row ≡ 0 → ⊥) → (o : Store) → Shows O s (store_of o t q) j c w k a
+abbrev pub Shown : Tables → ℕ → ℕ → List ℕ → ℕ → Above → Type 0
+Shown t j c w k a = (a.row ≡ 0 → ⊥) → (o : Store) → Shows (outside_in t) t.sheet.now (store_in t o) j c w k a
 
 -- If `a` tells a row, class c has a parent, and `a` tells how many names of kind j it has.
-abbrev pub Counted : Outside → List ℕ → List ℕ → List ℕ → ℕ → ℕ → Above → Type 0
-Counted O s t q j c a =
+abbrev pub Counted : Tables → ℕ → ℕ → Above → Type 0
+Counted t j c a =
     (a.row ≡ 0 → ⊥) → (o : Store)
-    → (parent_in s (store_of o t q) c ≡ 0 → ⊥) × (a.count ≡ length (names_in O s (store_of o t q) j (rows s - 1) (parent_in s (store_of o t q) c)))
+    → (parent_in t.sheet.now (store_in t o) c ≡ 0 → ⊥)
+    × (a.count ≡ length (names_in (outside_in t) t.sheet.now (store_in t o) j (rows t.sheet.now - 1) (parent_in t.sheet.now (store_in t o) c)))

@@ -6,10 +6,11 @@ ghost use Rattle.class_names.specs.Read.{outside_in, store_in};
 ghost use Rattle.definition.specs.Basics.{bit};
 ghost use Rattle.definition.specs.Answer.{eight};
 ghost use Rattle.after.specs.Rows.{class_rows_named};
-ghost use Rattle.sink.specs.Sink.{sink, emit_all};
+ghost use Rattle.sink.specs.Sink.{emit_all};
+ghost use Rattle.sink.specs.Written.{words_of, written};
 ghost use Rattle.store.specs.declared.nodes.Store.{Store};
 ghost use Rattle.class_names.specs.Names.{ClassReady, head_words};
-ghost use Rattle.name_rows.specs.Put.{Wants, words_of};
+ghost use Rattle.name_rows.specs.Put.{Wants};
 ghost use Rattle.ast.specs.Kind.{kind_number};
 ghost use Rattle.class_rows.specs.Places.{Placed, Shown, Counted};
 
@@ -23,8 +24,8 @@ use ast::kind::Kind;
 use ast::{ClassId, FIRST_CLASS};
 use class_names::tables::Tables;
 use inherit::parent_of;
-use name_rows::put::{Wanted, Written};
-use sink::{AnswerRow, emit};
+use name_rows::put::Wanted;
+use sink::{AnswerRow, Rows};
 
 // The slot of the first field.
 const FIRST_SLOT: u32 = 0;
@@ -51,9 +52,9 @@ fn wanted(row: u32, kind: Kind) -> Wanted
 
 // The first row of a class: its parent, whether it has children, and the numbers of its fields and methods.
 fn class_head(tables: Tables, subclassed: &[u32], above: Inherited, row: u32) -> AnswerRow
-    requires { (ClassReady (outside_in tables) tables.sheet.now tables.results.now tables.nodes.now subclassed.now row)
-        × (Counted (outside_in tables) tables.sheet.now tables.results.now tables.nodes.now 10 (256 + row) above.fields)
-        × (Counted (outside_in tables) tables.sheet.now tables.results.now tables.nodes.now 6 (256 + row) above.methods) }
+    requires { (ClassReady tables subclassed.now row)
+        × (Counted tables 10 (256 + row) above.fields)
+        × (Counted tables 6 (256 + row) above.methods) }
     ensures { (o : Store) → words_of result
         ≡ eight (row ∷ head_words (outside_in tables.entry) tables.entry.sheet.now
         (store_in tables.entry o) row) }
@@ -64,7 +65,7 @@ fn class_head(tables: Tables, subclassed: &[u32], above: Inherited, row: u32) ->
     let method_count = count_line(tables, wanted(row, Kind::Function), above.methods);
     AnswerRow {
         row: row,
-        code: Code::ClassCounts as u32,
+        code: Code::ClassCounts,
         one: parent,
         two: children,
         three: field_count,
@@ -72,65 +73,58 @@ fn class_head(tables: Tables, subclassed: &[u32], above: Inherited, row: u32) ->
     }
 }
 
-// The rows of the class of `row`, after `k` rows: its counts, its fields by slot, its methods.
-fn write_class(
-    tables: Tables,
-    subclassed: &[u32],
-    above: Inherited,
-    row: u32,
-    k: usize,
-    out: &mut [u32],
-) -> usize
-    requires { (ClassReady (outside_in tables) tables.sheet.now tables.results.now tables.nodes.now subclassed.now row)
-        × (Shown (outside_in tables) tables.sheet.now tables.results.now tables.nodes.now 10 (256 + row) out.old k above.fields)
-        × (Shown (outside_in tables) tables.sheet.now tables.results.now tables.nodes.now 6 (256 + row) out.old k above.methods) }
-    ensures { (o : Store) → sink result out.new
+// The rows of the class of `row`: its counts, its fields by slot, its methods.
+fn write_class(out: &mut Rows<'_>, tables: Tables, subclassed: &[u32], above: Inherited, row: u32)
+    requires { (ClassReady tables subclassed.now row)
+        × (Shown tables 10 (256 + row) out.old.words.now out.old.count above.fields)
+        × (Shown tables 6 (256 + row) out.old.words.now out.old.count above.methods) }
+    ensures step { (o : Store) → written out.new
         ≡ emit_all (map (λ vs. eight (row ∷ vs))
         (class_rows_named (outside_in tables.entry) tables.entry.sheet.now (store_in tables.entry o) row))
-        (sink k out.old) }
+        (written out.old) }
+    ensures same { out.new.words.ghost_name ≡ out.old.words.ghost_name }
 {
     let head = class_head(tables, subclassed, above, row);
-    let first = Written {
-        count: emit(out, k, head),
-        slot: FIRST_SLOT,
-    };
-    let done = put_line(tables, wanted(row, Kind::Field), above.fields, first, out);
-    let second = Written {
-        count: done.count,
-        slot: FIRST_SLOT,
-    };
+    out.push(head);
     put_line(
+        out,
+        tables,
+        wanted(row, Kind::Field),
+        above.fields,
+        FIRST_SLOT,
+    );
+    put_line(
+        out,
         tables,
         wanted(row, Kind::Function),
         above.methods,
-        second,
-        out,
-    )
-    .count
+        FIRST_SLOT,
+    );
 }
 
 // The same, with what the class inherits copied from the rows of its parent, if they have a place. Then the class has a place too. Where
 // no row fits, nothing is looked for.
 pub fn emit_class(
+    out: &mut Rows<'_>,
     tables: Tables,
     subclassed: &[u32],
     starts: &mut [usize],
     row: u32,
-    k: usize,
-    out: &mut [u32],
-) -> usize
-    requires { (ClassReady (outside_in tables) tables.sheet.now tables.results.now tables.nodes.now subclassed.now row)
-        × (Placed (outside_in tables) tables.sheet.now tables.results.now tables.nodes.now starts.old out.old row k) }
-    ensures { ((o : Store) → sink result out.new
+)
+    requires { (ClassReady tables subclassed.now row)
+        × (Placed tables starts.old out.old.words.now row out.old.count) }
+    ensures step { (o : Store) → written out.new
         ≡ emit_all (map (λ vs. eight (row ∷ vs))
         (class_rows_named (outside_in tables.entry) tables.entry.sheet.now (store_in tables.entry o) row))
-        (sink k out.old)) ×
-        (Placed (outside_in tables.entry) tables.entry.sheet.now tables.entry.results.now tables.entry.nodes.now starts.new
-        out.new (row + 1) result) }
+        (written out.old) }
+    ensures placed { Placed tables.entry starts.new out.new.words.now (row + 1) out.new.count }
+    ensures same { out.new.words.ghost_name ≡ out.old.words.ghost_name }
 {
-    let room = out.len() / 8;
-    if room <= k {
-        return room + 1;
+    let room = out.room();
+    let start = out.count;
+    if room <= start {
+        out.count = room + 1;
+        return;
     }
     let parent = parent_of(tables.sheet, tables.results, ClassId(FIRST_CLASS + row));
     let at = place_of(starts, parent);
@@ -138,13 +132,12 @@ pub fn emit_class(
         fields: above_of(out, at, Kind::Field),
         methods: above_of(out, at, Kind::Function),
     };
-    let count = write_class(tables, subclassed, above, row, k, out);
-    if room < count {
-        return count;
+    write_class(out, tables, subclassed, above, row);
+    if room < out.count {
+        return;
     }
     if !line_ends(tables.sheet, at, parent, row) {
-        return count;
+        return;
     }
-    starts[row as usize] = k + 1;
-    count
+    starts[row as usize] = start + 1;
 }

@@ -7,6 +7,7 @@ ghost use Rattle.class_rows.specs.Places.{place_of, above_of};
 use ast::kind::Kind;
 use ast::{ClassId, FIRST_CLASS};
 use sheet::is_class_row;
+use sink::Rows;
 
 // Where the names of a class stand: their first row and their number. Row 0: nowhere.
 #[derive(Clone, Copy)]
@@ -35,15 +36,15 @@ pub fn place_of(starts: &[usize], c: ClassId) -> usize
 
 // Where the names of a class of entry `at` stand.
 #[tactic(auto, using(ast::proofs::KindLaws::same_kind), unfolding(crate::specs::Places::above_of))]
-pub fn above_of(out: &[u32], at: usize, kind: Kind) -> Above
-    requires { at ≤ length out.now / 8 }
-    ensures { result ≡ above_of out.now at (kind_number kind) }
+pub fn above_of(out: &Rows<'_>, at: usize, kind: Kind) -> Above
+    requires { at ≤ length out.now.words.now / 8 }
+    ensures { result ≡ above_of out.now.words.now at (kind_number kind) }
 {
     if at == 0 {
         return Above { row: 0, count: 0 };
     }
     let first = 8 * (at - 1);
-    let fields = out[first + 4];
+    let fields = out.words[first + 4];
     if kind == Kind::Field {
         return Above {
             row: at,
@@ -52,7 +53,7 @@ pub fn above_of(out: &[u32], at: usize, kind: Kind) -> Above
     }
     Above {
         row: at + fields as usize,
-        count: out[first + 5],
+        count: out.words[first + 5],
     }
 }
 

@@ -14,6 +14,7 @@ ghost use Rattle.outside.specs.Words.{over};
 use answer::{Answer, accept, refuse_at};
 use answer_rows::emit_rows;
 use ast::question::Refusal;
+use class_names::tables::Tables;
 use inherit::later_refusal;
 use store::nodes::Store;
 use walk::ended::Ended;
@@ -51,7 +52,13 @@ fn write_answer(
         × (Accepted (over outside.now) sheet.now (store_of store results.now nodes.now) globals) }
     ensures { Settled (over outside.now) sheet.now (length out.old) result out.new }
 {
-    let n = emit_rows(sheet, outside, results, nodes, store, out);
+    let tables = Tables {
+        sheet,
+        outside,
+        results,
+        nodes,
+    };
+    let n = emit_rows(tables, store, out);
     accept(n, globals, out)
 }
 

@@ -14,7 +14,8 @@ ghost use Rattle.symbols.specs.OpenDecls.{means, slot_or, number_or};
 ghost use Rattle.machine.specs.Reads.{answer_row, meaning_of_node};
 ghost use Rattle.after.specs.Rows.{literal_rows_in, function_rows_in};
 ghost use Rattle.class_names.specs.Read.{store_in};
-ghost use Rattle.sink.specs.Sink.{sink, emit as emitted, emit_all};
+ghost use Rattle.sink.specs.Sink.{emit as emitted, emit_all};
+ghost use Rattle.sink.specs.Written.{written};
 ghost use Rattle.fun_rows.specs.Literals.{LiteralChains};
 ghost use Rattle.fun_rows.specs.Escaping.{slots_left};
 
@@ -23,33 +24,20 @@ use crate::literals::Literals;
 use ast::code::Code;
 use ast::{Decl, FunId, column};
 use class_names::tables::Tables;
-use sink::{AnswerRow, emit};
+use sink::{AnswerRow, Rows};
 use store::code::{code_of, seen_in};
 use store::nodes::{Store, count_nodes, node_before, node_word};
 use store::{node, result};
 use symbols::decl::OpenDecl;
 use words::word;
 
-// The row of sheet row `r` with a code and three values.
-fn emit_words(r: u32, x: [u32; 4], k: usize, out: &mut [u32]) -> usize
-    ensures { sink result out.new ≡ emitted (answer_row r x) (sink k out.old) }
-{
-    let row = AnswerRow {
-        row: r,
-        code: x[0],
-        one: x[1],
-        two: x[2],
-        three: x[3],
-        four: 0,
-    };
-    emit(out, k, row)
-}
-
 // The row of sheet `row`, told as a declaration.
-fn emit_decl(row: u32, d: Decl, k: usize, out: &mut [u32]) -> usize
-    ensures { sink result out.new ≡ emitted (answer_row row (code_and_values d)) (sink k out.old) }
+fn emit_decl(out: &mut Rows<'_>, row: u32, d: Decl)
+    ensures step { written out.new ≡ emitted (answer_row row (code_and_values d)) (written out.old) }
+    ensures same { out.new.words.ghost_name ≡ out.old.words.ghost_name }
 {
-    emit_words(row, d.words(), k, out)
+    let x = d.words();
+    out.push_words([row, x[0], x[1], x[2], x[3], 0, 0, 0]);
 }
 
 // The local or argument that node `i` of a capture list stands for.
@@ -64,35 +52,37 @@ fn captured_at(nodes: &[u32], i: u32) -> OpenDecl
 }
 
 // What a function captures, by rising index: the list whose last node is node `p - 1`.
-fn emit_captured(tables: Tables, row: u32, p: u32, k: usize, out: &mut [u32]) -> usize
+fn emit_captured(out: &mut Rows<'_>, tables: Tables, row: u32, p: u32)
     requires { length tables.sheet.now ≤ 16384 }
-    ensures { sink result out.new
+    ensures step { written out.new
         ≡ emit_all (map (λ y. eight (row ∷ code_of tables.entry.sheet.now (meaning_of_node y) y.two 0)) (chain_to tables.entry.nodes.now p))
-        (sink k out.old) }
+        (written out.old) }
+    ensures same { out.new.words.ghost_name ≡ out.old.words.ghost_name }
 {
     if p == 0 {
-        return k;
+        return;
     }
     let i = p - 1;
-    let n = emit_captured(tables, row, node_before(tables.nodes, i), k, out);
+    emit_captured(out, tables, row, node_before(tables.nodes, i));
     let x = code_of(tables.sheet, captured_at(tables.nodes, i));
-    emit_decl(row, x, n, out)
+    emit_decl(out, row, x);
 }
 
 // What a literal that stands in function `fun` hands on, in the same order. Not one routine with `emit_captured`: a closure for the row
 // would have to tell both what it reads of the sheet and what of the store, which is no shorter.
-fn emit_sources(tables: Tables, row: u32, fun: FunId, p: u32, k: usize, out: &mut [u32]) -> usize
+fn emit_sources(out: &mut Rows<'_>, tables: Tables, row: u32, fun: FunId, p: u32)
     requires { length tables.sheet.now ≤ 16384 }
-    ensures { (o : Store) → sink result out.new
+    ensures step { (o : Store) → written out.new
         ≡ emit_all (map (λ y. eight
         (row ∷ seen_in tables.entry.sheet.now (meaning_of_node y) y.two 0 fun.0 (store_in tables.entry o)))
-        (chain_to tables.entry.nodes.now p)) (sink k out.old) }
+        (chain_to tables.entry.nodes.now p)) (written out.old) }
+    ensures same { out.new.words.ghost_name ≡ out.old.words.ghost_name }
 {
     if p == 0 {
-        return k;
+        return;
     }
     let i = p - 1;
-    let n = emit_sources(tables, row, fun, node_before(tables.nodes, i), k, out);
+    emit_sources(out, tables, row, fun, node_before(tables.nodes, i));
     let x = seen_in(
         tables.sheet,
         captured_at(tables.nodes, i),
@@ -100,15 +90,16 @@ fn emit_sources(tables: Tables, row: u32, fun: FunId, p: u32, k: usize, out: &mu
         tables.results,
         tables.nodes,
     );
-    emit_decl(row, x, n, out)
+    emit_decl(out, row, x);
 }
 
 // The rows of literal `row`: one for each source.
-pub fn emit_literal(tables: Tables, row: u32, k: usize, out: &mut [u32]) -> usize
+pub fn emit_literal(out: &mut Rows<'_>, tables: Tables, row: u32)
     requires { length tables.sheet.now ≤ 16384 }
-    ensures { (o : Store) → sink result out.new
+    ensures step { (o : Store) → written out.new
         ≡ emit_all (map (λ vs. eight (row ∷ vs))
-        (literal_rows_in tables.entry.sheet.now (store_in tables.entry o) row)) (sink k out.old) }
+        (literal_rows_in tables.entry.sheet.now (store_in tables.entry o) row)) (written out.old) }
+    ensures same { out.new.words.ghost_name ≡ out.old.words.ghost_name }
 {
     let fun = FunId(word(tables.results, row, result::ONE));
     let last = word(
@@ -116,51 +107,46 @@ pub fn emit_literal(tables: Tables, row: u32, k: usize, out: &mut [u32]) -> usiz
         word(tables.sheet, row, column::CHILD),
         result::CAPTURES,
     );
-    emit_sources(tables, row, fun, last, k, out)
+    emit_sources(out, tables, row, fun, last);
 }
 
 // A row for each escaping slot of function `f`.
-fn emit_escapes(f: FunId, slots: EscapingSlots, k: usize, out: &mut [u32]) -> usize
-    ensures { sink result out.new
+fn emit_escapes(out: &mut Rows<'_>, f: FunId, slots: EscapingSlots)
+    ensures step { written out.new
         ≡ emit_all (map (λ j. eight (f.0 ∷ 5 ∷ j ∷ f.0 ∷ 1 ∷ [])) (slots_left slots.entry))
-        (sink k out.old) }
+        (written out.old) }
+    ensures same { out.new.words.ghost_name ≡ out.old.words.ghost_name }
 {
-    let mut n = k;
     for slot in slots {
         let x = Decl::Local {
             idx: slot,
             src_fun: f,
             mutable: true,
         };
-        n = emit_decl(f.0, x, n, out);
+        emit_decl(out, f.0, x);
     }
-    n
 }
 
 // The rows of function `f`: its counts, what it captures, its escaping slots.
-pub fn emit_function(
-    tables: Tables,
-    literals: Literals,
-    f: FunId,
-    k: usize,
-    out: &mut [u32],
-) -> usize
+pub fn emit_function(out: &mut Rows<'_>, tables: Tables, literals: Literals, f: FunId)
     requires { (length tables.sheet.now ≤ 16384) × (f.0 < rows tables.sheet.now)
         × (LiteralChains tables.sheet.now tables.results.now literals.first.now literals.after.now) }
-    ensures { (o : Store) → sink result out.new
+    ensures step { (o : Store) → written out.new
         ≡ emit_all (map (λ vs. eight (f.0 ∷ vs))
         (function_rows_in tables.entry.sheet.now (store_in tables.entry o) f.0))
-        (sink k out.old) }
+        (written out.old) }
+    ensures same { out.new.words.ghost_name ≡ out.old.words.ghost_name }
 {
     let escaping = EscapingSlots::of(tables, literals, f);
     let last = word(tables.results, f.0, result::CAPTURES);
-    let x = [
-        Code::FunctionCounts as u32,
-        word(tables.results, f.0, result::LOCALS),
-        count_nodes(tables.nodes, last),
-        escaping.number(),
-    ];
-    let counted = emit_words(f.0, x, k, out);
-    let captured = emit_captured(tables, f.0, last, counted, out);
-    emit_escapes(f, escaping, captured, out)
+    out.push(AnswerRow {
+        row: f.0,
+        code: Code::FunctionCounts,
+        one: word(tables.results, f.0, result::LOCALS),
+        two: count_nodes(tables.nodes, last),
+        three: escaping.number(),
+        four: 0,
+    });
+    emit_captured(out, tables, f.0, last);
+    emit_escapes(out, f, escaping);
 }

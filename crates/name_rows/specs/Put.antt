@@ -7,12 +7,12 @@ use Rattle.definition.specs.Outside.{Outside}
 use Rattle.definition.specs.Classes.{method_named, own_methods}
 use Rattle.machine.specs.Machine.{Store as Stored, one_more}
 use Rattle.after.specs.Inherited.{methods_in}
-use Rattle.sink.specs.Sink.{Sink, sink, emit}
-use Rattle.sink.specs.declared.AnswerRow.{AnswerRow}
+use Rattle.sink.specs.Sink.{Sink, emit}
+use Rattle.sink.specs.declared.Rows.{Rows}
+use Rattle.sink.specs.Written.{written}
 use Rattle.class_names.specs.Names.{inherited, new_of}
 use Rattle.name_rows.specs.declared.put.Passed.{Passed}
 use Rattle.name_rows.specs.declared.put.Wanted.{Wanted}
-use Rattle.name_rows.specs.declared.put.Written.{Written}
 
 -- The names of kind j of the class of row r are wanted.
 pub record Wants (r j : ℕ) (w : Wanted) : Type 0 where
@@ -25,12 +25,8 @@ pub record Filled : Type 0 where
   pub done : Sink
   pub slot : ℕ
 
-abbrev pub filled : Written → List ℕ → Filled
-filled k w = record { done = sink k.count w; slot = k.slot }
-
--- the eight words of an answer row
-abbrev pub words_of : AnswerRow → List ℕ
-words_of x = x.row ∷ x.code ∷ x.one ∷ x.two ∷ x.three ∷ x.four ∷ 0 ∷ 0 ∷ []
+abbrev pub filled : ℕ → Rows → Filled
+filled slot rows = record { done = written rows; slot = slot }
 
 -- the row that tells name m: a field by its slot, a method by its function
 unfoldable pub name_row : Outside → Sheet → Stored → Wanted → ℕ → ℕ → List ℕ

@@ -5,11 +5,12 @@ ghost use Rattle.definition.specs.Sheet.{a, kids_of};
 ghost use Rattle.ast.specs.Kind.{kind_number};
 ghost use Rattle.outside.specs.Left.{names_left};
 ghost use Rattle.machine.specs.Machine.{chain_to, one_more as next_slot};
-ghost use Rattle.sink.specs.Sink.{sink, emit as emitted};
+ghost use Rattle.sink.specs.Sink.{emit as emitted};
+ghost use Rattle.sink.specs.Written.{words_of, written};
 ghost use Rattle.store.specs.Stored.{store_of};
 ghost use Rattle.store.specs.declared.nodes.Store.{Store};
 ghost use Rattle.class_names.specs.Names.{own_in, names_in};
-ghost use Rattle.name_rows.specs.Put.{filled, words_of, name_row, put, put_all, put_new};
+ghost use Rattle.name_rows.specs.Put.{filled, name_row, put, put_all, put_new};
 
 use ast::code::Code;
 use ast::kind::Kind;
@@ -20,7 +21,7 @@ use inherit::{find_method, parent_of};
 use outside::recorded_names::RecordedNames;
 use outside::records::recorded_names;
 use sheet::{is_class_row, kids_of};
-use sink::{AnswerRow, emit};
+use sink::{AnswerRow, Rows};
 use store::nodes::{node_before, node_word};
 use store::{node, result};
 use words::{one_more, word};
@@ -31,13 +32,6 @@ pub struct Wanted {
     pub kind: Kind,
     pub row: u32,
     pub class: ClassId,
-}
-
-// Rows written so far, and the next slot.
-#[derive(Clone, Copy)]
-pub struct Written {
-    pub count: usize,
-    pub slot: u32,
 }
 
 // The parent whose names are passed over, and how far they are climbed for.
@@ -56,7 +50,7 @@ fn name_row(tables: Tables, wanted: Wanted, m: u32, i: u32) -> AnswerRow
     if wanted.kind == Kind::Field {
         return AnswerRow {
             row: wanted.row,
-            code: Code::Field as u32,
+            code: Code::Field,
             one: i,
             two: m,
             three: 0,
@@ -73,7 +67,7 @@ fn name_row(tables: Tables, wanted: Wanted, m: u32, i: u32) -> AnswerRow
     .fun;
     AnswerRow {
         row: wanted.row,
-        code: Code::Method as u32,
+        code: Code::Method,
         one: m,
         two: fun.0,
         three: 0,
@@ -81,155 +75,141 @@ fn name_row(tables: Tables, wanted: Wanted, m: u32, i: u32) -> AnswerRow
     }
 }
 
-// One row more, that tells the name at the next slot.
-pub fn put_row(x: AnswerRow, k: Written, out: &mut [u32]) -> Written
-    ensures { filled result out.new ≡ record { done = emitted (words_of x) (sink k.count out.old); slot = next_slot k.slot } }
+// One row more, that tells the name at slot `slot`; the next slot.
+pub fn put_row(out: &mut Rows<'_>, x: AnswerRow, slot: u32) -> u32
+    ensures step { filled result out.new ≡ record { done = emitted (words_of x) (written out.old); slot = next_slot slot } }
+    ensures same { out.new.words.ghost_name ≡ out.old.words.ghost_name }
 {
-    Written {
-        count: emit(out, k.count, x),
-        slot: one_more(k.slot),
-    }
+    out.push(x);
+    one_more(slot)
 }
 
 // One name more, unless it is inherited. Measured: as a call it gets a copy of the tables for each name.
 #[inline(always)]
-fn put_new(
-    tables: Tables,
-    wanted: Wanted,
-    p: Passed,
-    m: u32,
-    k: Written,
-    out: &mut [u32],
-) -> Written
-    ensures { (o : Store) → filled result out.new
+fn put_new(out: &mut Rows<'_>, tables: Tables, wanted: Wanted, p: Passed, m: u32, slot: u32) -> u32
+    ensures step { (o : Store) → filled result out.new
         ≡ put_new (outside_in tables.entry) tables.entry.sheet.now (store_in tables.entry o) wanted p
-        (m ∷ []) (filled k out.old) }
+        (m ∷ []) (filled slot out.old) }
+    ensures same { out.new.words.ghost_name ≡ out.old.words.ghost_name }
 {
     if is_inherited(tables, wanted.kind, p.left, p.class, m) {
-        return k;
+        return slot;
     }
-    put_row(name_row(tables, wanted, m, k.slot), k, out)
+    put_row(out, name_row(tables, wanted, m, slot), slot)
 }
 
 // Names in the words from outside, in order.
 fn put_recorded(
+    out: &mut Rows<'_>,
     tables: Tables,
     wanted: Wanted,
     p: Passed,
     names: RecordedNames,
-    k: Written,
-    out: &mut [u32],
-) -> Written
-    ensures { (o : Store) → filled result out.new
+    slot: u32,
+) -> u32
+    ensures step { (o : Store) → filled result out.new
         ≡ put_new (outside_in tables.entry) tables.entry.sheet.now (store_in tables.entry o) wanted p
-        (names_left names.entry) (filled k out.old) }
+        (names_left names.entry) (filled slot out.old) }
+    ensures same { out.new.words.ghost_name ≡ out.old.words.ghost_name }
 {
-    let mut done = k;
+    let mut next = slot;
     for name in names {
-        done = put_new(tables, wanted, p, name, done, out);
+        next = put_new(out, tables, wanted, p, name, next);
     }
-    done
+    next
 }
 
 // The names of the children of row `r`, in order.
 fn put_listed(
+    out: &mut Rows<'_>,
     tables: Tables,
     wanted: Wanted,
     p: Passed,
     r: u32,
-    k: Written,
-    out: &mut [u32],
-) -> Written
-    ensures { (o : Store) → filled result out.new
+    slot: u32,
+) -> u32
+    ensures step { (o : Store) → filled result out.new
         ≡ put_new (outside_in tables.entry) tables.entry.sheet.now (store_in tables.entry o) wanted p
-        (map (a tables.entry.sheet.now) (kids_of tables.entry.sheet.now (kind_number wanted.kind) r)) (filled k out.old) }
+        (map (a tables.entry.sheet.now) (kids_of tables.entry.sheet.now (kind_number wanted.kind) r)) (filled slot out.old) }
+    ensures same { out.new.words.ghost_name ≡ out.old.words.ghost_name }
 {
-    let mut done = k;
+    let mut next = slot;
     for row in kids_of(tables.sheet, r, wanted.kind) {
         let name = word(tables.sheet, row, column::A);
-        done = put_new(tables, wanted, p, name, done, out);
+        next = put_new(out, tables, wanted, p, name, next);
     }
-    done
+    next
 }
 
 // The keys of the list whose last node is node `last - 1`, in order.
 fn put_stored(
+    out: &mut Rows<'_>,
     tables: Tables,
     wanted: Wanted,
     p: Passed,
     last: u32,
-    k: Written,
-    out: &mut [u32],
-) -> Written
-    ensures { (o : Store) → filled result out.new
+    slot: u32,
+) -> u32
+    ensures step { (o : Store) → filled result out.new
         ≡ put_new (outside_in tables.entry) tables.entry.sheet.now (store_in tables.entry o) wanted p
-        (map (λ y. y.key) (chain_to tables.entry.nodes.now last)) (filled k out.old) }
+        (map (λ y. y.key) (chain_to tables.entry.nodes.now last)) (filled slot out.old) }
+    ensures same { out.new.words.ghost_name ≡ out.old.words.ghost_name }
 {
     if last == 0 {
-        return k;
+        return slot;
     }
     let i = last - 1;
     let before = node_before(tables.nodes, i);
-    let done = put_stored(tables, wanted, p, before, k, out);
-    put_new(
-        tables,
-        wanted,
-        p,
-        node_word(tables.nodes, i, node::KEY),
-        done,
-        out,
-    )
+    let next = put_stored(out, tables, wanted, p, before, slot);
+    let name = node_word(tables.nodes, i, node::KEY);
+    put_new(out, tables, wanted, p, name, next)
 }
 
 // The own names of a class.
 pub fn put_own(
+    out: &mut Rows<'_>,
     tables: Tables,
     wanted: Wanted,
     p: Passed,
     c: ClassId,
-    k: Written,
-    out: &mut [u32],
-) -> Written
-    ensures { (o : Store) → filled result out.new
+    slot: u32,
+) -> u32
+    ensures step { (o : Store) → filled result out.new
         ≡ put_new (outside_in tables.entry) tables.entry.sheet.now (store_in tables.entry o) wanted p
         (own_in (outside_in tables.entry) tables.entry.sheet.now (store_in tables.entry o) (kind_number wanted.kind)
-        c.0) (filled k out.old) }
+        c.0) (filled slot out.old) }
+    ensures same { out.new.words.ghost_name ≡ out.old.words.ghost_name }
 {
     if is_class_row(tables.sheet, c) {
         let r = c.0 - FIRST_CLASS;
-        let done = put_listed(tables, wanted, p, r, k, out);
+        let next = put_listed(out, tables, wanted, p, r, slot);
         if wanted.kind == Kind::Field {
-            return put_stored(
-                tables,
-                wanted,
-                p,
-                word(tables.results, r, result::FIELDS),
-                done,
-                out,
-            );
+            let last = word(tables.results, r, result::FIELDS);
+            return put_stored(out, tables, wanted, p, last, next);
         }
-        return done;
+        return next;
     }
     let names = recorded_names(tables.outside, wanted.kind, c);
-    put_recorded(tables, wanted, p, names, k, out)
+    put_recorded(out, tables, wanted, p, names, slot)
 }
 
 // The names of class `c`: the inherited, then the own ones that are new. It climbs at most `n` classes.
 pub fn put_names(
+    out: &mut Rows<'_>,
     tables: Tables,
     wanted: Wanted,
     n: usize,
     c: ClassId,
-    k: Written,
-    out: &mut [u32],
-) -> Written
-    ensures { (o : Store) → filled result out.new
+    slot: u32,
+) -> u32
+    ensures step { (o : Store) → filled result out.new
         ≡ put_all (name_row (outside_in tables.entry) tables.entry.sheet.now (store_in tables.entry o) wanted)
         (names_in (outside_in tables.entry) tables.entry.sheet.now (store_in tables.entry o) (kind_number wanted.kind) n
-        c.0) (filled k out.old) }
+        c.0) (filled slot out.old) }
+    ensures same { out.new.words.ghost_name ≡ out.old.words.ghost_name }
 {
     if n == 0 {
-        return k;
+        return slot;
     }
     let up = parent_of(tables.sheet, tables.results, c);
     let p = Passed {
@@ -237,10 +217,10 @@ pub fn put_names(
         left: n - 1,
     };
     if up.0 == 0 {
-        return put_own(tables, wanted, p, c, k, out);
+        return put_own(out, tables, wanted, p, c, slot);
     }
-    let done = put_names(tables, wanted, n - 1, up, k, out);
-    put_own(tables, wanted, p, c, done, out)
+    let next = put_names(out, tables, wanted, n - 1, up, slot);
+    put_own(out, tables, wanted, p, c, next)
 }
 
 // How many names class `c` has, or the largest number of a word. Nothing is written: not one row fits.
@@ -250,6 +230,9 @@ pub fn count_names(tables: Tables, wanted: Wanted, n: usize, c: ClassId) -> u32
         (kind_number wanted.kind) n c.0)) 4294967295 }
 {
     let mut none = [0u32; 1];
-    let start = Written { count: 0, slot: 0 };
-    put_names(tables, wanted, n, c, start, &mut none).slot
+    let mut out = Rows {
+        words: &mut none,
+        count: 0,
+    };
+    put_names(&mut out, tables, wanted, n, c, 0)
 }

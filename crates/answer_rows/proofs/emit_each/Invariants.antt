@@ -1,10 +1,10 @@
 use Rattle.class_rows.specs.Places.{Placed}
 use Rattle.after.specs.Rows.{rows_in}
-use Rattle.store.specs.Stored.{store_of}
+use Rattle.class_names.specs.Read.{outside_in, store_in}
 use Rattle.store.specs.declared.nodes.Store.{Store}
-use Rattle.sink.specs.Sink.{sink, emit_all}
+use Rattle.sink.specs.Sink.{emit_all}
+use Rattle.sink.specs.Written.{written}
 use Rattle.definition.specs.Basics.{concat_map, from}
-use Rattle.outside.specs.Words.{over}
 use lib.ListN.{length}
 use mathlib.Core.Path.{◌≡◌}
 use Prim.Native.Nat.{◌-◌, ◌/◌, ◌≤◌}
@@ -13,9 +13,10 @@ use Rattle.answer_rows.proofs.emit_each.Given as goal
 abbrev pub invariant-loop-row : goal.invariant-loop-row
 invariant-loop-row l =
     ((o : Store)
-    → emit_all (concat_map (rows_in (over l.tables.outside.now) l.tables.sheet.now (store_of o l.tables.results.now l.tables.nodes.now)) (from l.row
-    (length l.tables.sheet.now / 8 - l.row))) (sink l.k l.out)
-    ≡ emit_all (concat_map (rows_in (over l.tables.outside.now) l.tables.sheet.now (store_of o l.tables.results.now l.tables.nodes.now)) (from 0 (length l.tables.sheet.now / 8)))
-    (sink 0 l.initial.out))
-    × (l.row ≤ length l.tables.sheet.now / 8) × (length l.out ≡ length l.initial.out) × (length l.starts ≡ length l.initial.starts)
-    × (Placed (over l.tables.outside.now) l.tables.sheet.now l.tables.results.now l.tables.nodes.now l.starts l.out l.row l.k)
+    → emit_all (concat_map (rows_in (outside_in l.tables) l.tables.sheet.now (store_in l.tables o)) (from l.row
+    (length l.tables.sheet.now / 8 - l.row))) (written l.out)
+    ≡ emit_all (concat_map (rows_in (outside_in l.tables) l.tables.sheet.now (store_in l.tables o)) (from 0 (length l.tables.sheet.now / 8)))
+    (written l.initial.out))
+    × (l.row ≤ length l.tables.sheet.now / 8) × (length l.starts ≡ length l.initial.starts)
+    × (Placed l.tables l.starts l.out.words.now l.row l.out.count)
+    × (l.out.words.ghost_name ≡ l.initial.out.words.ghost_name)

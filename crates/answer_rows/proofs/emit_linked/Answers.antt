@@ -15,4 +15,4 @@ mark_parents-requires c =
 
 pub emit_each-requires : goal.emit_each-requires
 emit_each-requires c =
-    (rows_ready c.requires.0 c.requires.1 c.link_literals.ensures c.mark_parents.ensures, c.requires.3)
+    (rows_ready c.args.tables c.requires.0 c.requires.1 c.link_literals.ensures c.mark_parents.ensures, c.requires.3, c.requires.4)

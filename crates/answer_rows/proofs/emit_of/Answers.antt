@@ -9,16 +9,25 @@ use Rattle.ast.specs.declared.kind.Kind.TheVariants.{Let, HostConstant, Instance
 use Rattle.ast.specs.Kind.{kind_number}
 use Rattle.outside.specs.Words.{over}
 use Rattle.answer_rows.proofs.RowLaws.{rows_let, rows_host, rows_instance, rows_identifier, rows_member}
-use Rattle.answer_rows.proofs.RowLaws.{rows_literal, rows_function, rows_class, rows_none, with_places}
+use Rattle.answer_rows.proofs.RowLaws.{rows_literal, rows_function, rows_class, rows_none}
 use Rattle.store.specs.Stored.{store_of}
-use Rattle.sink.specs.Sink.{sink, emit_all}
-use mathlib.Core.Path.{sym, ap, ◌∙◌}
+use Rattle.sink.specs.Sink.{emit_all}
+use Rattle.sink.specs.Written.{written}
+use mathlib.Core.Path.{◌≡◌, refl, sym, ap, ◌∙◌}
 use Rattle.definition.specs.Answer.{eight}
 use Rattle.definition.proofs.Lists.Tests.{eqb_of}
 use Rattle.definition.specs.Sheet.{kind}
 use mathlib.Core.List.{List, ◌∷◌, map}
 use Prim.Native.Nat.{ℕ}
+use Rattle.after.specs.Rows.{rows_in}
+use Rattle.class_rows.proofs.PlaceLaws.{placed_kept}
+use Rattle.sink.proofs.SinkLaws.{emit_one}
+use Rattle.store.specs.declared.nodes.Store.{Store}
 use Rattle.answer_rows.proofs.emit_of.Goals as goal
+
+-- the counters of a store say nothing about its rows
+no_counts : Store
+no_counts = record { used = 0; calls = 0 }
 
 pub emit_literal-requires : goal.emit_literal-requires
 emit_literal-requires c =
@@ -32,86 +41,53 @@ pub emit_class-requires : goal.emit_class-requires
 emit_class-requires c =
     let ready = c.requires.0 in
     let t =
-    eqb_of (kind c.args.tables.sheet.now c.args.turn.row) 4
+    eqb_of (kind c.args.tables.sheet.now c.args.row) 4
     (c.in-Ok-Class.ensures ∙ ap kind_number c.in-Ok-Class.field-0-is) in (
       record {
         row = c.requires.1;
         short = ready.small;
         marked = ready.marked;
-        fields = ready.fields c.args.turn.row t;
-        methods = ready.methods c.args.turn.row t;
+        fields = ready.fields c.args.row t;
+        methods = ready.methods c.args.row t;
       },
       c.requires.2,
     )
 
-pub returns-in-Ok-Let : goal.returns-in-Ok-Let
-returns-in-Ok-Let c =
-    let kind_is_lem = c.in-Ok-Let.ensures ∙ ap kind_number c.in-Ok-Let.field-0-is in
-    with_places c.requires.2 _ (λ o. rows_let (over c.args.tables.outside.now) c.args.tables.sheet.now
-    (store_of o c.args.tables.results.now c.args.tables.nodes.now)
-    c.args.turn.row (sink c.args.turn.count c.args.out.now) kind_is_lem c.emit_row.ensures)
+pub returns-in-Ok-Let-clause-placed : goal.returns-in-Ok-Let-clause-placed
+returns-in-Ok-Let-clause-placed c = placed_kept c.requires.2 _ (emit_one _ _ c.emit_row.ensures.step)
 
-pub returns-in-Ok-HostConstant : goal.returns-in-Ok-HostConstant
-returns-in-Ok-HostConstant c =
-    let kind_is_lem = c.in-Ok-HostConstant.ensures ∙ ap kind_number c.in-Ok-HostConstant.field-0-is in
-    with_places c.requires.2 _ (λ o. rows_host (over c.args.tables.outside.now) c.args.tables.sheet.now
-    (store_of o c.args.tables.results.now c.args.tables.nodes.now)
-    c.args.turn.row (sink c.args.turn.count c.args.out.now) kind_is_lem c.emit_row-in-Ok-HostConstant.ensures)
+pub returns-in-Ok-HostConstant-clause-placed : goal.returns-in-Ok-HostConstant-clause-placed
+returns-in-Ok-HostConstant-clause-placed c = placed_kept c.requires.2 _ (emit_one _ _ c.emit_row-in-Ok-HostConstant.ensures.step)
 
-pub returns-in-Ok-Instanceof : goal.returns-in-Ok-Instanceof
-returns-in-Ok-Instanceof c =
-    let kind_is_lem = c.in-Ok-Instanceof.ensures ∙ ap kind_number c.in-Ok-Instanceof.field-0-is in
-    with_places c.requires.2 _ (λ o. rows_instance (over c.args.tables.outside.now) c.args.tables.sheet.now
-    (store_of o c.args.tables.results.now c.args.tables.nodes.now)
-    c.args.turn.row (sink c.args.turn.count c.args.out.now) kind_is_lem c.emit_row-in-Ok-Instanceof.ensures)
+pub returns-in-Ok-Instanceof-clause-placed : goal.returns-in-Ok-Instanceof-clause-placed
+returns-in-Ok-Instanceof-clause-placed c = placed_kept c.requires.2 _ (emit_one _ _ c.emit_row-in-Ok-Instanceof.ensures.step)
 
-pub returns-in-Ok-Identifier : goal.returns-in-Ok-Identifier
-returns-in-Ok-Identifier c =
-    let kind_is_lem = c.in-Ok-Identifier.ensures ∙ ap kind_number c.in-Ok-Identifier.field-0-is in
-    with_places c.requires.2 _ (λ o. rows_identifier (over c.args.tables.outside.now) c.args.tables.sheet.now
-    (store_of o c.args.tables.results.now c.args.tables.nodes.now)
-    c.args.turn.row (sink c.args.turn.count c.args.out.now) kind_is_lem c.emit_shown.ensures)
+pub returns-in-Ok-Identifier-clause-placed : goal.returns-in-Ok-Identifier-clause-placed
+returns-in-Ok-Identifier-clause-placed c = placed_kept c.requires.2 _ c.emit_shown.ensures.step
 
-pub returns-in-Ok-Member : goal.returns-in-Ok-Member
-returns-in-Ok-Member c =
-    let kind_is_lem = c.in-Ok-Member.ensures ∙ ap kind_number c.in-Ok-Member.field-0-is in
-    with_places c.requires.2 _ (λ o. rows_member (over c.args.tables.outside.now) c.args.tables.sheet.now
-    (store_of o c.args.tables.results.now c.args.tables.nodes.now)
-    c.args.turn.row (sink c.args.turn.count c.args.out.now) kind_is_lem
-    c.emit_member.ensures)
+pub returns-in-Ok-Member-clause-placed : goal.returns-in-Ok-Member-clause-placed
+returns-in-Ok-Member-clause-placed c = placed_kept c.requires.2 _ c.emit_member.ensures.step
 
-pub returns-in-Ok-Literal : goal.returns-in-Ok-Literal
-returns-in-Ok-Literal c =
-    let kind_is_lem = c.in-Ok-Literal.ensures ∙ ap kind_number c.in-Ok-Literal.field-0-is in
-    with_places c.requires.2 _ (λ o. rows_literal (over c.args.tables.outside.now) c.args.tables.sheet.now
-    (store_of o c.args.tables.results.now c.args.tables.nodes.now)
-    c.args.turn.row (sink c.args.turn.count c.args.out.now) kind_is_lem
-    (c.emit_literal.ensures o))
+pub returns-in-Ok-Literal-clause-placed : goal.returns-in-Ok-Literal-clause-placed
+returns-in-Ok-Literal-clause-placed c = placed_kept c.requires.2 _ (c.emit_literal.ensures.step no_counts)
 
-pub returns-in-Ok-Function : goal.returns-in-Ok-Function
-returns-in-Ok-Function c =
-    let kind_is_lem = c.in-Ok-Function.ensures ∙ ap kind_number c.in-Ok-Function.field-0-is in
-    with_places c.requires.2 _ (λ o. rows_function (over c.args.tables.outside.now) c.args.tables.sheet.now
-    (store_of o c.args.tables.results.now c.args.tables.nodes.now)
-    c.args.turn.row (sink c.args.turn.count c.args.out.now) kind_is_lem
-    (c.emit_function.ensures o))
+pub returns-in-Ok-Function-clause-placed : goal.returns-in-Ok-Function-clause-placed
+returns-in-Ok-Function-clause-placed c = placed_kept c.requires.2 _ (c.emit_function.ensures.step no_counts)
 
-pub returns-in-Ok-Class : goal.returns-in-Ok-Class
-returns-in-Ok-Class c =
-    let k = sink c.args.turn.count c.args.out.now in
+pub returns-in-Ok-Class-clause-step : goal.returns-in-Ok-Class-clause-step
+returns-in-Ok-Class-clause-step c =
+    let k = written c.args.out.now in
     let kind_is_lem = c.in-Ok-Class.ensures ∙ ap kind_number c.in-Ok-Class.field-0-is in
-    let said = c.emit_class.ensures in (
-      λ o. rows_class (over c.args.tables.outside.now) c.args.tables.sheet.now
-          (store_of o c.args.tables.results.now c.args.tables.nodes.now) c.args.turn.row k kind_is_lem
-          (said.0 o
-          ∙ ap (λ (l : List (List ℕ)). emit_all (map (λ vs. eight (c.args.turn.row ∷ vs)) l) k)
-          (c.requires.0.named c.args.turn.row o)),
-      said.1,
-    )
+    λ o. rows_class (over c.args.tables.outside.now) c.args.tables.sheet.now
+    (store_of o c.args.tables.results.now c.args.tables.nodes.now) c.args.row k kind_is_lem
+    (c.emit_class.ensures.step o
+    ∙ ap (λ (l : List (List ℕ)). emit_all (map (λ vs. eight (c.args.row ∷ vs)) l) k)
+    (c.requires.0.named c.args.row o))
 
 pub returns-in_default : goal.returns-in_default
 returns-in_default c =
-    with_places c.requires.2 _ (λ o. rows_none (outside_in c.args.tables) c.args.tables.sheet.now (store_in c.args.tables o) c.args.turn.row (sink c.args.turn.count c.args.out.now)
+    let step : (o : Store) → written c.args.out.now ≡ emit_all (rows_in (over c.args.tables.outside.now) c.args.tables.sheet.now (store_in c.args.tables o) c.args.row) (written c.args.out.now) =
+    λ o. rows_none (outside_in c.args.tables) c.args.tables.sheet.now (store_in c.args.tables o) c.args.row (written c.args.out.now)
     (λ e. omega (arith, ap (tag_of the_type) (kind_of_number _ Let (sym c.in_default.ensures ∙ e))))
     (λ e. omega (arith, ap (tag_of the_type) (kind_of_number _ HostConstant (sym c.in_default.ensures ∙ e))))
     (λ e. omega (arith, ap (tag_of the_type) (kind_of_number _ Instanceof (sym c.in_default.ensures ∙ e))))
@@ -119,11 +95,14 @@ returns-in_default c =
     (λ e. omega (arith, ap (tag_of the_type) (kind_of_number _ Member (sym c.in_default.ensures ∙ e))))
     (λ e. omega (arith, ap (tag_of the_type) (kind_of_number _ Literal (sym c.in_default.ensures ∙ e))))
     (λ e. omega (arith, ap (tag_of the_type) (kind_of_number _ Function (sym c.in_default.ensures ∙ e))))
-    (λ e. omega (arith, ap (tag_of the_type) (kind_of_number _ Class (sym c.in_default.ensures ∙ e)))))
+    (λ e. omega (arith, ap (tag_of the_type) (kind_of_number _ Class (sym c.in_default.ensures ∙ e)))) in
+    record { step = step; placed = placed_kept c.requires.2 _ (step no_counts); same = refl }
 
 pub returns-in_default-2 : goal.returns-in_default-2
 returns-in_default-2 c =
-    let told : ReadsKind (kind c.args.tables.sheet.now c.args.turn.row) (Err c.in_default.field-0) = rw c.in_default.is at c.kind_at.ensures in
+    let told : ReadsKind (kind c.args.tables.sheet.now c.args.row) (Err c.in_default.field-0) = rw c.in_default.is at c.kind_at.ensures in
     let other = told.1 in
-    with_places c.requires.2 _ (λ o. rows_none (outside_in c.args.tables) c.args.tables.sheet.now (store_in c.args.tables o) c.args.turn.row (sink c.args.turn.count c.args.out.now)
-    (other Let) (other HostConstant) (other Instanceof) (other Identifier) (other Member) (other Literal) (other Function) (other Class))
+    let step : (o : Store) → written c.args.out.now ≡ emit_all (rows_in (over c.args.tables.outside.now) c.args.tables.sheet.now (store_in c.args.tables o) c.args.row) (written c.args.out.now) =
+    λ o. rows_none (outside_in c.args.tables) c.args.tables.sheet.now (store_in c.args.tables o) c.args.row (written c.args.out.now)
+    (other Let) (other HostConstant) (other Instanceof) (other Identifier) (other Member) (other Literal) (other Function) (other Class) in
+    record { step = step; placed = placed_kept c.requires.2 _ (step no_counts); same = refl }

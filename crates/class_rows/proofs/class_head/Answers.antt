@@ -1,26 +1,22 @@
 use native.Mathlib.Omega.{arith}
 use Rattle.class_rows.proofs.AboveLaws.{counted_wanted}
 use Rattle.class_rows.proofs.ClassLaws.{head_row}
-use Rattle.outside.specs.Words.{over}
 use Rattle.class_rows.proofs.class_head.Goals as goal
 
 pub count_line-field_count-requires : goal.count_line-field_count-requires
 count_line-field_count-requires c = (
   omega (arith, c.requires.0.row),
-  counted_wanted (over c.args.tables.outside.now) c.args.tables.sheet.now c.args.tables.results.now
-      c.args.tables.nodes.now c.wanted.ensures c.requires.1,
+  counted_wanted c.args.tables c.wanted.ensures c.requires.1,
 )
 
 pub count_line-method_count-requires : goal.count_line-method_count-requires
 count_line-method_count-requires c = (
   omega (arith, c.requires.0.row),
-  counted_wanted (over c.args.tables.outside.now) c.args.tables.sheet.now c.args.tables.results.now
-      c.args.tables.nodes.now c.wanted-2.ensures c.requires.2,
+  counted_wanted c.args.tables c.wanted-2.ensures c.requires.2,
 )
 
 pub returns : goal.returns
 returns c =
-    λ o. head_row (over c.args.tables.outside.now) c.args.tables.sheet.now c.args.tables.results.now
-    c.args.tables.nodes.now c.args.subclassed.now c.args.row c.requires.0 o
+    λ o. head_row c.args.tables c.args.subclassed.now c.args.row c.requires.0 o
     (c.parent_of-parent.ensures o c.args.tables.nodes.now) c.mark_bit-children.ensures c.wanted.ensures
     (c.count_line-field_count.ensures o) c.wanted-2.ensures (c.count_line-method_count.ensures o)

@@ -8,16 +8,18 @@ use Rattle.class_rows.proofs.AboveLaws.{entry_fits_lem, fields_shown, methods_sh
 use Rattle.outside.specs.Words.{over}
 use Rattle.class_rows.proofs.emit_class.Goals as goal
 
-pub returns-then-room-k : goal.returns-then-room-k
-returns-then-room-k c =
-    let o : Store = record { used = 0; calls = 0 } in (
-      λ o. class_full (over c.args.tables.outside.now) c.args.tables.sheet.now
-          (store_of o c.args.tables.results.now c.args.tables.nodes.now) c.args.row c.args.k
-          c.args.out.now c.if-room-k.true,
-      placed_kept c.requires.1 _ (class_full (over c.args.tables.outside.now) c.args.tables.sheet.now
-          (store_of o c.args.tables.results.now c.args.tables.nodes.now) c.args.row c.args.k
-          c.args.out.now c.if-room-k.true),
-    )
+pub returns-then-room-start-clause-step : goal.returns-then-room-start-clause-step
+returns-then-room-start-clause-step c =
+    λ o. class_full (over c.args.tables.outside.now) c.args.tables.sheet.now
+    (store_of o c.args.tables.results.now c.args.tables.nodes.now) c.args.row c.args.out.now.count
+    c.args.out.now.words.now c.room-room.ensures c.if-room-start.true
+
+pub returns-then-room-start-clause-placed : goal.returns-then-room-start-clause-placed
+returns-then-room-start-clause-placed c =
+    let o : Store = record { used = 0; calls = 0 } in
+    placed_kept c.requires.1 _ (class_full (over c.args.tables.outside.now) c.args.tables.sheet.now
+    (store_of o c.args.tables.results.now c.args.tables.nodes.now) c.args.row c.args.out.now.count
+    c.args.out.now.words.now c.room-room.ensures c.if-room-start.true)
 
 pub above_of-requires : goal.above_of-requires
 above_of-requires c =
@@ -29,8 +31,8 @@ above_of-requires-2 c =
     entry_fits_lem c.requires.1 c.requires.0.row (λ o. c.parent_of-parent.ensures o c.args.tables.nodes.now)
     c.place_of-at.ensures
 
-pub write_class-count-requires : goal.write_class-count-requires
-write_class-count-requires c = (
+pub write_class-requires : goal.write_class-requires
+write_class-requires c = (
   c.requires.0,
   fields_shown c.requires.1 c.requires.0.row (λ o. c.parent_of-parent.ensures o c.args.tables.nodes.now)
       c.place_of-at.ensures c.above_of.ensures,
@@ -38,13 +40,13 @@ write_class-count-requires c = (
       c.place_of-at.ensures c.above_of-2.ensures,
 )
 
-pub returns-then-room-count : goal.returns-then-room-count
-returns-then-room-count c =
-    (c.write_class-count.ensures, placed_kept c.requires.1 _ (c.write_class-count.ensures (record { used = 0; calls = 0 })))
+pub returns-then-room-out-clause-placed : goal.returns-then-room-out-clause-placed
+returns-then-room-out-clause-placed c =
+    placed_kept c.requires.1 _ (c.write_class.ensures.step (record { used = 0; calls = 0 }))
 
-pub returns-then-not-line_ends : goal.returns-then-not-line_ends
-returns-then-not-line_ends c =
-    (c.write_class-count.ensures, placed_kept c.requires.1 _ (c.write_class-count.ensures (record { used = 0; calls = 0 })))
+pub returns-then-not-line_ends-clause-placed : goal.returns-then-not-line_ends-clause-placed
+returns-then-not-line_ends-clause-placed c =
+    placed_kept c.requires.1 _ (c.write_class.ensures.step (record { used = 0; calls = 0 }))
 
 pub offset_bounds-starts-row : goal.offset_bounds-starts-row
 offset_bounds-starts-row c =
@@ -54,17 +56,15 @@ pub bounds-starts-row : goal.bounds-starts-row
 bounds-starts-row c =
     omega (arith, c.requires.0.row, c.requires.1.room)
 
-pub returns : goal.returns
-returns c =
+pub returns-clause-placed : goal.returns-clause-placed
+returns-clause-placed c =
     let steady =
     line_steady c.requires.1 c.requires.0.row (λ o. c.parent_of-parent.ensures o c.args.tables.nodes.now)
     c.place_of-at.ensures
-    (sym c.if-not-line_ends.false ∙ c.line_ends.ensures) in (
-      c.write_class-count.ensures,
-      placed_more c.requires.1 _ (c.write_class-count.ensures (record { used = 0; calls = 0 }))
-          (λ o. stands_now (over c.args.tables.outside.now) c.args.tables.sheet.now
-          (store_of o c.args.tables.results.now c.args.tables.nodes.now) c.args.out.now c.args.k
-          c.args.row c.write_class-count.result (c.write_class-count.ensures o)
-          (omega (arith, c.if-room-count.false)) (omega (arith, c.write_class-count.auto)) (steady o).0 (steady o).1)
-          (omega (arith, c.requires.0.row, c.requires.1.room)),
-    )
+    (sym c.if-not-line_ends.false ∙ c.line_ends.ensures) in
+    placed_more c.requires.1 _ (c.write_class.ensures.step (record { used = 0; calls = 0 }))
+    (λ o. stands_now (over c.args.tables.outside.now) c.args.tables.sheet.now
+    (store_of o c.args.tables.results.now c.args.tables.nodes.now) c.args.out.now.words.now c.args.out.now.count
+    c.args.row c.write_class.new.out.count (c.write_class.ensures.step o)
+    (omega (arith, c.if-room-out.false, c.room-room.ensures)) (steady o).0 (steady o).1)
+    (omega (arith, c.requires.0.row, c.requires.1.room))

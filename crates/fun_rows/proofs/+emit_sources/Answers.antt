@@ -1,6 +1,6 @@
 use native.Mathlib.Omega.{arith}
 use mathlib.Core.List.{◌∷◌}
-use Rattle.sink.specs.Sink.{sink}
+use Rattle.sink.specs.Written.{written}
 use Rattle.store.specs.Stored.{store_of}
 use Rattle.machine.specs.Reads.{meaning_of_node}
 use Rattle.machine.specs.Machine.{seen_in}
@@ -8,13 +8,13 @@ use Rattle.definition.specs.Answer.{eight}
 use Rattle.fun_rows.proofs.ListLaws.{source_row, nodes_none, nodes_last}
 use Rattle.fun_rows.proofs.+emit_sources.Goals as goal
 
-pub returns-then-p-eq0 : goal.returns-then-p-eq0
-returns-then-p-eq0 t c =
+pub returns-then-p-eq0-clause-step : goal.returns-then-p-eq0-clause-step
+returns-then-p-eq0-clause-step t c =
     λ o. nodes_none
     (λ y. eight (c.args.row
     ∷ seen_in c.args.tables.sheet.now (meaning_of_node y) y.two 0 c.args.fun.0
     (store_of o c.args.tables.results.now c.args.tables.nodes.now)))
-    c.args.tables.nodes.now c.args.p (sink c.args.k c.args.out.now) c.if-p-eq0.true
+    c.args.tables.nodes.now c.args.p (written c.args.out.now) c.if-p-eq0.true
 
 pub overflow_sub-i : goal.overflow_sub-i
 overflow_sub-i t c = omega (arith, c.if-p-eq0.false)
@@ -22,8 +22,8 @@ overflow_sub-i t c = omega (arith, c.if-p-eq0.false)
 pub node_before-requires : goal.node_before-requires
 node_before-requires t c = tt
 
-pub emit_sources-n-requires : goal.emit_sources-n-requires
-emit_sources-n-requires t c =
+pub emit_sources-requires : goal.emit_sources-requires
+emit_sources-requires t c =
     (omega (arith, c.node_before.ensures, c.decreases, c.if-p-eq0.false), c.requires)
 
 pub captured_at-requires : goal.captured_at-requires
@@ -32,13 +32,13 @@ captured_at-requires t c = tt
 pub emit_decl-requires : goal.emit_decl-requires
 emit_decl-requires t c = tt
 
-pub returns : goal.returns
-returns t c =
+pub returns-clause-step : goal.returns-clause-step
+returns-clause-step t c =
     λ o. nodes_last
     (λ y. eight (c.args.row
     ∷ seen_in c.args.tables.sheet.now (meaning_of_node y) y.two 0 c.args.fun.0
     (store_of o c.args.tables.results.now c.args.tables.nodes.now)))
-    c.args.tables.nodes.now c.args.p _ _ (sink c.args.k c.args.out.now) c.if-p-eq0.false
-    c.node_before.ensures (c.emit_sources-n.ensures o) (source_row c.args.tables.sheet.now c.args.row c.args.tables.nodes.now _ _ _ c.captured_at.ensures
+    c.args.tables.nodes.now c.args.p _ _ (written c.args.out.now) c.if-p-eq0.false
+    c.node_before.ensures (c.emit_sources.ensures.step o) (source_row c.args.tables.sheet.now c.args.row c.args.tables.nodes.now _ _ _ c.captured_at.ensures
     c.args.fun.0 (store_of o c.args.tables.results.now c.args.tables.nodes.now) (c.seen_in-x.ensures o 0 0))
-    c.emit_decl.ensures
+    c.emit_decl.ensures.step

@@ -13,4 +13,4 @@ returns c =
     c.args.tables.sheet.now (store_of o c.args.tables.results.now c.args.tables.nodes.now)
     (kind_number c.args.wanted.kind) c.args.wanted.class.0 _ c.requires.0
     (c.parent_of.ensures o c.args.tables.nodes.now) (c.requires.1 c.if-a-eq0.false o).0
-    (omega arith) (c.requires.1 c.if-a-eq0.false o).1 (c.put_own.ensures o)
+    (omega arith) (c.requires.1 c.if-a-eq0.false o).1 (c.put_own.ensures.step o)

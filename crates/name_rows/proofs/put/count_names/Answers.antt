@@ -14,4 +14,4 @@ returns c =
     (names_in (over c.args.tables.outside.now) c.args.tables.sheet.now
     (store_of o c.args.tables.results.now c.args.tables.nodes.now) (kind_number c.args.wanted.kind) c.args.n
     c.args.c.0)
-    _ refl (c.put_names.ensures o)
+    _ refl (c.put_names.ensures.step o)
