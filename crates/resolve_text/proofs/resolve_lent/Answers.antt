@@ -25,6 +25,6 @@ returns c =
     (subst (λ (n : ℕ). Begins (reply lent (length c.args.text.now) told) c.args.text.now n c.reply_to.new.text) (sym c.unwrap_or.ensures)
     (replied_by lent told c.args.text.now c.reply_to.result c.reply_to.ensures.told
     (λ n low r.
-        let a : Answered r.rows.now c.args.names.now (length r.out.now) r.x r.out'.now = search (rules, of_calls) in
-        printed_report lent c.args.sheet.now c.args.names.now r.k r.words low r.read r.rows_are r.room a)
+    let a : Answered r.rows.now c.args.names.now (length r.out.now) r.x r.out'.now = search (rules, of_calls) in
+    printed_report lent c.args.sheet.now c.args.names.now r.k r.words low r.read r.rows_are r.room a)
     (λ e. let none = c.reply_to.ensures.none e in (none.0, none.1))))
