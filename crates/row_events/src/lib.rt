@@ -36,7 +36,7 @@ fn before_unit(walk: &mut Walk<'_, '_>, row: u32) -> Result<(), Refusal>
 }
 
 // A function opens a scope for its parameters.
-fn before_function(walk: &mut Walk<'_, '_>, row: u32) -> Result<(), Refusal>
+pub fn before_function(walk: &mut Walk<'_, '_>, row: u32) -> Result<(), Refusal>
     requires { (length walk.old.sheet.now ≤ 16384) × (kind walk.old.sheet.now row ≡ 6) }
     ensures step { (O : Outside) → after walk.new result ≡ run_state O walk.old.sheet.now (before walk.old.sheet.now row) (state_of walk.old) }
     ensures same { Same walk.old walk.new }
