@@ -70,7 +70,8 @@ fn bring(walk: &mut Walk<'_, '_>, i: u32, m: u32, x: u32) -> Result<(), Refusal>
     Ok(())
 }
 
-// All exports of a kind of unit row `u`, in the order of its children.
+// All exports of a kind of unit row `u`, in the order of its children. A loop of one call, as `import_listed` and `declare_kind` of crate `walk` are: they differ in the
+// rows and in the call, so a routine for all would take an iterator and a closure, and be longer than the three.
 fn import_kind(walk: &mut Walk<'_, '_>, u: u32, kind: Kind, i: u32) -> Result<(), Refusal>
     requires { length walk.old.sheet.now ≤ 16384 }
     ensures step { (O : Outside) → after walk.new result

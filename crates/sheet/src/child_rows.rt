@@ -82,7 +82,7 @@ pub fn kids(sheet: &[u32], row: u32) -> ChildRows<'_>
     }
 }
 
-// The rows that follow a row in its child list.
+// The rows that follow a row in its child list: the same iterator as of the children, from another link, so both are one struct each.
 pub fn siblings_after(sheet: &[u32], row: u32) -> ChildRows<'_>
     ensures { rows_left result ≡ chain (rows sheet.now) sheet.now (next sheet.now row) }
 {
