@@ -10,7 +10,7 @@ use crate::captured_at;
 use crate::literals::Literals;
 use ast::{FunId, column};
 use class_names::tables::Tables;
-use store::nodes::node_before;
+use store::back::nodes_back;
 use store::result;
 use symbols::decl::is_mutable;
 use words::word;
@@ -24,19 +24,11 @@ fn is_slot(sheet: &[u32], nodes: &[u32], i: u32, f: FunId, j: u32) -> bool
     is_mutable(sheet, d) && d.second == f.0 && d.slot == j
 }
 
-// Is that local in the list whose last node is node `p - 1`? A list is walked from there back, which no iterator does yet.
+// Is that local in the list whose last node is node `p - 1`?
 fn captures_slot(sheet: &[u32], nodes: &[u32], p: u32, f: FunId, j: u32) -> bool
     ensures { result ≡ hands_on sheet.now f.0 j (chain_to nodes.now p) }
 {
-    let mut i = p;
-    while 0 < i {
-        i -= 1;
-        if is_slot(sheet, nodes, i, f, j) {
-            return true;
-        }
-        i = node_before(nodes, i);
-    }
-    false
+    nodes_back(nodes, p).any(|i| is_slot(sheet, nodes, i, f, j))
 }
 
 // Does slot `j` of function `f` escape? Asks the function of each literal that stands in `f`.
