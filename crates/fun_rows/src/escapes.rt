@@ -37,12 +37,9 @@ pub fn hands_on(tables: Tables, literals: Literals, f: FunId, j: u32) -> bool
         × (LiteralChains tables.sheet.now tables.results.now literals.first.now literals.after.now) }
     ensures { result ≡ escapes tables.entry.sheet.now tables.entry.results.now tables.entry.nodes.now f.0 j }
 {
-    for l in literals.standing_in(f, tables.sheet.len() / 8) {
+    literals.standing_in(f, tables.sheet.len() / 8).any(|l| {
         let fun = word(tables.sheet, l, column::CHILD);
         let last = word(tables.results, fun, result::CAPTURES);
-        if captures_slot(tables.sheet, tables.nodes, last, f, j) {
-            return true;
-        }
-    }
-    false
+        captures_slot(tables.sheet, tables.nodes, last, f, j)
+    })
 }

@@ -1,6 +1,5 @@
-use Rattle.std.proofs.Common.{◌≡◌, refl, sym, ap, ◌∙◌, ◌∷◌, ◌+◌, ◌-◌, ◌<◌, length, ℕ, arith}
+use Rattle.std.proofs.Common.{refl, sym, ap, ◌∙◌, length, arith}
 use Rattle.std.proofs.lemmas.Grind.{common_steps}
-use Rattle.definition.specs.Basics.{filter, from}
 use Rattle.fun_rows.specs.Literals.{escapes}
 use Rattle.fun_rows.proofs.ChainLaws.{filter_in, filter_out}
 use Rattle.fun_rows.proofs.escaping.EscapingSlotsIterator.next.Goals as goal
