@@ -100,6 +100,7 @@ fn put_new(out: &mut Rows<'_>, tables: Tables, wanted: Wanted, p: Passed, m: u32
 }
 
 // Names in the words from outside, in order.
+#[tactic(auto, using(crate::proofs::PutLaws::new_rest, crate::proofs::PutLaws::new_end))]
 fn put_recorded(
     out: &mut Rows<'_>,
     tables: Tables,
@@ -121,6 +122,7 @@ fn put_recorded(
 }
 
 // The names of the children of row `r`, in order.
+#[tactic(auto, using(crate::proofs::PutLaws::new_rest, crate::proofs::PutLaws::new_end))]
 fn put_listed(
     out: &mut Rows<'_>,
     tables: Tables,
