@@ -6,16 +6,14 @@ use Rattle.finish.proofs.SettledLaws.{files_small}
 use Rattle.walk.specs.Ended.{ended}
 use Rattle.finish.proofs.finish.Goals as goal
 
-pub ask_later-requires : goal.ask_later-requires
-ask_later-requires c = c.requires.0
-
 pub refuse_at-requires : goal.refuse_at-requires
 refuse_at-requires c = files_small c.args.sheet.now _ c.requires.0
 
 pub returns-in-Err : goal.returns-in-Err
 returns-in-Err c =
     let x = ended c.args.walk [] c.args.results.now c.args.nodes.now in
-    later_no (over_base c.args.outside.now) {x = x} c.requires.0 (c.requires.1 []) c.requires.2 _ (c.in-Err.ensures c.args.walk.store refl) _ _ _ (question_none _) c.refuse_at.ensures.0 c.refuse_at.ensures.1
+    later_no (over_base c.args.outside.now) {x = x} c.requires.0 (c.requires.1 []) c.requires.2 _ (c.in-Err.ensures c.args.walk.store refl) _ _ _
+    (question_none _) c.refuse_at.ensures.0 c.refuse_at.ensures.1
 
 pub write_answer-requires : goal.write_answer-requires
 write_answer-requires c =
