@@ -51,6 +51,7 @@ fn wanted(row: u32, kind: Kind) -> Wanted
 }
 
 // The first row of a class: its parent, whether it has children, and the numbers of its fields and methods.
+#[tactic(auto, using(crate::proofs::AboveLaws::counted_wanted))]
 fn class_head(tables: Tables, subclassed: &[u32], above: Inherited, row: u32) -> AnswerRow
     requires { (ClassReady tables subclassed.now row)
         × (Counted tables 10 (256 + row) above.fields)

@@ -16,6 +16,7 @@ use name_rows::put::{Passed, Wanted, count_names, put_names, put_own};
 use sink::Rows;
 
 // The names of the wanted class; the slot after them.
+#[tactic(auto, using(crate::proofs::LineLaws::line_after, crate::proofs::LineLaws::copied_all))]
 pub fn put_line(out: &mut Rows<'_>, tables: Tables, wanted: Wanted, a: Above, slot: u32) -> u32
     requires { (0 < rows tables.sheet.now) ×
         (Shown tables (kind_number wanted.kind) wanted.class.0 out.old.words.now out.old.count a) }

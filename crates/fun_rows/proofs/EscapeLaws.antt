@@ -2,39 +2,24 @@
 use mathlib.Core.Path.{◌≡◌, refl, sym, ap, ◌∙◌}
 use mathlib.Core.Bool.{Bool, true, false, ◌&&◌, ◌||◌}
 use mathlib.Core.List.{List, [], ◌∷◌, ◌++◌, map, map-append}
-use Prim.Native.Nat.{ℕ, zero, suc, ◌+◌, ◌-◌, ◌*◌, ◌<◌, ◌≤◌}
+use Prim.Native.Nat.{ℕ, zero, suc, ◌+◌, ◌-◌, ◌*◌, ◌<◌}
 use native.Mathlib.Omega.{arith}
 use lib.Dec.{eqb}
+use Rattle.std.specs.List.{list_any}
 use lib.ListN.{length, get_or}
 use borrow.Author.Tests.{eqb-true, ne_eqb}
-use Rattle.definition.specs.Basics.{when◌then◌else◌, filter, any, from, concat_map}
+use Rattle.definition.specs.Basics.{when◌then◌else◌, filter, from, concat_map}
 use Rattle.definition.specs.Sheet.{Sheet, rows, child}
 use Rattle.definition.specs.Slots.{is_mutable}
-use Rattle.machine.specs.Machine.{Store, Node, cell, node_at, previous, chain_to, list_at, code_of}
+use Rattle.machine.specs.Machine.{Store, Node, cell, chain_to, list_at, code_of}
 use Rattle.machine.specs.Reads.{answer_row, meaning_of_node, hands_on, literals_in, escaping_slots}
 use Rattle.machine.proofs.Lists.{any_append}
-use Rattle.machine.proofs.ByKind.{list_none, list_more}
 use Rattle.definition.specs.Answer.{eight}
 use Rattle.after.specs.Rows.{function_rows_in}
 use Rattle.sink.specs.Sink.{Sink, emit, emit_all}
 use Rattle.sink.proofs.SinkLaws.{emit_none, emit_first, emit_both}
 use Rattle.fun_rows.proofs.ListLaws.{map_map}
 use Rattle.fun_rows.specs.Literals.{stands_in, literal_chain, LiteralChains, captured_by, escapes, slots_asked}
-
-or_true : (t : Bool) → (t || true) ≡ true
-or_true true = refl
-or_true false = refl
-
-or_false : (t : Bool) → (t || false) ≡ t
-or_false true = refl
-or_false false = refl
-
-module _ (p : Node → Bool) (xs : List Node) (x : Node) where
-  any_here : true ≡ p x → true ≡ any p (xs ++ x ∷ [])
-  any_here h = sym (any_append p xs (x ∷ []) ∙ ap (λ (t : Bool). any p xs || (t || false)) (sym h) ∙ or_true (any p xs))
-
-  any_other : false ≡ p x → any p xs ≡ any p (xs ++ x ∷ [])
-  any_other h = sym (any_append p xs (x ∷ []) ∙ ap (λ (t : Bool). any p xs || (t || false)) (sym h) ∙ or_false (any p xs))
 
 -- is a capture node the mutable local of function f in slot j?
 abbrev pub is_slot : Sheet → ℕ → ℕ → Node → Bool
@@ -43,20 +28,6 @@ is_slot s f j y = is_mutable s (meaning_of_node y) && eqb y.one f && eqb y.two j
 -- an index above 0 is one more than the index below it
 below : (i : ℕ) → 0 < i → i ≡ suc (i - 1)
 below i l = omega arith
-
--- A capture list, from the last node back.
-module _ (s : Sheet) (q : List ℕ) (f j i : ℕ) where
-  hands_last : 0 < i → hands_on s f j (chain_to q i) ≡ hands_on s f j (chain_to q (previous q (i - 1)) ++ node_at q (i - 1) ∷ [])
-  hands_last l = ap (λ (n : ℕ). hands_on s f j (chain_to q n)) (below i l) ∙ ap (hands_on s f j) (list_more q (i - 1))
-
-  pub hands_here : 0 < i → true ≡ is_slot s f j (node_at q (i - 1)) → true ≡ hands_on s f j (chain_to q i)
-  hands_here l e = any_here (is_slot s f j) (chain_to q (previous q (i - 1))) (node_at q (i - 1)) e ∙ sym (hands_last l)
-
-  pub hands_other : {n : ℕ} → 0 < i → false ≡ is_slot s f j (node_at q (i - 1)) → n ≡ previous q (i - 1) → hands_on s f j (chain_to q n) ≡ hands_on s f j (chain_to q i)
-  hands_other l e d = ap (λ (m : ℕ). hands_on s f j (chain_to q m)) d ∙ any_other (is_slot s f j) (chain_to q (previous q (i - 1))) (node_at q (i - 1)) e ∙ sym (hands_last l)
-
-  pub hands_none : i ≤ 0 → false ≡ hands_on s f j (chain_to q i)
-  hands_none l = sym (ap (hands_on s f j) (list_none q i (omega arith)))
 
 -- A chain of literals: its end, and its first.
 pub chain_end : (n : ℕ) (ns : List ℕ) (l : ℕ) → l ≡ 0 → literal_chain n ns l ≡ []
@@ -78,27 +49,15 @@ module _ (s : Sheet) (t q : List ℕ) (f j : ℕ) where
   unfolding escapes
   captured_start hs ns g h = ap (captured_by s t q f j) (h.chained f g)
 
-  captured_first : (ls : List ℕ) (l g w : ℕ) {x : Bool} → g ≡ child s l → w ≡ cell t g 6 → x ≡ hands_on s f j (chain_to q w) → captured_by s t q f j (l ∷ ls) ≡ (x || captured_by s t q f j ls)
-  unfolding captured_by
-  captured_first ls l g w d e h =
-      ap (λ (i : ℕ). hands_on s f j (chain_to q (cell t i 6)) || captured_by s t q f j ls) (sym d)
-      ∙ ap (λ (i : ℕ). hands_on s f j (chain_to q i) || captured_by s t q f j ls) (sym e)
-      ∙ ap (λ (b : Bool). b || captured_by s t q f j ls) (sym h)
-
   captured_nil : captured_by s t q f j [] ≡ false
   unfolding captured_by
   captured_nil = refl
 
-  -- a list of literals from its first on, and at its end
-  pub captured_here : {l : ℕ} {ls all : List ℕ} (g w : ℕ) → all ≡ l ∷ ls → g ≡ child s l → w ≡ cell t g 6 → true ≡ hands_on s f j (chain_to q w) → true ≡ captured_by s t q f j all
-  captured_here {l} {ls} g w i d e h = sym (ap (captured_by s t q f j) i ∙ captured_first ls l g w d e h)
-
-  pub captured_other : {l : ℕ} {ls all : List ℕ} (g w : ℕ) → all ≡ l ∷ ls → g ≡ child s l → w ≡ cell t g 6 → false ≡ hands_on s f j (chain_to q w)
-      → captured_by s t q f j ls ≡ captured_by s t q f j all
-  captured_other {l} {ls} g w i d e h = sym (ap (captured_by s t q f j) i ∙ captured_first ls l g w d e h)
-
-  pub captured_none : {ls : List ℕ} → ls ≡ [] → false ≡ captured_by s t q f j ls
-  captured_none e = sym (ap (captured_by s t q f j) e ∙ captured_nil)
+  -- the same as a test of each literal
+  pub captured_any : (ls : List ℕ) → list_any (λ l. hands_on s f j (chain_to q (cell t (child s l) 6))) ls ≡ captured_by s t q f j ls
+  unfolding captured_by
+  captured_any [] = refl
+  captured_any (l ∷ ls) = ap (λ (b : Bool). hands_on s f j (chain_to q (cell t (child s l) 6)) || b) (captured_any ls)
 
 -- The escaping slots, by that test.
 filter_same : (p r : ℕ → Bool) → ((x : ℕ) → p x ≡ r x) → (xs : List ℕ) → filter p xs ≡ filter r xs
@@ -127,7 +86,7 @@ asked_slots : (s : Sheet) (t q hs ns : List ℕ) (f : ℕ) → f < rows s → Li
 asked_slots s t q hs ns f g h = go (eqb (get_or hs f 0) 0) refl
   where
     never : get_or hs f 0 ≡ 0 → (j : ℕ) → escapes s t q f j ≡ false
-    never e j = sym (captured_start s t q f j hs ns g h) ∙ sym (captured_none s t q f j (chain_end (rows s) ns (get_or hs f 0) e))
+    never e j = sym (captured_start s t q f j hs ns g h) ∙ ap (captured_by s t q f j) (chain_end (rows s) ns (get_or hs f 0) e) ∙ captured_nil s t q f j
 
     go : (b : Bool) → eqb (get_or hs f 0) 0 ≡ b → filter (escapes s t q f) (from 0 (when b then 0 else cell t f 5)) ≡ filter (escapes s t q f) (from 0 (cell t f 5))
     go true e = sym (filter_false (escapes s t q f) (never (eqb-true (get_or hs f 0) 0 e)) (from 0 (cell t f 5)))

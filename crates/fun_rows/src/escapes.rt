@@ -10,7 +10,7 @@ use crate::captured_at;
 use crate::literals::Literals;
 use ast::{FunId, column};
 use class_names::tables::Tables;
-use store::nodes::node_before;
+use store::back::nodes_back;
 use store::result;
 use symbols::decl::{is_mutable, owner_of, slot_of};
 use words::word;
@@ -24,19 +24,11 @@ fn is_slot(sheet: &[u32], nodes: &[u32], i: u32, f: FunId, j: u32) -> bool
     is_mutable(sheet, d) && owner_of(d).0 == f.0 && slot_of(d) == j
 }
 
-// Is that local in the list whose last node is node `p - 1`? A list is walked from there back, which no iterator does yet.
+// Is that local in the list whose last node is node `p - 1`?
 fn captures_slot(sheet: &[u32], nodes: &[u32], p: u32, f: FunId, j: u32) -> bool
     ensures { result ≡ hands_on sheet.now f.0 j (chain_to nodes.now p) }
 {
-    let mut i = p;
-    while 0 < i {
-        i -= 1;
-        if is_slot(sheet, nodes, i, f, j) {
-            return true;
-        }
-        i = node_before(nodes, i);
-    }
-    false
+    nodes_back(nodes, p).any(|i| is_slot(sheet, nodes, i, f, j))
 }
 
 // Does slot `j` of function `f` escape? Asks the function of each literal that stands in `f`.
@@ -45,12 +37,9 @@ pub fn hands_on(tables: Tables, literals: Literals, f: FunId, j: u32) -> bool
         × (LiteralChains tables.sheet.now tables.results.now literals.first.now literals.after.now) }
     ensures { result ≡ escapes tables.entry.sheet.now tables.entry.results.now tables.entry.nodes.now f.0 j }
 {
-    for l in literals.standing_in(f, tables.sheet.len() / 8) {
+    literals.standing_in(f, tables.sheet.len() / 8).any(|l| {
         let fun = word(tables.sheet, l, column::CHILD);
         let last = word(tables.results, fun, result::CAPTURES);
-        if captures_slot(tables.sheet, tables.nodes, last, f, j) {
-            return true;
-        }
-    }
-    false
+        captures_slot(tables.sheet, tables.nodes, last, f, j)
+    })
 }

@@ -70,9 +70,8 @@ impl<'a> Iterator for EscapingSlots<'a> {
     ghost remaining = { item_count slots_left };
 
     fn next(&mut self) -> Option<u32> {
-        while self.next < self.end {
-            let slot = self.next;
-            self.next += 1;
+        for slot in self.next..self.end {
+            self.next = slot + 1;
             if hands_on(self.tables, self.literals, self.function, slot) {
                 return Some(slot);
             }

@@ -52,6 +52,7 @@ fn captured_at(nodes: &[u32], i: u32) -> OpenDecl
 }
 
 // What a function captures, by rising index: the list whose last node is node `p - 1`.
+#[tactic(auto, using(crate::proofs::ListLaws::captured_declared, crate::proofs::ListLaws::nodes_none))]
 fn emit_captured(out: &mut Rows<'_>, tables: Tables, row: u32, p: u32)
     requires { length tables.sheet.now ≤ 16384 }
     ensures step { written out.new
@@ -70,6 +71,7 @@ fn emit_captured(out: &mut Rows<'_>, tables: Tables, row: u32, p: u32)
 
 // What a literal that stands in function `fun` hands on, in the same order. Not one routine with `emit_captured`: a closure for the row
 // would have to tell both what it reads of the sheet and what of the store, which is no shorter.
+#[tactic(auto, using(crate::proofs::ListLaws::captured_declared, crate::proofs::ListLaws::nodes_none))]
 fn emit_sources(out: &mut Rows<'_>, tables: Tables, row: u32, fun: FunId, p: u32)
     requires { length tables.sheet.now ≤ 16384 }
     ensures step { (o : Store) → written out.new
@@ -111,6 +113,7 @@ pub fn emit_literal(out: &mut Rows<'_>, tables: Tables, row: u32)
 }
 
 // A row for each escaping slot of function `f`.
+#[tactic(auto, using(crate::proofs::EscapeLaws::rows_end))]
 fn emit_escapes(out: &mut Rows<'_>, f: FunId, slots: EscapingSlots)
     ensures step { written out.new
         ≡ emit_all (map (λ j. eight (f.0 ∷ 5 ∷ j ∷ f.0 ∷ 1 ∷ [])) (slots_left slots.entry))

@@ -85,6 +85,7 @@ pub fn put_row(out: &mut Rows<'_>, x: AnswerRow, slot: u32) -> u32
 }
 
 // One name more, unless it is inherited. Measured: as a call it gets a copy of the tables for each name.
+#[tactic(auto, using(crate::proofs::PutLaws::new_old, crate::proofs::PutLaws::new_put, crate::proofs::PutLaws::put_one))]
 #[inline(always)]
 fn put_new(out: &mut Rows<'_>, tables: Tables, wanted: Wanted, p: Passed, m: u32, slot: u32) -> u32
     ensures step { (o : Store) → filled result out.new
@@ -99,6 +100,7 @@ fn put_new(out: &mut Rows<'_>, tables: Tables, wanted: Wanted, p: Passed, m: u32
 }
 
 // Names in the words from outside, in order.
+#[tactic(auto, using(crate::proofs::PutLaws::new_rest, crate::proofs::PutLaws::new_end))]
 fn put_recorded(
     out: &mut Rows<'_>,
     tables: Tables,
@@ -120,6 +122,7 @@ fn put_recorded(
 }
 
 // The names of the children of row `r`, in order.
+#[tactic(auto, using(crate::proofs::PutLaws::new_rest, crate::proofs::PutLaws::new_end))]
 fn put_listed(
     out: &mut Rows<'_>,
     tables: Tables,
@@ -142,6 +145,7 @@ fn put_listed(
 }
 
 // The keys of the list whose last node is node `last - 1`, in order.
+#[tactic(auto, using(crate::proofs::PutLaws::stored_none, crate::proofs::PutLaws::stored_last))]
 fn put_stored(
     out: &mut Rows<'_>,
     tables: Tables,
@@ -166,6 +170,7 @@ fn put_stored(
 }
 
 // The own names of a class.
+#[tactic(auto, using(ast::proofs::KindLaws::same_kind, crate::proofs::PutLaws::own_stored, crate::proofs::PutLaws::own_listed, crate::proofs::PutLaws::own_recorded))]
 pub fn put_own(
     out: &mut Rows<'_>,
     tables: Tables,
@@ -194,6 +199,7 @@ pub fn put_own(
 }
 
 // The names of class `c`: the inherited, then the own ones that are new. It climbs at most `n` classes.
+#[tactic(auto, using(crate::proofs::PutLaws::names_zero, crate::proofs::PutLaws::names_first, crate::proofs::PutLaws::names_after))]
 pub fn put_names(
     out: &mut Rows<'_>,
     tables: Tables,

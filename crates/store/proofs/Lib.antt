@@ -1,3 +1,4 @@
+pub mod BackLaws
 mod ListLaws
 mod StoreLaws
 pub mod TableLaws

@@ -27,10 +27,6 @@ loop-row-init c =
       refl,
     )
 
-pub emit_of-requires : goal.emit_of-requires
-emit_of-requires c =
-    (c.requires.0, c.loop-row-test.true, c.loop-row.invariant.3)
-
 pub loop-row-preserved : goal.loop-row-preserved
 loop-row-preserved c =
     let below = c.loop-row-test.true in
@@ -45,9 +41,6 @@ loop-row-preserved c =
       call.ensures.placed,
       call.ensures.same ∙ c.loop-row.invariant.4,
     )
-
-pub shape_of-starts : goal.shape_of-starts
-shape_of-starts c = c.loop-row.invariant.2
 
 pub returns-clause-step : goal.returns-clause-step
 returns-clause-step c =

@@ -29,14 +29,6 @@ use Rattle.answer_rows.proofs.emit_of.Goals as goal
 no_counts : Store
 no_counts = record { used = 0; calls = 0 }
 
-pub emit_literal-requires : goal.emit_literal-requires
-emit_literal-requires c =
-    c.requires.0.small
-
-pub emit_function-requires : goal.emit_function-requires
-emit_function-requires c =
-    (c.requires.0.small, c.requires.1, c.requires.0.chains)
-
 pub emit_class-requires : goal.emit_class-requires
 emit_class-requires c =
     let ready = c.requires.0 in

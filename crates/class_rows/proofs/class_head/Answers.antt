@@ -3,18 +3,6 @@ use Rattle.class_rows.proofs.AboveLaws.{counted_wanted}
 use Rattle.class_rows.proofs.ClassLaws.{head_row}
 use Rattle.class_rows.proofs.class_head.Goals as goal
 
-pub count_line-field_count-requires : goal.count_line-field_count-requires
-count_line-field_count-requires c = (
-  omega (arith, c.requires.0.row),
-  counted_wanted c.args.tables c.wanted.ensures c.requires.1,
-)
-
-pub count_line-method_count-requires : goal.count_line-method_count-requires
-count_line-method_count-requires c = (
-  omega (arith, c.requires.0.row),
-  counted_wanted c.args.tables c.wanted-2.ensures c.requires.2,
-)
-
 pub returns : goal.returns
 returns c =
     λ o. head_row c.args.tables c.args.subclassed.now c.args.row c.requires.0 o

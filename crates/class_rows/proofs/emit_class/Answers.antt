@@ -48,14 +48,6 @@ pub returns-then-not-line_ends-clause-placed : goal.returns-then-not-line_ends-c
 returns-then-not-line_ends-clause-placed c =
     placed_kept c.requires.1 _ (c.write_class.ensures.step (record { used = 0; calls = 0 }))
 
-pub offset_bounds-starts-row : goal.offset_bounds-starts-row
-offset_bounds-starts-row c =
-    omega (arith, c.requires.0.row, c.requires.0.short)
-
-pub bounds-starts-row : goal.bounds-starts-row
-bounds-starts-row c =
-    omega (arith, c.requires.0.row, c.requires.1.room)
-
 pub returns-clause-placed : goal.returns-clause-placed
 returns-clause-placed c =
     let steady =

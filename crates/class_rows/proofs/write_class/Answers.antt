@@ -20,10 +20,6 @@ put_line-requires c = (
       (shown_kept c.args.tables _ (emit_one _ (written c.args.out.now) c.push.ensures.step) c.requires.1),
 )
 
-pub wanted-requires-2 : goal.wanted-requires-2
-wanted-requires-2 c =
-    omega (arith, c.requires.0.row, c.requires.0.short)
-
 pub put_line-requires-2 : goal.put_line-requires-2
 put_line-requires-2 c =
     let o : Store = record { used = 0; calls = 0 } in (

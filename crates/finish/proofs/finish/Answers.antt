@@ -6,9 +6,6 @@ use Rattle.finish.proofs.SettledLaws.{files_small}
 use Rattle.walk.specs.Ended.{ended}
 use Rattle.finish.proofs.finish.Goals as goal
 
-pub ask_later-requires : goal.ask_later-requires
-ask_later-requires c = c.requires.0
-
 pub refuse_at-requires : goal.refuse_at-requires
 refuse_at-requires c = files_small c.args.sheet.now _ c.requires.0
 

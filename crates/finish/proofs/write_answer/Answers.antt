@@ -2,10 +2,6 @@ use Rattle.outside.proofs.RecordLaws.{over_base}
 use Rattle.finish.proofs.AnswerLaws.{answer_settled}
 use Rattle.finish.proofs.write_answer.Goals as goal
 
-pub emit_rows-n-requires : goal.emit_rows-n-requires
-emit_rows-n-requires c =
-    (c.requires.0, c.requires.1)
-
 pub returns : goal.returns
 returns c =
     let rows = c.emit_rows-n.ensures in

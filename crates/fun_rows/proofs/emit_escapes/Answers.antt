@@ -8,8 +8,3 @@ use Rattle.fun_rows.proofs.emit_escapes.Goals as goal
 pub loop-slot-preserved : goal.loop-slot-preserved
 loop-slot-preserved c =
     (rows_rest (slot_row c.args.f.0) (written c.loop-slot.out) c.in-Some.ensures.steps c.emit_decl.ensures.step ∙ c.loop-slot.invariant.0, c.emit_decl.ensures.same ∙ c.loop-slot.invariant.1)
-
-pub returns-clause-step : goal.returns-clause-step
-returns-clause-step c =
-    rows_end (slot_row c.args.f.0) (written c.loop-slot.out) c.in-None.ensures.steps.0 ∙ c.loop-slot.invariant.0
-    ∙ ap (λ (ns : List ℕ). emit_all (map (slot_row c.args.f.0) ns) (written c.args.out.now)) (ap slots_left c.into_iter-slot-iterator.ensures.into_iter_gives)

@@ -18,7 +18,8 @@ pub loop-at-preserved : goal.loop-at-preserved
 loop-at-preserved c =
     let left = c.args.i + c.args.n - c.loop-at.at in
     let e : c.args.i + c.args.n - (c.loop-at.at + 1) ≡ left - 1 = omega arith in
-    let one = put_one (copied_row (over c.args.tables.outside.now) c.args.tables.sheet.now c.args.wanted c.loop-at.out.words.now) c.loop-at.at (filled c.loop-at.next c.loop-at.out) c.copied_row-x.ensures c.put_row-next.ensures.step in
+    let one = put_one (copied_row (over c.args.tables.outside.now) c.args.tables.sheet.now c.args.wanted c.loop-at.out.words.now) c.loop-at.at
+    (filled c.loop-at.next c.loop-at.out) c.copied_row-x.ensures c.put_row-next.ensures.step in
     let f = copied_row (over c.args.tables.outside.now) c.args.tables.sheet.now c.args.wanted c.args.out.now.words.now in (
       ap (λ (m : ℕ). put_all f (from (c.loop-at.at + 1) m) (filled c.put_row-next.result c.put_row-next.new.out)) e
           ∙ copied_next (over c.args.tables.outside.now) c.args.tables.sheet.now c.args.wanted c.args.out.now.words.now c.loop-at.at left (filled c.loop-at.next c.loop-at.out)
