@@ -170,7 +170,9 @@ module _ {tables : Tables} {places w : List ℕ} {r k : ℕ} (h : Placed tables 
       go : (j p : ℕ) (u : Bool) → eqb j r ≡ u → get_or (set places r (k + 1)) j 0 ≡ suc p → (j < r + 1) × ((o : Store) → Stands (outside_in tables) tables.sheet.now (store_in tables o) y n j p)
       go j p true i g =
           let a : j ≡ r = eqb-true j r i in
-          let b : k ≡ p = omega (arith, g, ap (λ (x : ℕ). get_or (set places r (k + 1)) x 0) a, get_or-set_same places r (k + 1) 0 l) in
-          (omega arith, λ o. subst (λ (x : ℕ). Stands (outside_in tables) tables.sheet.now (store_in tables o) y n x p) (sym a)
-          (subst (λ (x : ℕ). Stands (outside_in tables) tables.sheet.now (store_in tables o) y n r x) b (f o)))
+          let b : k ≡ p = omega (arith, g, ap (λ (x : ℕ). get_or (set places r (k + 1)) x 0) a, get_or-set_same places r (k + 1) 0 l) in (
+            omega arith,
+            λ o. subst (λ (x : ℕ). Stands (outside_in tables) tables.sheet.now (store_in tables o) y n x p) (sym a)
+                (subst (λ (x : ℕ). Stands (outside_in tables) tables.sheet.now (store_in tables o) y n r x) b (f o)),
+          )
       go j p false i g = placed_kept.told j p (sym (get_or-set_other places r j (k + 1) 0 (eqb-false j r i)) ∙ g)

@@ -52,7 +52,7 @@ fn captured_at(nodes: &[u32], i: u32) -> OpenDecl
 }
 
 // What a function captures, by rising index: the list whose last node is node `p - 1`.
-#[tactic(auto, using(crate::proofs::ListLaws::captured_declared, crate::proofs::ListLaws::nodes_none))]
+#[tactic(auto, using(crate::proofs::ListLaws::nodes_none))]
 fn emit_captured(out: &mut Rows<'_>, tables: Tables, row: u32, p: u32)
     requires { length tables.sheet.now ≤ 16384 }
     ensures step { written out.new
@@ -71,7 +71,7 @@ fn emit_captured(out: &mut Rows<'_>, tables: Tables, row: u32, p: u32)
 
 // What a literal that stands in function `fun` hands on, in the same order. Not one routine with `emit_captured`: a closure for the row
 // would have to tell both what it reads of the sheet and what of the store, which is no shorter.
-#[tactic(auto, using(crate::proofs::ListLaws::captured_declared, crate::proofs::ListLaws::nodes_none))]
+#[tactic(auto, using(crate::proofs::ListLaws::nodes_none))]
 fn emit_sources(out: &mut Rows<'_>, tables: Tables, row: u32, fun: FunId, p: u32)
     requires { length tables.sheet.now ≤ 16384 }
     ensures step { (o : Store) → written out.new
