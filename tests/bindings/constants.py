@@ -69,9 +69,10 @@ def differences(what, found, expected):
 
 def of_layout():
     """The numbers of crates/session/src/layout.rt, which are told by each other and by crates/ast."""
-    limits, found = constants(text("crates/ast/src/limit.rt")), {}
+    known = {module: constants(text(f"crates/ast/src/{module}.rt")) for module in ("limit", "name")}
+    found = {}
     for name, value in re.findall(r"pub const (\w+): usize = ([\w :+*]+);", text("crates/session/src/layout.rt")):
-        found[name] = eval(re.sub(r"limit::(\w+)", lambda match: str(limits[match[1]]), value), {}, found)
+        found[name] = eval(re.sub(r"(limit|name)::(\w+)", lambda match: str(known[match[1]][match[2]]), value), {}, found)
     return found
 
 
