@@ -14,11 +14,11 @@ use ast::kind::Kind;
 use ast::question::{Question, Refusal};
 use sheet::has_named;
 use symbols::decl::is_assignable;
-use walk::state::Walk;
+use walk::state::Walker;
 use words::{entry_at, is_kind, word};
 
 // Is an assigned identifier mutable?
-fn assign_name(walk: &Walk<'_, '_>, row: u32) -> Result<(), Refusal>
+fn assign_name(walk: &Walker<'_, '_>, row: u32) -> Result<(), Refusal>
     requires { (kind walk.now.sheet.now row ≡ 21) × (kind walk.now.sheet.now (child walk.now.sheet.now row) ≡ 50) }
     ensures { (O : Outside) → after walk.now result ≡ step_state O walk.now.sheet.now (visit row) (state_of walk.now) }
 {
@@ -36,7 +36,7 @@ fn assign_name(walk: &Walk<'_, '_>, row: u32) -> Result<(), Refusal>
 }
 
 // A member that is assigned to is a field of the innermost function's class, if it has one and does not list it.
-fn assign_member(walk: &mut Walk<'_, '_>, row: u32)
+fn assign_member(walk: &mut Walker<'_, '_>, row: u32)
     requires { (ClassTable walk.old.sheet.now walk.old.classes.now) × (kind walk.old.sheet.now row ≡ 21)
         × (kind walk.old.sheet.now (child walk.old.sheet.now row) ≡ 54) }
     ensures step { (O : Outside) → state_of walk.new ≡ step_state O walk.old.sheet.now (visit row) (state_of walk.old) }
@@ -57,7 +57,7 @@ fn assign_member(walk: &mut Walk<'_, '_>, row: u32)
 }
 
 // An assignment, after its sides are resolved.
-pub fn check_assign(walk: &mut Walk<'_, '_>, row: u32) -> Result<(), Refusal>
+pub fn check_assign(walk: &mut Walker<'_, '_>, row: u32) -> Result<(), Refusal>
     requires { (ClassTable walk.old.sheet.now walk.old.classes.now) × (kind walk.old.sheet.now row ≡ 21) }
     ensures step { (O : Outside) → after walk.new result ≡ step_state O walk.old.sheet.now (visit row) (state_of walk.old) }
     ensures same { Same walk.old walk.new }

@@ -18,11 +18,11 @@ use sheet::arguments;
 use store::nodes::{Node, append_call};
 use store::table::{mark_hidden, write_decl};
 use symbols::decl::class_number;
-use walk::state::Walk;
+use walk::state::Walker;
 use words::{is_kind, word};
 
 // The class that call `row` constructs, or 0: its callee is an identifier that means it.
-fn constructed_class(walk: &Walk<'_, '_>, row: u32) -> ClassId
+fn constructed_class(walk: &Walker<'_, '_>, row: u32) -> ClassId
     ensures { result.0 ≡ constructed_class walk.now.sheet.now row (scopes_in walk.now) }
 {
     let callee = word(walk.sheet, row, column::CHILD);
@@ -33,7 +33,7 @@ fn constructed_class(walk: &Walk<'_, '_>, row: u32) -> ClassId
 }
 
 // The class on which call `row` calls a method, or 0: its callee is a member of an identifier that means the class.
-fn receiver_class(walk: &Walk<'_, '_>, row: u32) -> ClassId
+fn receiver_class(walk: &Walker<'_, '_>, row: u32) -> ClassId
     ensures { result.0 ≡ receiver_class walk.now.sheet.now row (scopes_in walk.now) }
 {
     let callee = word(walk.sheet, row, column::CHILD);
@@ -45,7 +45,7 @@ fn receiver_class(walk: &Walk<'_, '_>, row: u32) -> ClassId
 }
 
 // Has a class called as a constructor a record? The call is kept: its constructor is asked about after the walk.
-fn construct(walk: &mut Walk<'_, '_>, row: u32, class: ClassId) -> Result<(), Refusal>
+fn construct(walk: &mut Walker<'_, '_>, row: u32, class: ClassId) -> Result<(), Refusal>
     requires { (kind walk.old.sheet.now row ≡ 59) × (class.0 ≡ 0 → ⊥)
         × (class.0 ≡ constructed_class walk.old.sheet.now row (scopes_in walk.old)) }
     ensures step { after walk.new result ≡ step_state (over walk.old.outside.now) walk.old.sheet.now (visit row) (state_of walk.old) }
@@ -92,7 +92,7 @@ fn ask_method(
 }
 
 // A method called on a class: its questions; then the callee means the method, and its base gives no answer row.
-fn call_method(walk: &mut Walk<'_, '_>, row: u32, class: ClassId) -> Result<(), Refusal>
+fn call_method(walk: &mut Walker<'_, '_>, row: u32, class: ClassId) -> Result<(), Refusal>
     requires { (kind walk.old.sheet.now row ≡ 59) × (class.0 ≡ 0 → ⊥)
         × (class.0 ≡ receiver_class walk.old.sheet.now row (scopes_in walk.old)) }
     ensures step { after walk.new result ≡ step_state (over walk.old.outside.now) walk.old.sheet.now (visit row) (state_of walk.old) }
@@ -115,7 +115,7 @@ fn call_method(walk: &mut Walk<'_, '_>, row: u32, class: ClassId) -> Result<(), 
 }
 
 // The checks on the callee of call `row`.
-pub fn check_callee(walk: &mut Walk<'_, '_>, row: u32) -> Result<(), Refusal>
+pub fn check_callee(walk: &mut Walker<'_, '_>, row: u32) -> Result<(), Refusal>
     requires { kind walk.old.sheet.now row ≡ 59 }
     ensures step { after walk.new result ≡ step_state (over walk.old.outside.now) walk.old.sheet.now (visit row) (state_of walk.old) }
     ensures same { Same walk.old walk.new }

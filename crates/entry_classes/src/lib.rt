@@ -27,7 +27,7 @@ use raise::{raised_class, raised_function};
 use session::layout;
 use source::Source;
 use store::nodes::Store;
-use walk::ended::Ended;
+use walk::state::Walk;
 use words::{put_words, word};
 
 mod source;
@@ -253,7 +253,7 @@ pub fn append_classes(
     requires { (classes + 5 * rows ≤ 4611686018427387904) × (members + 3 * rows ≤ 4611686018427387904) × (base ≤ 2048000) × (8 * rows ≤ length out.now)
         × (PastFour (over outside.now) sheet.now)
         × (rows_of_words rows out.now ≡ raised base (answers (over outside.now) sheet.now (history (over outside.now) sheet.now))) }
-    ensures { (walk : Ended) (entries nodes : List ℕ)
+    ensures { (walk : Walk) (entries nodes : List ℕ)
         → Walked (over outside.now) sheet.now (ended walk entries results.now nodes) → (refusal_in walk.done).number ≡ 0
         → words.new
         ≡ sets (sets words.old members (concat_map member_words (classes_by (based (over outside.now) base) sheet.now)))

@@ -24,8 +24,7 @@ use resolve_syms::cycle::resolve_parts;
 use row_events::before;
 use sheet::first_of;
 use store::nodes::Store;
-use walk::ended::Ended;
-use walk::state::Walk;
+use walk::state::{Walk, Walker};
 use words::word;
 
 // The rows of an entry that open its outer scopes: its unit, the unit's function and the body of that.
@@ -49,7 +48,7 @@ fn unit_rows(sheet: &[u32]) -> Rows
 }
 
 // The scopes of unit, function and body opened, with what is declared there before the body's statements.
-fn open_body(walk: &mut Walk<'_, '_>, rows: Rows) -> Result<(), Refusal>
+fn open_body(walk: &mut Walker<'_, '_>, rows: Rows) -> Result<(), Refusal>
     requires { length walk.old.sheet.now ≤ 16384 }
     ensures step { (O : Outside) → after walk.new result ≡ run_state O walk.old.sheet.now
         (before walk.old.sheet.now rows.unit ++ before walk.old.sheet.now rows.fun ++ before walk.old.sheet.now rows.body) (state_of walk.old) }
@@ -61,7 +60,7 @@ fn open_body(walk: &mut Walk<'_, '_>, rows: Rows) -> Result<(), Refusal>
 }
 
 // The entry up to the end of its body.
-fn resolve_body(walk: &mut Walk<'_, '_>, rows: Rows, left: usize) -> Result<(), Refusal>
+fn resolve_body(walk: &mut Walker<'_, '_>, rows: Rows, left: usize) -> Result<(), Refusal>
     requires { Prepared walk.old.sheet.now walk.old.classes.now }
     ensures step { after walk.new result ≡ parts_walked (over walk.old.outside.now) left walk.old.sheet.now rows.body
         (run_state (over walk.old.outside.now) walk.old.sheet.now
@@ -81,14 +80,14 @@ pub fn resolve_entry<'s, 'b>(
     entries: &'b mut [u32],
     results: &'b mut [u32],
     nodes: &'b mut [u32],
-) -> Ended
+) -> Walk
     requires { (Ready (over outside.now) sheet.now classes.old entries.old results.old nodes.old) × (OneUnit sheet.now) }
     ensures { BodyWalked (over outside.now) sheet.now
         (ended result entries.new results.new nodes.new) }
 {
     class_table(sheet, classes);
     let env = open_names(sheet, outside, entries);
-    let mut walk = Walk {
+    let mut walk = Walker {
         sheet,
         outside,
         classes,
@@ -100,7 +99,7 @@ pub fn resolve_entry<'s, 'b>(
     };
     let rows = unit_rows(sheet);
     let done = resolve_body(&mut walk, rows, sheet.len() / 8 - 4);
-    Ended {
+    Walk {
         env: walk.env,
         store: walk.store,
         done,

@@ -16,7 +16,7 @@ use Rattle.definition.specs.Outcome.{refused_at}
 use Rattle.definition.proofs.Format.Accepted.{Eights, eights_answers}
 use Rattle.definition.specs.Outside.{Outside}
 use Rattle.machine.specs.Machine.{Store as Stored, State}
-use Rattle.walk.specs.declared.ended.Ended.{Ended}
+use Rattle.walk.specs.declared.state.Walk.{Walk}
 use Rattle.walk.specs.Ended.{ended}
 use Rattle.machine.specs.Reads.{PastFour, Walked, StoreReads}
 use Rattle.after.proofs.Ranges.{rows_whole}
@@ -141,5 +141,5 @@ pub walk_store : {O : Outside} {s : Sheet} {x : State} → Walked O s x → x.re
 walk_store {O} {s} {x} w z = w.store (walk_accepted O s x w z)
 
 -- what follows the walk asks nothing of the open entries
-pub any_entries : {O : Outside} {s : Sheet} (w : Ended) {v : List ℕ} (t q : List ℕ) → Walked O s (ended w v t q) → (u : List ℕ) → Walked O s (ended w u t q)
+pub any_entries : {O : Outside} {s : Sheet} (w : Walk) {v : List ℕ} (t q : List ℕ) → Walked O s (ended w v t q) → (u : List ℕ) → Walked O s (ended w u t q)
 any_entries w t q h u = record { refused = h.refused; accepted = h.accepted; globals = h.globals; store = h.store; later = h.later }

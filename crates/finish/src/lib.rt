@@ -17,7 +17,7 @@ use ast::question::Refusal;
 use class_names::tables::Tables;
 use inherit::later_refusal;
 use store::nodes::Store;
-use walk::ended::Ended;
+use walk::state::Walk;
 
 // The first no of questions 18 to 21, with marks of the classes climbed through for 2,048 rows.
 fn ask_later(
@@ -68,7 +68,7 @@ pub fn finish(
     outside: &[u32],
     results: &[u32],
     nodes: &[u32],
-    walk: Ended,
+    walk: Walk,
     out: &mut [u32],
 ) -> Answer
     requires { (PastFour (over outside.now) sheet.now)

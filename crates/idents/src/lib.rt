@@ -17,7 +17,7 @@ use ast::{column, name};
 use store::nodes::Node;
 use store::table::write_use;
 use symbols::decl::{OpenDecl, is_outer, owner_of, row_of, slot_of};
-use walk::state::Walk;
+use walk::state::Walker;
 use words::word;
 
 // The question on an undeclared name.
@@ -33,7 +33,7 @@ fn undeclared(name: u32) -> Question
 
 // A local or argument that is used is captured by every function around, out to its own. Most belong to the innermost function,
 // where none captures them: then the open entries are not searched.
-fn capture(walk: &mut Walk<'_, '_>, d: OpenDecl)
+fn capture(walk: &mut Walker<'_, '_>, d: OpenDecl)
     ensures step { stored_of walk.new
         ≡ (when is_outer_variable (means d) walk.old.env.fun.0
         then add_capture (open_functions walk.old.sheet.now (scopes_in walk.old))
@@ -63,7 +63,7 @@ fn capture(walk: &mut Walk<'_, '_>, d: OpenDecl)
 }
 
 // An identifier: is it declared? Then its captures, what it means, and how far out that is.
-pub fn resolve_ident(walk: &mut Walk<'_, '_>, row: u32) -> Result<(), Refusal>
+pub fn resolve_ident(walk: &mut Walker<'_, '_>, row: u32) -> Result<(), Refusal>
     requires { (length walk.old.sheet.now ≤ 16384) × (kind walk.old.sheet.now row ≡ 50) }
     ensures step { (O : Outside) → after walk.new result ≡ step_state O walk.old.sheet.now (visit row) (state_of walk.old) }
     ensures same { Same walk.old walk.new }

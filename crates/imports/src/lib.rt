@@ -19,7 +19,7 @@ use ast::question::{Question, Refusal};
 use ast::{ClassId, FIRST_CLASS, FunId, column, flag};
 use sheet::{find_export, kids, kids_of};
 use symbols::decl::{OpenDecl, define};
-use walk::state::Walk;
+use walk::state::Walker;
 use words::{is_kind, word};
 
 // Export row `x` (0: none) as an open declaration.
@@ -45,7 +45,7 @@ fn exported(sheet: &[u32], x: u32) -> Option<OpenDecl>
 }
 
 // Import row `i` declares name `m` as export row `x` (0: none). Is there such an export, and is the name new in its scope?
-fn bring(walk: &mut Walk<'_, '_>, i: u32, m: u32, x: u32) -> Result<(), Refusal>
+fn bring(walk: &mut Walker<'_, '_>, i: u32, m: u32, x: u32) -> Result<(), Refusal>
     requires { length walk.old.sheet.now ≤ 16384 }
     ensures step { (O : Outside) → after walk.new result
         ≡ step_state O walk.old.sheet.now (brings i m (export_of walk.old.sheet.now x)) (state_of walk.old) }
@@ -72,7 +72,7 @@ fn bring(walk: &mut Walk<'_, '_>, i: u32, m: u32, x: u32) -> Result<(), Refusal>
 
 // All exports of a kind of unit row `u`, in the order of its children. A loop of one call, as `import_listed` and `declare_kind` of crate `walk` are: they differ in the
 // rows and in the call, so a routine for all would take an iterator and a closure, and be longer than the three.
-fn import_kind(walk: &mut Walk<'_, '_>, u: u32, kind: Kind, i: u32) -> Result<(), Refusal>
+fn import_kind(walk: &mut Walker<'_, '_>, u: u32, kind: Kind, i: u32) -> Result<(), Refusal>
     requires { length walk.old.sheet.now ≤ 16384 }
     ensures step { (O : Outside) → after walk.new result
         ≡ run_state O walk.old.sheet.now
@@ -88,7 +88,7 @@ fn import_kind(walk: &mut Walk<'_, '_>, u: u32, kind: Kind, i: u32) -> Result<()
 }
 
 // All exports of unit row `u`: functions, classes, constants.
-fn import_all(walk: &mut Walk<'_, '_>, u: u32, i: u32) -> Result<(), Refusal>
+fn import_all(walk: &mut Walker<'_, '_>, u: u32, i: u32) -> Result<(), Refusal>
     requires { length walk.old.sheet.now ≤ 16384 }
     ensures step { (O : Outside) → after walk.new result
         ≡ run_state O walk.old.sheet.now (map (λ y. brings i y.name y.means) (exports walk.old.sheet.now u)) (state_of walk.old) }
@@ -100,7 +100,7 @@ fn import_all(walk: &mut Walk<'_, '_>, u: u32, i: u32) -> Result<(), Refusal>
 }
 
 // All names that import row `i` of unit row `u` lists, each as the export that the import finds for it.
-fn import_listed(walk: &mut Walk<'_, '_>, u: u32, i: u32) -> Result<(), Refusal>
+fn import_listed(walk: &mut Walker<'_, '_>, u: u32, i: u32) -> Result<(), Refusal>
     requires { length walk.old.sheet.now ≤ 16384 }
     ensures step { (O : Outside) → after walk.new result
         ≡ run_state O walk.old.sheet.now
@@ -118,7 +118,7 @@ fn import_listed(walk: &mut Walk<'_, '_>, u: u32, i: u32) -> Result<(), Refusal>
 }
 
 // All that unit row `u` sees of the unit that import row `i` names, if the import says so. A unit sees nothing of itself.
-fn import_seen(walk: &mut Walk<'_, '_>, u: u32, i: u32) -> Result<(), Refusal>
+fn import_seen(walk: &mut Walker<'_, '_>, u: u32, i: u32) -> Result<(), Refusal>
     requires { length walk.old.sheet.now ≤ 16384 }
     ensures step { (O : Outside) → after walk.new result
         ≡ run_state O walk.old.sheet.now
@@ -137,7 +137,7 @@ fn import_seen(walk: &mut Walk<'_, '_>, u: u32, i: u32) -> Result<(), Refusal>
 }
 
 // Import row `i` of unit row `u`: all that it sees, if it says so; then each listed name.
-fn import_one(walk: &mut Walk<'_, '_>, u: u32, i: u32) -> Result<(), Refusal>
+fn import_one(walk: &mut Walker<'_, '_>, u: u32, i: u32) -> Result<(), Refusal>
     requires { length walk.old.sheet.now ≤ 16384 }
     ensures step { (O : Outside) → after walk.new result ≡ run_state O walk.old.sheet.now (imports walk.old.sheet.now u i) (state_of walk.old) }
     ensures same { Same walk.old walk.new }
@@ -147,7 +147,7 @@ fn import_one(walk: &mut Walk<'_, '_>, u: u32, i: u32) -> Result<(), Refusal>
 }
 
 // All imports of unit row `u`, in the order of its children.
-pub fn define_imports(walk: &mut Walk<'_, '_>, u: u32) -> Result<(), Refusal>
+pub fn define_imports(walk: &mut Walker<'_, '_>, u: u32) -> Result<(), Refusal>
     requires { length walk.old.sheet.now ≤ 16384 }
     ensures step { (O : Outside) → after walk.new result
         ≡ run_state O walk.old.sheet.now (concat_map (imports walk.old.sheet.now u) (kids_of_in walk.old.sheet.now 3 u)) (state_of walk.old) }

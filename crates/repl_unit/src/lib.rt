@@ -15,13 +15,13 @@ use answer::{Answer, refuse_at};
 use entry_walk::resolve_entry;
 use finish::finish;
 use raise::raise_rows;
-use walk::ended::Ended;
+use walk::state::Walk;
 
 // The answer, and the walk where it ended: its next global, and the open entries with what was declared.
 #[derive(Clone, Copy)]
 pub struct Resolved {
     pub answer: Answer,
-    pub walk: Ended,
+    pub walk: Walk,
 }
 
 // What follows the walk of an entry that no question of it refused. A refusal has no rows to raise.
@@ -31,7 +31,7 @@ fn finish_over(
     results: &[u32],
     nodes: &[u32],
     base: u32,
-    walk: Ended,
+    walk: Walk,
     out: &mut [u32],
 ) -> Answer
     requires { (PastFour (over outside.now) sheet.now)

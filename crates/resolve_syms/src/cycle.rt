@@ -15,12 +15,12 @@ use ast::question::Refusal;
 use row_events::{after, after_part, before, before_function, is_part, parts_of};
 use sheet::child_rows::kids;
 use walk::scopes::close_scope;
-use walk::state::Walk;
+use walk::state::Walker;
 use words::word;
 
 // A function: its scope with its parameters, then its body.
 #[cycle(resolvers)]
-fn resolve_fun(walk: &mut Walk<'_, '_>, row: u32, left: usize) -> Result<(), Refusal>
+fn resolve_fun(walk: &mut Walker<'_, '_>, row: u32, left: usize) -> Result<(), Refusal>
     requires { (Prepared walk.old.sheet.now walk.old.classes.now) × (kind walk.old.sheet.now row ≡ 6) }
     ensures step { after walk.new result ≡ walked (over walk.old.outside.now) left walk.old.sheet.now row (state_of walk.old) }
     ensures same { Same walk.old walk.new }
@@ -36,7 +36,7 @@ fn resolve_fun(walk: &mut Walk<'_, '_>, row: u32, left: usize) -> Result<(), Ref
 
 // A statement, or a unit: what happens before its parts, the parts left to right, and what happens after them.
 #[cycle(resolvers)]
-fn resolve_stmt(walk: &mut Walk<'_, '_>, row: u32, left: usize) -> Result<(), Refusal>
+fn resolve_stmt(walk: &mut Walker<'_, '_>, row: u32, left: usize) -> Result<(), Refusal>
     requires { Prepared walk.old.sheet.now walk.old.classes.now }
     ensures step { after walk.new result ≡ walked (over walk.old.outside.now) left walk.old.sheet.now row (state_of walk.old) }
     ensures same { Same walk.old walk.new }
@@ -52,7 +52,7 @@ fn resolve_stmt(walk: &mut Walk<'_, '_>, row: u32, left: usize) -> Result<(), Re
 
 // An expression: its parts left to right, then what it means.
 #[cycle(resolvers)]
-fn resolve_expr(walk: &mut Walk<'_, '_>, row: u32, left: usize) -> Result<(), Refusal>
+fn resolve_expr(walk: &mut Walker<'_, '_>, row: u32, left: usize) -> Result<(), Refusal>
     requires { (Prepared walk.old.sheet.now walk.old.classes.now) × (39 < kind walk.old.sheet.now row) }
     ensures step { after walk.new result ≡ walked (over walk.old.outside.now) left walk.old.sheet.now row (state_of walk.old) }
     ensures same { Same walk.old walk.new }
@@ -66,7 +66,7 @@ fn resolve_expr(walk: &mut Walk<'_, '_>, row: u32, left: usize) -> Result<(), Re
 
 // A row that is walked as a part, by its kind.
 #[cycle(resolvers)]
-fn resolve_any(walk: &mut Walk<'_, '_>, row: u32, left: usize) -> Result<(), Refusal>
+fn resolve_any(walk: &mut Walker<'_, '_>, row: u32, left: usize) -> Result<(), Refusal>
     requires { Prepared walk.old.sheet.now walk.old.classes.now }
     ensures step { after walk.new result ≡ walked (over walk.old.outside.now) left walk.old.sheet.now row (state_of walk.old) }
     ensures same { Same walk.old walk.new }
@@ -83,7 +83,7 @@ fn resolve_any(walk: &mut Walk<'_, '_>, row: u32, left: usize) -> Result<(), Ref
 
 // The parts of row `row`, left to right. A refused walk returns at once.
 #[cycle(resolvers)]
-pub fn resolve_parts(walk: &mut Walk<'_, '_>, row: u32, left: usize) -> Result<(), Refusal>
+pub fn resolve_parts(walk: &mut Walker<'_, '_>, row: u32, left: usize) -> Result<(), Refusal>
     requires { Prepared walk.old.sheet.now walk.old.classes.now }
     ensures step { after walk.new result ≡ parts_walked (over walk.old.outside.now) left walk.old.sheet.now row (state_of walk.old) }
     ensures same { Same walk.old walk.new }

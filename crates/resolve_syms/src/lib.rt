@@ -12,8 +12,7 @@ use crate::cycle::resolve_parts;
 use classes::class_table;
 use outermost::open_names;
 use store::nodes::Store;
-use walk::ended::Ended;
-use walk::state::Walk;
+use walk::state::{Walk, Walker};
 
 // The units of a sheet resolved, over a table of classes, open entries, a table of results and nodes: refused with the first no of
 // questions 5 to 17, or the buffers hold what the definition's answer rows say.
@@ -24,14 +23,14 @@ pub fn resolve_units<'s, 'b>(
     entries: &'b mut [u32],
     results: &'b mut [u32],
     nodes: &'b mut [u32],
-) -> Ended
+) -> Walk
     requires { Ready (over outside.now) sheet.now classes.old entries.old results.old nodes.old }
     ensures { Walked (over outside.now) sheet.now
         (ended result entries.new results.new nodes.new) }
 {
     class_table(sheet, classes);
     let env = open_names(sheet, outside, entries);
-    let mut walk = Walk {
+    let mut walk = Walker {
         sheet,
         outside,
         classes,
@@ -42,7 +41,7 @@ pub fn resolve_units<'s, 'b>(
         nodes,
     };
     let done = resolve_parts(&mut walk, 0, sheet.len() / 8 - 1);
-    Ended {
+    Walk {
         env: walk.env,
         store: walk.store,
         done,

@@ -1,7 +1,7 @@
 // What happens at a row before its parts, after each of them, and after all, by its kind.
 #![tactic(auto)]
 
-ghost use Rattle.std.specs.Prelude.{◌≡◌, ◌≤◌, length};
+ghost use Rattle.std.specs.Prelude.{◌≡◌, ◌<◌, ◌≤◌, length};
 ghost use Rattle.definition.specs.Basics.{when◌then◌else◌};
 ghost use Rattle.definition.specs.Sheet.{a, is, kind};
 ghost use Rattle.definition.specs.Walk.{before, after as after_all, after_part, is_part};
@@ -21,11 +21,11 @@ use imports::define_imports;
 use visits::{check_instanceof, check_jump, note_literal, resolve_host_const, resolve_parent};
 use walk::declare::{declare, declare_kind, hoist_literals};
 use walk::scopes::{begin_loop, close_scope, open_scope};
-use walk::state::Walk;
+use walk::state::Walker;
 use words::{is_kind, kind_at, word};
 
 // A unit opens a scope for its imports and classes.
-fn before_unit(walk: &mut Walk<'_, '_>, row: u32) -> Result<(), Refusal>
+pub fn before_unit(walk: &mut Walker<'_, '_>, row: u32) -> Result<(), Refusal>
     requires { (length walk.old.sheet.now ≤ 16384) × (kind walk.old.sheet.now row ≡ 2) }
     ensures step { (O : Outside) → after walk.new result ≡ run_state O walk.old.sheet.now (before walk.old.sheet.now row) (state_of walk.old) }
     ensures same { Same walk.old walk.new }
@@ -36,7 +36,7 @@ fn before_unit(walk: &mut Walk<'_, '_>, row: u32) -> Result<(), Refusal>
 }
 
 // A function opens a scope for its parameters.
-pub fn before_function(walk: &mut Walk<'_, '_>, row: u32) -> Result<(), Refusal>
+pub fn before_function(walk: &mut Walker<'_, '_>, row: u32) -> Result<(), Refusal>
     requires { (length walk.old.sheet.now ≤ 16384) × (kind walk.old.sheet.now row ≡ 6) }
     ensures step { (O : Outside) → after walk.new result ≡ run_state O walk.old.sheet.now (before walk.old.sheet.now row) (state_of walk.old) }
     ensures same { Same walk.old walk.new }
@@ -46,7 +46,7 @@ pub fn before_function(walk: &mut Walk<'_, '_>, row: u32) -> Result<(), Refusal>
 }
 
 // A block opens a scope and declares its literal lets first.
-fn before_block(walk: &mut Walk<'_, '_>, row: u32) -> Result<(), Refusal>
+fn before_block(walk: &mut Walker<'_, '_>, row: u32) -> Result<(), Refusal>
     requires { (length walk.old.sheet.now ≤ 16384) × (kind walk.old.sheet.now row ≡ 25) }
     ensures step { (O : Outside) → after walk.new result ≡ run_state O walk.old.sheet.now (before walk.old.sheet.now row) (state_of walk.old) }
     ensures same { Same walk.old walk.new }
@@ -56,7 +56,7 @@ fn before_block(walk: &mut Walk<'_, '_>, row: u32) -> Result<(), Refusal>
 }
 
 // Before the parts of a row: a unit, function, block or `for` opens a scope; a class declaration asks for its parent.
-pub fn before(walk: &mut Walk<'_, '_>, row: u32) -> Result<(), Refusal>
+pub fn before(walk: &mut Walker<'_, '_>, row: u32) -> Result<(), Refusal>
     requires { length walk.old.sheet.now ≤ 16384 }
     ensures step { (O : Outside) → after walk.new result ≡ run_state O walk.old.sheet.now (before walk.old.sheet.now row) (state_of walk.old) }
     ensures same { Same walk.old walk.new }
@@ -78,7 +78,7 @@ pub fn before(walk: &mut Walk<'_, '_>, row: u32) -> Result<(), Refusal>
 }
 
 // A let declares its name, unless its value is a literal: then the block has done so, or nothing does.
-fn after_let(walk: &mut Walk<'_, '_>, row: u32) -> Result<(), Refusal>
+fn after_let(walk: &mut Walker<'_, '_>, row: u32) -> Result<(), Refusal>
     requires { (length walk.old.sheet.now ≤ 16384) × (kind walk.old.sheet.now row ≡ 29) }
     ensures step { (O : Outside) → after walk.new result ≡ run_state O walk.old.sheet.now (after_all walk.old.sheet.now row) (state_of walk.old) }
     ensures same { Same walk.old walk.new }
@@ -95,8 +95,8 @@ fn after_let(walk: &mut Walk<'_, '_>, row: u32) -> Result<(), Refusal>
 
 // After all parts of a row: a scope closes; a let declares its name; an assignment, break or continue is asked about; an identifier, host
 // constant or instanceof is looked up; a literal notes where it stands.
-pub fn after(walk: &mut Walk<'_, '_>, row: u32) -> Result<(), Refusal>
-    requires { Prepared walk.old.sheet.now walk.old.classes.now }
+pub fn after(walk: &mut Walker<'_, '_>, row: u32) -> Result<(), Refusal>
+    requires { (length walk.old.sheet.now ≤ 16384) × (kind walk.old.sheet.now row < 40 → Prepared walk.old.sheet.now walk.old.classes.now) }
     ensures step { (O : Outside) → after walk.new result ≡ run_state O walk.old.sheet.now (after_all walk.old.sheet.now row) (state_of walk.old) }
     ensures same { Same walk.old walk.new }
 {
@@ -123,7 +123,7 @@ pub fn after(walk: &mut Walk<'_, '_>, row: u32) -> Result<(), Refusal>
 }
 
 // After part `i` of `row`: the checks on a call's callee; a `for` comes to its loop after init and test.
-pub fn after_part(walk: &mut Walk<'_, '_>, row: u32, i: usize) -> Result<(), Refusal>
+pub fn after_part(walk: &mut Walker<'_, '_>, row: u32, i: usize) -> Result<(), Refusal>
     ensures step { after walk.new result
         ≡ run_state (over walk.old.outside.now) walk.old.sheet.now (after_part walk.old.sheet.now row i) (state_of walk.old) }
     ensures same { Same walk.old walk.new }

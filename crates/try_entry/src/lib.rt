@@ -15,7 +15,7 @@ use lay_over::count_laid;
 use outside::layout;
 use repl_unit::resolve_over;
 use session_room::{Added, has_room};
-use walk::ended::Ended;
+use walk::state::Walk;
 use words::{word, word_at};
 
 // How far the numbers of one entry's functions and classes lie above those of the entry before.
@@ -25,7 +25,7 @@ const ENTRY_NUMBERS: u32 = session::layout::ENTRY_NUMBERS as u32;
 #[derive(Clone, Copy)]
 pub struct Tried {
     pub answer: Answer,
-    pub walk: Ended,
+    pub walk: Walk,
     pub added: Added,
 }
 

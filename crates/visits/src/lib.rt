@@ -18,11 +18,11 @@ use ast::{ClassId, Decl, FunId, column, name};
 use store::nodes::Store;
 use store::table::{write_decl, write_row};
 use symbols::decl::class_number;
-use walk::state::Walk;
+use walk::state::Walker;
 use words::{is_kind, word};
 
 // Does a break or continue stand in a loop?
-pub fn check_jump(walk: &Walk<'_, '_>, row: u32) -> Result<(), Refusal>
+pub fn check_jump(walk: &Walker<'_, '_>, row: u32) -> Result<(), Refusal>
     requires { (is walk.now.sheet.now 23 row || is walk.now.sheet.now 24 row) ≡ true }
     ensures { (O : Outside) → after walk.now result ≡ step_state O walk.now.sheet.now (visit row) (state_of walk.now) }
 {
@@ -37,7 +37,7 @@ pub fn check_jump(walk: &Walk<'_, '_>, row: u32) -> Result<(), Refusal>
 }
 
 // Does instanceof name a class?
-pub fn check_instanceof(walk: &mut Walk<'_, '_>, row: u32) -> Result<(), Refusal>
+pub fn check_instanceof(walk: &mut Walker<'_, '_>, row: u32) -> Result<(), Refusal>
     requires { kind walk.old.sheet.now row ≡ 55 }
     ensures step { (O : Outside) → after walk.new result ≡ step_state O walk.old.sheet.now (visit row) (state_of walk.old) }
     ensures same { Same walk.old walk.new }
@@ -67,7 +67,7 @@ fn main_unit_code(sheet: &[u32], fun: FunId) -> u32
 }
 
 // Is a host constant MAIN_UNIT?
-pub fn resolve_host_const(walk: &mut Walk<'_, '_>, row: u32) -> Result<(), Refusal>
+pub fn resolve_host_const(walk: &mut Walker<'_, '_>, row: u32) -> Result<(), Refusal>
     requires { kind walk.old.sheet.now row ≡ 51 }
     ensures step { (O : Outside) → after walk.new result ≡ step_state O walk.old.sheet.now (visit row) (state_of walk.old) }
     ensures same { Same walk.old walk.new }
@@ -86,7 +86,7 @@ pub fn resolve_host_const(walk: &mut Walk<'_, '_>, row: u32) -> Result<(), Refus
 }
 
 // A literal notes the function in which it stands.
-pub fn note_literal(walk: &mut Walk<'_, '_>, row: u32)
+pub fn note_literal(walk: &mut Walker<'_, '_>, row: u32)
     requires { kind walk.old.sheet.now row ≡ 52 }
     ensures step { (O : Outside) → state_of walk.new ≡ step_state O walk.old.sheet.now (visit row) (state_of walk.old) }
     ensures same { Same walk.old walk.new }
@@ -114,7 +114,7 @@ fn write_parent(sheet: &[u32], c: u32, class: ClassId, results: &mut [u32])
 }
 
 // Does a parent name a class?
-pub fn resolve_parent(walk: &mut Walk<'_, '_>, row: u32) -> Result<(), Refusal>
+pub fn resolve_parent(walk: &mut Walker<'_, '_>, row: u32) -> Result<(), Refusal>
     requires { kind walk.old.sheet.now row ≡ 30 }
     ensures step { (O : Outside) → after walk.new result ≡ step_state O walk.old.sheet.now (visit row) (state_of walk.old) }
     ensures same { Same walk.old walk.new }

@@ -13,7 +13,7 @@ ghost use Rattle.symbols.specs.OpenDecls.{means, StandsFor};
 ghost use Rattle.store.specs.Stored.{store_of};
 ghost use Rattle.walk.specs.WalkState.{after, state_of, Same};
 
-use crate::state::Walk;
+use crate::state::Walker;
 use ast::column;
 use ast::kind::Kind;
 use ast::question::{Question, Refusal};
@@ -71,7 +71,7 @@ fn store_let(sheet: &[u32], row: u32, env: Env, d: OpenDecl, results: &mut [u32]
 }
 
 // `row` declares its name, if that is free in its scope.
-pub fn declare(walk: &mut Walk<'_, '_>, row: u32) -> Result<(), Refusal>
+pub fn declare(walk: &mut Walker<'_, '_>, row: u32) -> Result<(), Refusal>
     requires { length walk.old.sheet.now ≤ 16384 }
     ensures step { (O : Outside) → after walk.new result ≡ step_state O walk.old.sheet.now (declare row) (state_of walk.old) }
     ensures same { Same walk.old walk.new }
@@ -92,7 +92,7 @@ pub fn declare(walk: &mut Walk<'_, '_>, row: u32) -> Result<(), Refusal>
 }
 
 // Declares the children of `row` that are of a kind: the classes of a unit, the parameters of a function.
-pub fn declare_kind(walk: &mut Walk<'_, '_>, row: u32, kind: Kind) -> Result<(), Refusal>
+pub fn declare_kind(walk: &mut Walker<'_, '_>, row: u32, kind: Kind) -> Result<(), Refusal>
     requires { length walk.old.sheet.now ≤ 16384 }
     ensures step { (O : Outside) → after walk.new result
         ≡ run_state O walk.old.sheet.now (map declare (kids_of_in walk.old.sheet.now (kind_number kind) row)) (state_of walk.old) }
@@ -105,7 +105,7 @@ pub fn declare_kind(walk: &mut Walk<'_, '_>, row: u32, kind: Kind) -> Result<(),
 }
 
 // Declares the lets of block `row` whose values are function literals: they come first.
-pub fn hoist_literals(walk: &mut Walk<'_, '_>, row: u32) -> Result<(), Refusal>
+pub fn hoist_literals(walk: &mut Walker<'_, '_>, row: u32) -> Result<(), Refusal>
     requires { length walk.old.sheet.now ≤ 16384 }
     ensures step { (O : Outside) → after walk.new result
         ≡ run_state O walk.old.sheet.now (map declare (filter (literal_let walk.old.sheet.now) (kids_in walk.old.sheet.now row))) (state_of walk.old) }

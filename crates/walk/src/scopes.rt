@@ -5,11 +5,11 @@ ghost use Rattle.definition.specs.Walk.{enter, leave, loop};
 ghost use Rattle.machine.specs.Machine.{step_state};
 ghost use Rattle.walk.specs.WalkState.{state_of, Same};
 
-use crate::state::Walk;
+use crate::state::Walker;
 use symbols::env::{push_loop, push_scope};
 
 // The scope of `row` opens.
-pub fn open_scope(walk: &mut Walk<'_, '_>, row: u32)
+pub fn open_scope(walk: &mut Walker<'_, '_>, row: u32)
     ensures step { (O : Outside) → state_of walk.new ≡ step_state O walk.old.sheet.now (enter row) (state_of walk.old) }
     ensures same { Same walk.old walk.new }
 {
@@ -18,7 +18,7 @@ pub fn open_scope(walk: &mut Walk<'_, '_>, row: u32)
 }
 
 // The innermost scope closes.
-pub fn close_scope(walk: &mut Walk<'_, '_>)
+pub fn close_scope(walk: &mut Walker<'_, '_>)
     ensures step { (O : Outside) → state_of walk.new ≡ step_state O walk.old.sheet.now leave (state_of walk.old) }
     ensures same { Same walk.old walk.new }
 {
@@ -26,7 +26,7 @@ pub fn close_scope(walk: &mut Walk<'_, '_>)
 }
 
 // The rest of the innermost scope is in a loop.
-pub fn begin_loop(walk: &mut Walk<'_, '_>)
+pub fn begin_loop(walk: &mut Walker<'_, '_>)
     ensures step { (O : Outside) → state_of walk.new ≡ step_state O walk.old.sheet.now loop (state_of walk.old) }
     ensures same { Same walk.old walk.new }
 {

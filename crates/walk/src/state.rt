@@ -9,6 +9,7 @@ ghost use Rattle.symbols.specs.OpenDecls.{means, meant, slot_or, number_or};
 ghost use Rattle.store.specs.Stored.{functions_from, node_of};
 ghost use Rattle.walk.specs.WalkState.{state_of, scopes_in, stored_of, Same};
 
+use ast::question::Refusal;
 use ast::{Decl, FunId};
 use store::code::seen_in;
 use store::nodes::{
@@ -19,11 +20,19 @@ use symbols::decl::{Found, OpenDecl, lookup};
 use symbols::env::{Env, has_local, in_loop, pop_scope};
 use words::word;
 
-// A walk over a sheet and what stands outside it, with the class of each row: the open scopes, which are counters and entries in a lent buffer, the
+// How a walk ended, without the buffers that it was lent: the counters of the scopes and of the store, and the refusal, if a question got a no.
+#[derive(Clone, Copy)]
+pub struct Walk {
+    pub env: Env,
+    pub store: Store,
+    pub done: Result<(), Refusal>,
+}
+
+// What walks over a sheet and what stands outside it, with the class of each row: the open scopes, which are counters and entries in a lent buffer, the
 // innermost last; and what the walk stores, which is counters, eight words for each sheet row, and nodes. The lent buffers are its own fields, not
 // those of a struct in it: so a caller that lends them knows what they hold afterwards.
 #[derive(Drop)]
-pub struct Walk<'s, 'b> {
+pub struct Walker<'s, 'b> {
     pub sheet: &'s [u32],
     pub outside: &'s [u32],
     pub classes: &'s [u32],
@@ -34,7 +43,7 @@ pub struct Walk<'s, 'b> {
     pub nodes: &'b mut [u32],
 }
 
-impl Walk<'_, '_> {
+impl Walker<'_, '_> {
     // A declaration, seen from the innermost function: the index of a capture, if it is a local or argument of another.
     pub fn seen_in(&self, d: OpenDecl) -> Decl
         requires { length self.now.sheet.now ≤ 16384 }

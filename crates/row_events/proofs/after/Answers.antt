@@ -1,4 +1,5 @@
-use Rattle.std.proofs.Common.{ap, ◌∙◌, rules}
+use Rattle.std.proofs.Common.{◌≡◌, ap, arith, ◌∙◌, rules}
+use Rattle.definition.specs.Sheet.{kind}
 use Rattle.ast.specs.declared.kind.Kind.TheVariants.{Unit, Function, Block, For, Let, Assign, Break, Continue, Identifier, HostConstant, Literal, Instanceof}
 use Rattle.ast.specs.Kind.{kind_number}
 use Rattle.definition.specs.Walk.{leave, visit, after}
@@ -68,3 +69,8 @@ returns-in_default-kind c =
           (no Instanceof c.in-Ok.ensures c.in_default-kind.not-Instanceof));
       same = search rules;
     }
+
+pub check_assign-requires : goal.check_assign-requires
+check_assign-requires c =
+    let k : kind c.args.walk.now.sheet.now c.args.row ≡ 21 = c.in-Ok.ensures ∙ ap kind_number c.in-Assign.is in
+    ((c.requires.1 (omega (arith, k))).classes, k)

@@ -1,5 +1,5 @@
 use Rattle.machine.specs.Machine.{list_at}
-use Rattle.walk.proofs.state.Walk.has_captured.Goals as goal
+use Rattle.walk.proofs.state.Walker.has_captured.Goals as goal
 
 pub returns : goal.returns
 unfolding list_at
