@@ -17,7 +17,6 @@ use find_text::find_lent;
 use fresh_session::fresh;
 use input::{fill, read_body};
 use name_reply::name_lent;
-use name_text::Whose;
 use order_text::order_lent;
 use preview_text::preview_lent;
 use request::broken::Broken;
@@ -48,7 +47,7 @@ fn reply(
         Verb::Enter => enter_lent(words, bytes, sheet, names, lent, text),
         Verb::Preview => preview_lent(words, bytes, sheet, names, lent, text),
         Verb::Withdraw => withdraw_lent(words, bytes, text),
-        Verb::NameText => name_lent(words, bytes, names, Whose::from(x), request.y, text),
+        Verb::NameText => name_lent(words, bytes, names, x, request.y, text),
         Verb::FindName => find_lent(names, sheet, text),
         Verb::OrderUnits => order_lent(sheet, names, lent, text),
         Verb::ToColumns => columns_lent(sheet, Way::ToColumns, lent, text),
@@ -86,7 +85,7 @@ fn answer<P: Print, R: Read>(
     names: &mut [u8],
     text: &mut [u8],
 ) -> Result<(), End> {
-    let request = read_request(header).map_err(End::Broken)?;
+    let request = read_request(header).map_err(|no| End::Broken(no.why))?;
     let (s, n) = read_bodies(input, request, sheet, names).map_err(End::Broken)?;
     let count = reply(request, words, bytes, &sheet[..s], &names[..n], text);
     rt.write_all(&text[..count])

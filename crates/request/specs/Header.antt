@@ -6,6 +6,7 @@ use Rattle.request.specs.declared.broken.Broken.{Broken}
 use Rattle.request.specs.declared.broken.Broken.TheVariants.{NoRow, Flags, X, Y, Bodies}
 use Rattle.request.specs.declared.verb.Verb.{Verb}
 use Rattle.request.specs.declared.verb.Verb.TheVariants.{Resolve, Enter, Preview, Withdraw, NameText, FindName, OrderUnits, ToColumns, FromColumns}
+use Rattle.request.specs.declared.BrokenRequest.{BrokenRequest}
 use Rattle.request.specs.declared.Request.{Request}
 use Rattle.request.specs.Verbs.{verb_of}
 
@@ -48,19 +49,33 @@ told v w = record {
   second_names = get_or w 7 0;
 }
 
+-- what breaks a request, with its numbers as they stand
+unfoldable pub refused : Broken → List ℕ → BrokenRequest
+refused b w = record {
+  why = b;
+  verb = get_or w 0 0;
+  sheet = get_or w 1 0;
+  names = get_or w 2 0;
+  flags = get_or w 3 0;
+  x = get_or w 4 0;
+  y = get_or w 5 0;
+  second_sheet = get_or w 6 0;
+  second_names = get_or w 7 0;
+}
+
 -- is a header one row by the text rule of a sheet?
 abbrev pub is_row : List ℕ → Bool
 is_row h = is_sheet_text h && eqb (lines h) 1
 
 -- the request of a row, by what its verb and its numbers tell
-abbrev pub told_unless : Result (Unit {0}) Broken → Verb → List ℕ → Result Request Broken
+abbrev pub told_unless : Result (Unit {0}) Broken → Verb → List ℕ → Result Request BrokenRequest
 told_unless (Ok u) v w = Ok (told v w)
-told_unless (Err b) v w = Err b
+told_unless (Err b) v w = Err (refused b w)
 
-abbrev pub asked : Result Verb Broken → List ℕ → Result Request Broken
+abbrev pub asked : Result Verb Broken → List ℕ → Result Request BrokenRequest
 asked (Ok v) w = told_unless (checked (largest v) w) v w
-asked (Err b) w = Err b
+asked (Err b) w = Err (refused b w)
 
--- the request of a header, or what breaks it first
-unfoldable pub request_of : List ℕ → Result Request Broken
-request_of h = when is_row h then asked (verb_of (get_or (sheet_of h) 0 0)) (sheet_of h) else Err NoRow
+-- the request of a header, or what breaks it first; the numbers of one that is no row are 0
+unfoldable pub request_of : List ℕ → Result Request BrokenRequest
+request_of h = when is_row h then asked (verb_of (get_or (sheet_of h) 0 0)) (sheet_of h) else Err (refused NoRow [])

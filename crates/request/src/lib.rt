@@ -6,7 +6,7 @@ mod column;
 pub mod verb;
 
 ghost use Rattle.std.specs.Prelude.{◌≡◌, length};
-ghost use Rattle.request.specs.Header.{largest, checked, told, request_of};
+ghost use Rattle.request.specs.Header.{largest, checked, told, refused, request_of};
 
 use crate::broken::Broken;
 use crate::verb::Verb;
@@ -26,6 +26,20 @@ const LOOKED_FOR: u32 = 32768;
 #[derive(Clone, Copy)]
 pub struct Request {
     pub verb: Verb,
+    pub sheet: u32,
+    pub names: u32,
+    pub flags: u32,
+    pub x: u32,
+    pub y: u32,
+    pub second_sheet: u32,
+    pub second_names: u32,
+}
+
+// What breaks a request, with the numbers of its header as they stand; all are 0 where the header is no row.
+#[derive(Clone, Copy)]
+pub struct BrokenRequest {
+    pub why: Broken,
+    pub verb: u32,
     pub sheet: u32,
     pub names: u32,
     pub flags: u32,
@@ -92,15 +106,38 @@ fn tell(verb: Verb, row: &[u32]) -> Request
     }
 }
 
-// Reads a header, or tells what breaks the request.
-pub fn read_request(header: &[u8]) -> Result<Request, Broken>
+#[tactic(auto, unfolding(crate::specs::Header::refused))]
+fn refuse(why: Broken, row: &[u32]) -> BrokenRequest
+    requires { length row.now ≡ 8 }
+    ensures { result ≡ refused why row.now }
+{
+    BrokenRequest {
+        why,
+        verb: row[column::VERB],
+        sheet: row[column::SHEET],
+        names: row[column::NAMES],
+        flags: row[column::FLAGS],
+        x: row[column::X],
+        y: row[column::Y],
+        second_sheet: row[column::SECOND_SHEET],
+        second_names: row[column::SECOND_NAMES],
+    }
+}
+
+// Reads a header. An error is what breaks the request, with the numbers as they stand.
+pub fn read_request(header: &[u8]) -> Result<Request, BrokenRequest>
     ensures { result ≡ request_of header.now }
 {
     let mut row = [0u32; 8];
     if read_sheet(header, &mut row) == 0 {
-        return Err(Broken::NoRow);
+        return Err(refuse(Broken::NoRow, &row));
     }
-    let verb = Verb::try_from(row[column::VERB])?;
-    check(&largest_of(verb), &row)?;
-    Ok(tell(verb, &row))
+    let verb = match Verb::try_from(row[column::VERB]) {
+        Ok(verb) => verb,
+        Err(why) => return Err(refuse(why, &row)),
+    };
+    match check(&largest_of(verb), &row) {
+        Ok(()) => Ok(tell(verb, &row)),
+        Err(why) => Err(refuse(why, &row)),
+    }
 }
