@@ -1,10 +1,9 @@
 // Where the text of a name stands, for callers that cannot be handed a part of a slice.
 #![tactic(auto)]
 
-ghost use Rattle.std.specs.Prelude.{◌≡◌, ◌-◌, ◌≤◌, eqb};
+ghost use Rattle.std.specs.Prelude.{◌≡◌, not, ◌-◌, ◌≤◌, eqb};
 ghost use Rattle.definition.specs.Basics.{when◌then◌else◌};
 ghost use Rattle.name_place.specs.Place.{bytes_before, NamePlaced};
-ghost use Rattle.name_text.specs.Text.{of_entry};
 
 use name_text::{Whose, name_text};
 use names::{END, FIRST_LISTED};
@@ -67,16 +66,16 @@ pub fn name_place<'a>(
     words: &[u32],
     bytes: &'a [u8],
     names: &'a [u8],
-    whose: Whose,
+    whose: u32,
     number: u32,
 ) -> Place
-    ensures { NamePlaced words.now bytes.now names.now (of_entry whose) number result }
+    ensures { NamePlaced words.now bytes.now names.now (not (eqb whose 0)) number result }
 {
     let length = name_text(words, bytes, names, whose, number).len();
     if length == 0 {
         return NOWHERE;
     }
-    if whose.is_listed(number) {
+    if Whose::from(whose).is_listed(number) {
         return place_in(IN_LIST, names, number - FIRST_LISTED, length);
     }
     place_in(IN_SESSION, bytes, number - 1, length)

@@ -1,12 +1,11 @@
 // The text of a name as a reply: the reply to verb 5 of the pipe.
 #![tactic(auto)]
 
-ghost use Rattle.std.specs.Prelude.{◌≡◌, ◌++◌, ◌≤◌, length, drop};
-ghost use Rattle.name_text.specs.Text.{of_entry};
+ghost use Rattle.std.specs.Prelude.{◌≡◌, not, ◌++◌, ◌≤◌, eqb, length, drop};
 ghost use Rattle.report.specs.Report.{Begins};
 ghost use Rattle.name_reply.specs.Reply.{printed_name, RepliedOfName};
 
-use name_text::{Whose, name_text};
+use name_text::name_text;
 use report::LINE;
 use text::write_rows;
 
@@ -36,11 +35,11 @@ pub fn name_lent<'a>(
     words: &[u32],
     bytes: &'a [u8],
     names: &'a [u8],
-    whose: Whose,
+    whose: u32,
     number: u32,
     text: &mut [u8],
 ) -> usize
-    ensures { RepliedOfName words.now bytes.now names.now (of_entry whose) number
+    ensures { RepliedOfName words.now bytes.now names.now (not (eqb whose 0)) number
         text.old result text.new }
 {
     if text.len() < report::LONGEST {

@@ -20,7 +20,7 @@ pub enum Whose {
 }
 
 // The word that says the session's: any other says the entry's.
-const OF_SESSION: u32 = 0;
+pub const OF_SESSION: u32 = 0;
 
 impl From<u32> for Whose {
     ghost from_gives = { λ word whose. of_entry whose ≡ not (eqb word 0) };
@@ -107,12 +107,12 @@ pub fn name_text<'a>(
     words: &[u32],
     bytes: &'a [u8],
     names: &'a [u8],
-    whose: Whose,
+    whose: u32,
     number: u32,
 ) -> &'a [u8]
-    ensures { result.now ≡ name_text whole words.now bytes.now names.now (of_entry whose) number }
+    ensures { result.now ≡ name_text whole words.now bytes.now names.now (not (eqb whose 0)) number }
 {
-    if whose.is_listed(number) {
+    if Whose::from(whose).is_listed(number) {
         return list_text(names, number);
     }
     session_text(words, bytes, number)

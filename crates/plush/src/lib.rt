@@ -18,7 +18,6 @@ use columns::{Way, rearrange};
 use fresh_session::fresh;
 use name_index::find_name;
 use name_place::name_place;
-use name_text::Whose;
 use order_units::order_units;
 use preview::preview;
 use prompt::enter;
@@ -163,7 +162,7 @@ pub extern "C" fn plush_name_text<'a>(
     ensures { NameTold words.now bytes.now names.now (not (eqb whose 0)) number
         (length place.old) result place.new }
 {
-    let x = name_place(words, bytes, names, Whose::from(whose), number);
+    let x = name_place(words, bytes, names, whose, number);
     let told = [x.list, x.start, x.length];
     write_fitted(&told, place);
     x.length
