@@ -1,13 +1,16 @@
 -- Ranks that spare a search, and the lowest unit on a circle, row by row.
 use mathlib.Core.Path.{◌≡◌, refl, sym, ap, ◌∙◌, subst}
 use mathlib.Core.Logic.{◌⊎◌, inl, inr, ⊎_elim}
-use mathlib.Core.Bool.{Bool, true, false, ◌&&◌}
+use mathlib.Core.Bool.{Bool, true, false, cond, ◌&&◌}
 use mathlib.Core.List.{List, [], ◌∷◌, map}
 use Prim.Native.Nat.{ℕ, suc, ◌+◌, ◌-◌, ◌<◌, ◌≤◌}
 use native.Mathlib.Omega.{arith}
 use native.Mathlib.Numerals.{add-one}
 use lib.Dec.{T}
 use lib.ListN.{get_or}
+use Rattle.std.specs.Prelude.{Option, Some, None}
+use Rattle.std.specs.Option.{unwrap_or}
+use Rattle.std.specs.List.{find}
 use Rattle.definition.specs.Basics.{when◌then◌else◌, filter, first, from, ◌∈?◌}
 use Rattle.definition.specs.Kind.{UNIT, IMPORT}
 use Rattle.definition.specs.Sheet.{Sheet, a, rows, is, kids_of}
@@ -73,32 +76,45 @@ pub row_circles : (s : Sheet) (u : ℕ) → is s UNIT u ≡ true → {x : Bool} 
 row_circles s u e told = told ∙ sym (ap (λ (t : Bool). t && circles s u) e)
 
 -- The lowest unit on a circle from row u on.
-abbrev pub lowest_from : Sheet → ℕ → ℕ
-lowest_from s u = first (circles s) 0 (filter (is s UNIT) (from u (rows s - u)))
+abbrev pub lowest_from : Sheet → ℕ → Option ℕ
+lowest_from s u = find (circles s) (filter (is s UNIT) (from u (rows s - u)))
 
-pub lowest_start : (s : Sheet) → lowest_from s 0 ≡ first (circles s) 0 (units s)
+pub lowest_start : (s : Sheet) → lowest_from s 0 ≡ find (circles s) (units s)
 unfolding units
-lowest_start s = let e : rows s - 0 ≡ rows s = omega arith in ap (λ (n : ℕ). first (circles s) 0 (filter (is s UNIT) (from 0 n))) e
+lowest_start s = let e : rows s - 0 ≡ rows s = omega arith in ap (λ (n : ℕ). find (circles s) (filter (is s UNIT) (from 0 n))) e
 
 module _ (s : Sheet) (u : ℕ) (l : u < rows s) where
-  lowest_step : lowest_from s u ≡ (when is s UNIT u && circles s u then u else lowest_from s (u + 1))
+  lowest_step : lowest_from s u ≡ (when is s UNIT u && circles s u then Some u else lowest_from s (u + 1))
   lowest_step =
       let e : rows s - u ≡ suc (rows s - (u + 1)) = omega arith in
-      ap (λ (n : ℕ). first (circles s) 0 (filter (is s UNIT) (from u n))) e
-      ∙ ap (λ (i : ℕ). first (circles s) 0 (filter (is s UNIT) (u ∷ from i (rows s - (u + 1))))) (sym (add-one u)) ∙ go (is s UNIT u)
+      ap (λ (n : ℕ). find (circles s) (filter (is s UNIT) (from u n))) e
+      ∙ ap (λ (i : ℕ). find (circles s) (filter (is s UNIT) (u ∷ from i (rows s - (u + 1))))) (sym (add-one u)) ∙ go (is s UNIT u)
     where
       later : List ℕ
       later = filter (is s UNIT) (from (u + 1) (rows s - (u + 1)))
 
-      go : (t : Bool) → first (circles s) 0 (when t then u ∷ later else later) ≡ (when t && circles s u then u else first (circles s) 0 later)
-      go true = refl
+      go : (t : Bool) → find (circles s) (when t then u ∷ later else later) ≡ (when t && circles s u then Some u else find (circles s) later)
+      go true = here (circles s u)
+        where
+          here : (x : Bool) → cond x (Some u) (find (circles s) later) ≡ (when x then Some u else find (circles s) later)
+          here true = refl
+          here false = refl
       go false = refl
 
-  pub lowest_here : {x : Bool} {r : ℕ} → x ≡ (is s UNIT u && circles s u) → x ≡ true → lowest_from s u ≡ r → u ≡ r
-  lowest_here told e h = sym (lowest_step ∙ ap (λ (t : Bool). when t then u else lowest_from s (u + 1)) (sym told ∙ e)) ∙ h
+  pub lowest_here : {x : Bool} {r : Option ℕ} → x ≡ (is s UNIT u && circles s u) → x ≡ true → lowest_from s u ≡ r → Some u ≡ r
+  lowest_here told e h = sym (lowest_step ∙ ap (λ (t : Bool). when t then Some u else lowest_from s (u + 1)) (sym told ∙ e)) ∙ h
 
-  pub lowest_more : {x : Bool} {r : ℕ} → x ≡ (is s UNIT u && circles s u) → x ≡ false → lowest_from s u ≡ r → lowest_from s (u + 1) ≡ r
-  lowest_more told e h = sym (lowest_step ∙ ap (λ (t : Bool). when t then u else lowest_from s (u + 1)) (sym told ∙ e)) ∙ h
+  pub lowest_more : {x : Bool} {r : Option ℕ} → x ≡ (is s UNIT u && circles s u) → x ≡ false → lowest_from s u ≡ r → lowest_from s (u + 1) ≡ r
+  lowest_more told e h = sym (lowest_step ∙ ap (λ (t : Bool). when t then Some u else lowest_from s (u + 1)) (sym told ∙ e)) ∙ h
 
-pub lowest_none : (s : Sheet) (u r : ℕ) → rows s ≤ u → lowest_from s u ≡ r → 0 ≡ r
-lowest_none s u r l h = let e : rows s - u ≡ 0 = omega arith in sym (ap (λ (n : ℕ). first (circles s) 0 (filter (is s UNIT) (from u n))) e) ∙ h
+pub lowest_none : (s : Sheet) (u : ℕ) (r : Option ℕ) → rows s ≤ u → lowest_from s u ≡ r → None ≡ r
+lowest_none s u r l h = let e : rows s - u ≡ 0 = omega arith in sym (ap (λ (n : ℕ). find (circles s) (filter (is s UNIT) (from u n))) e) ∙ h
+
+-- the row of what is found, or 0
+pub row_found : (p : ℕ → Bool) (l : List ℕ) → unwrap_or (find p l) 0 ≡ first p 0 l
+row_found p [] = refl
+row_found p (x ∷ xs) = go (p x) (row_found p xs)
+  where
+    go : (t : Bool) → unwrap_or (find p xs) 0 ≡ first p 0 xs → unwrap_or (cond t (Some x) (find p xs)) 0 ≡ (when t then x else first p 0 xs)
+    go true e = refl
+    go false e = e

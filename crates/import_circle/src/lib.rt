@@ -6,10 +6,10 @@
 #![tactic(auto)]
 
 ghost use Rattle.std.specs.Prelude.{◌≡◌, true, ◌&&◌, List, [], ◌∷◌, ℕ, ◌<◌, ◌≤◌, T, length, get_or};
-ghost use Rattle.definition.specs.Basics.{first, ◌∈?◌};
+ghost use Rattle.definition.specs.Basics.{◌∈?◌};
 ghost use Rattle.definition.specs.Kind.{UNIT};
 ghost use Rattle.definition.specs.Sheet.{rows as rows_of, is};
-ghost use Rattle.std.specs.Option.{unwrap_or};
+ghost use Rattle.std.specs.List.{find};
 ghost use Rattle.unit_order.specs.Order.{units, imports_of, circles};
 ghost use Rattle.start_units.specs.Starting.{Importing};
 ghost use Rattle.import_circle.specs.Search.{Holds, added, Falling};
@@ -122,7 +122,7 @@ fn circles_at(sheet: &[u32], u: u32, fall: bool, ranks: &[u32]) -> bool
 // The lowest unit on a circle, whatever the ranks are.
 fn lowest_by(sheet: &[u32], ranks: &[u32]) -> Option<u32>
     requires { Importing sheet.now }
-    ensures { unwrap_or result 0 ≡ first (circles sheet.now) 0 (units sheet.now) }
+    ensures { result ≡ find (circles sheet.now) (units sheet.now) }
 {
     let fall = ranks_fall(sheet, ranks);
     for u in 0..(sheet.len() / 8) as u32 {
@@ -136,7 +136,7 @@ fn lowest_by(sheet: &[u32], ranks: &[u32]) -> Option<u32>
 // The lowest unit on a circle. `ranks` tells of each of the `started` units that are on none how many have started with it, and 0 of all others.
 pub fn lowest_circling(sheet: &[u32], started: u32, ranks: &mut [u32]) -> Option<u32>
     requires { Importing sheet.now }
-    ensures { unwrap_or result 0 ≡ first (circles sheet.now) 0 (units sheet.now) }
+    ensures { result ≡ find (circles sheet.now) (units sheet.now) }
 {
     rank_circles(sheet, started, ranks);
     lowest_by(sheet, ranks)

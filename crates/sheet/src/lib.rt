@@ -2,9 +2,9 @@
 #![tactic(auto)]
 
 ghost use Rattle.std.specs.Prelude.{◌≡◌, map, ◌≤◌, eqb, length};
-ghost use Rattle.std.specs.List.{find};
+ghost use Rattle.std.specs.List.{find, slice_get};
 ghost use Rattle.ast.specs.Kind.{kind_number};
-ghost use Rattle.definition.specs.Basics.{first, head, place, ◌∈?◌};
+ghost use Rattle.definition.specs.Basics.{first, place, ◌∈?◌};
 ghost use Rattle.definition.specs.Sheet.{a, kids as kids_in, kids_of as kids_of_in};
 ghost use Rattle.definition.specs.Meaning.{named, nothing};
 ghost use Rattle.definition.specs.Classes.{of_sheet, arity as arity_of};
@@ -29,7 +29,7 @@ pub fn first_named(sheet: &[u32], row: u32, kind: Kind, n: u32) -> Option<u32>
 
 // The first child of `row` that is of a kind.
 pub fn first_of(sheet: &[u32], row: u32, kind: Kind) -> Option<u32>
-    ensures { unwrap_or result 0 ≡ head (kids_of_in sheet.now (kind_number kind) row) }
+    ensures { result ≡ slice_get (kids_of_in sheet.now (kind_number kind) row) 0 }
 {
     kids_of(sheet, row, kind).next()
 }
