@@ -1,5 +1,5 @@
 // One row of a sheet: what question 3 asks of it when the pass reaches it, and what it tells of its next row and first child.
-ghost use Rattle.std.specs.Prelude.{true, ◌≡◌, not, ◌&&◌, ◌||◌, ◌+◌, ◌-◌, eqb, leb, ltb};
+ghost use Rattle.std.specs.Prelude.{true, false, ◌≡◌, not, ◌&&◌, ◌||◌, ◌+◌, ◌-◌, eqb, leb, ltb};
 ghost use Rattle.ast.specs.Kind.{kind_number};
 ghost use Rattle.definition.specs.Sheet.{kind, next, rows, is};
 ghost use Rattle.definition.specs.Shape.{holds as holds_rule};
@@ -338,10 +338,11 @@ fn note_declared(row: u32, w: Row, table: &mut [u32])
     }
 }
 
-// Does `row` fit when the pass reaches it? If it does, the table has what it tells. The row is read once for both.
+// Does `row` fit when the pass reaches it? If it does, the table has what it tells, else it stays as it was. The row is read once for both.
 pub fn pass_row(sheet: &[u32], last: u32, row: u32, table: &mut [u32]) -> bool
     ensures value { result ≡ row_ok sheet.now last row table.old }
     ensures table_after { result ≡ true → table.new ≡ note_row sheet.now row table.old }
+    ensures kept { result ≡ false → table.new ≡ table.old }
 {
     let w = Row::read(sheet, row);
     let fits = w.fits(sheet, last, row, table);
