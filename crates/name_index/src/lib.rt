@@ -1,7 +1,7 @@
 // The name index of document 02, F-2: a name is found by its bytes in a table of 2,048 places. Question 2 goes through it.
 #![tactic(auto)]
 
-ghost use Rattle.std.specs.Prelude.{◌≡◌, true, false, ◌+◌, ◌%◌, ◌<◌, ◌≤◌, length, replicate, MatchOption};
+ghost use Rattle.std.specs.Prelude.{◌≡◌, true, false, ◌+◌, ◌*◌, ◌%◌, ◌^◌, ◌<◌, ◌≤◌, length, replicate, MatchOption};
 ghost use Rattle.definition.specs.Names.{fixed, names_unlike, names_fit};
 ghost use Rattle.names.specs.Listed.{numbered};
 ghost use Rattle.name_index.specs.Index.{fnv, place_of, turned, run, enter, index_of, walk, find, found_number};
@@ -31,12 +31,19 @@ pub struct Found {
     pub places: u32,
 }
 
+// The product modulo 2^32.
+pub fn wrapping_product(a: u32, b: u32) -> u32
+    ensures { result ≡ a * b % 2 ^ 32 }
+{
+    a.wrapping_mul(b)
+}
+
 // The 32-bit FNV-1a value.
 pub fn fnv_value(bytes: &[u8]) -> u32
     ensures { result ≡ fnv bytes.now }
 {
     bytes.iter().fold(FNV_START, |value, &byte| {
-        (value ^ byte as u32).wrapping_mul(FNV_PRIME)
+        wrapping_product(value ^ byte as u32, FNV_PRIME)
     })
 }
 
@@ -66,7 +73,7 @@ pub fn enter_number(index: &mut [u32], first: usize, number: u32)
 }
 
 // Looks for a name from place `first` on in an index of fixed and listed names.
-fn search(index: &[u32], first: usize, name: &[u8], listed: NameTable<'_>) -> Found
+pub fn search(index: &[u32], first: usize, name: &[u8], listed: NameTable<'_>) -> Found
     requires { (length index.now ≡ 2048) × (first < 2048) }
     ensures { (result.number ≡ found_number (walk (numbered listed.entry.names.now) name.now (turned first index.now)).0)
         × (result.places ≡ (walk (numbered listed.entry.names.now) name.now (turned first index.now)).1) }
@@ -104,7 +111,7 @@ pub fn enter_fixed(index: &mut [u32])
 }
 
 // Enters the listed names one after another into an index of the fixed ones, up to one that is there already: are no two the same?
-fn enter_listed(index: &mut [u32], listed: NameTable<'_>) -> bool
+pub fn enter_listed(index: &mut [u32], listed: NameTable<'_>) -> bool
     requires { (index.old ≡ index_of fixed) × (length listed.table.now ≤ 1025) }
     ensures { (result ≡ names_unlike listed.entry.names.now) × (result ≡ true → index.new ≡ index_of (numbered listed.entry.names.now)) }
 {

@@ -1,4 +1,5 @@
--- Name lists and their tables of starts; question 2 and names by number.
+-- Name lists and their tables of starts; comparing names; question 2 and names by number.
 pub mod Laws
+pub mod Compare
 pub mod Question
 pub mod Longer

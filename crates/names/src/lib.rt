@@ -25,11 +25,19 @@ const FIXED_STARTS: [u32; 25] = [
     153, 158, 168,
 ];
 
-// Are the bytes of two names the same?
+// Are the bytes of two names the same? They are compared from the last back: names that differ often begin alike. Measured: `a == b` goes from the first on.
 pub fn same_name(a: &[u8], b: &[u8]) -> bool
     ensures { result ≡ same_name a.now b.now }
 {
-    a == b
+    if a.len() != b.len() {
+        return false;
+    }
+    for i in (0..a.len()).rev() {
+        if a[i] != b[i] {
+            return false;
+        }
+    }
+    true
 }
 
 // How many bytes the first name of a list has: it ends before its end byte, or with the list.
@@ -163,7 +171,7 @@ impl<'a> NameTable<'a> {
 
 // Writes where each name starts and then the place past the last, and answers how many names there are.
 #[tactic(auto, using(crate::proofs::Laws::listed_short))]
-fn find_starts(names: &[u8], table: &mut [u32]) -> usize
+pub fn find_starts(names: &[u8], table: &mut [u32]) -> usize
     requires { (length names.now ≤ 32768) × (length (listed names.now) < length table.old) }
     ensures { (result ≡ length (listed names.now)) × (result < length table.old)
         × (take (result + 1) table.new ≡ starts names.now) }
