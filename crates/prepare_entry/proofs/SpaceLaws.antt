@@ -17,7 +17,7 @@ use Rattle.machine.specs.Reads.{PastFour}
 use Rattle.outside.specs.Words.{over}
 use Rattle.row_events.specs.Prepared.{Ready}
 use Rattle.walk_space.specs.Room.{RoomFor}
-use Rattle.resolver.proofs.LentLaws.{lent_zeros}
+use Rattle.resolver.proofs.LentLaws.{lent_room}
 use Rattle.answer_rows.proofs.ScratchLaws.{zeros_long}
 use Rattle.session.specs.Session.{outside_of}
 use Rattle.session.specs.Entry.{names_with, to_session, entry_sheet}
@@ -79,7 +79,7 @@ module _ {w : List ℕ} {s : Sheet} {numbers : List ℕ} {new bytes : ℕ} {n ns
     ready long r =
         record {
           past = past;
-          lent = lent_zeros past.names (over o) (omega (arith, past.few, few)) (record {
+          lent = lent_room past.names (over o) (omega (arith, past.few, few)) (record {
             for_classes = omega (arith, long, r.for_classes);
             for_entries = r.for_entries;
             for_results = r.for_results;
