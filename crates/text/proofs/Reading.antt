@@ -275,7 +275,7 @@ module _ (t : List ℕ) (lent : ℕ) where
   all_lines n = all (λ r. is_line (line_at t r)) (from 0 n)
 
   -- all lines that there are to read, where each is one, or none
-  lines_read_lem : (n : ℕ) → whole_lines (length t) lent ≡ Some n → (when good_lines t n then n else 0) ≡ lines_read t lent
+  pub lines_read_lem : (n : ℕ) → whole_lines (length t) lent ≡ Some n → (when good_lines t n then n else 0) ≡ lines_read t lent
   unfolding good_lines whole_lines lines_read is_readable
   lines_read_lem n e =
       sym (ap (λ (s : Bool). when s && leb (lines t) 2048 && leb (8 * lines t) lent then lines t else 0) (text_lines t)

@@ -2,6 +2,7 @@
 #![tactic(auto)]
 
 ghost use Rattle.std.specs.Prelude.{◌≡◌, true, ◌*◌, ◌≤◌, length, take};
+ghost use Rattle.definition.specs.Basics.{when◌then◌else◌};
 ghost use Rattle.definition.specs.Text.{in_ten, trimmed};
 ghost use Rattle.text.specs.Lines.{is_line, numbers_of, number_in, digits_from, whole_lines, good_lines, numbers_in, line_of, place_byte};
 ghost use Rattle.text.specs.Reading.{SheetRead, lines_read};
@@ -66,18 +67,18 @@ fn read_line(line: &[u8], row: &mut [u32]) -> bool
     line[80] == b'\n'
 }
 
-// Reads n lines into as many rows. Returns whether all of them are lines.
+// Reads n lines into as many rows. Returns n, or 0 where one of them is no line.
 // By index: after `chunks_exact_mut` a proof knows no word that was written.
-fn read_lines(text: &[u8], words: &mut [u32], n: usize) -> bool
+fn read_lines(text: &[u8], words: &mut [u32], n: usize) -> usize
     requires { (81 * n ≤ length text.now) × (8 * n ≤ length words.old) }
-    ensures { (result ≡ good_lines text.now n) × (result ≡ true → take (8 * n) words.new ≡ numbers_in text.now n) }
+    ensures { (result ≡ (when good_lines text.now n then n else 0)) × (take (8 * result) words.new ≡ numbers_in text.now result) }
 {
     for r in 0..n {
         if !read_line(&text[81 * r..81 * r + 81], &mut words[8 * r..8 * r + 8]) {
-            return false;
+            return 0;
         }
     }
-    true
+    n
 }
 
 // The lines to read of so many bytes into so many words, where they are whole and not too many.
@@ -94,7 +95,7 @@ fn read_all(text: &[u8], words: &mut [u32]) -> usize
     ensures { (result ≡ lines_read text.now (length words.old)) × (take (8 * result) words.new ≡ numbers_in text.now result) }
 {
     match lines_to_read(text.len(), words.len()) {
-        Some(n) => if read_lines(text, words, n) { n } else { 0 },
+        Some(n) => read_lines(text, words, n),
         None => 0,
     }
 }

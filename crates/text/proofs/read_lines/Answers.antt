@@ -1,10 +1,11 @@
 -- `read_lines` meets its contract. The loop's invariant: the lines passed are lines, and the words have their numbers.
 -- Assumes nothing.
 use mathlib.Core.Path.{◌∙◌, refl, sym, subst, ap, ◌≡◌}
-use mathlib.Core.Bool.{true, true≢false}
+use mathlib.Core.Bool.{Bool, true}
 use Prim.Native.Nat.{◌+◌, ℕ, ◌≤◌, ◌*◌}
 use native.Mathlib.Omega.{arith}
 use lib.ListN.{length, take}
+use Rattle.definition.specs.Basics.{when◌then◌else◌}
 use Rattle.text.proofs.Reading.{line_number, line_bad, line_good, line_read, none_read}
 use Rattle.text.specs.Lines.{numbers_of, is_line, numbers_in, good_lines}
 use Rattle.text.proofs.read_lines.Goals as goal
@@ -16,7 +17,7 @@ pub returns-then-not-read_line : goal.returns-then-not-read_line
 returns-then-not-read_line c =
     let r = c.loop-r.r in
     let e = c.read_line.ensures.0 ∙ ap is_line (line_number c.args.text.now r) in
-    (line_bad c.args.text.now _ r c.loop-r-test.true (sym e ∙ c.if-not-read_line.true), λ f. absurd (true≢false (sym f)))
+    (ap (λ (b : Bool). when b then c.args.n else 0) (line_bad c.args.text.now _ r c.loop-r-test.true (sym e ∙ c.if-not-read_line.true)), none_read _)
 
 pub loop-r-preserved : goal.loop-r-preserved
 loop-r-preserved c =
@@ -33,5 +34,7 @@ pub returns : goal.returns
 unfolding good_lines
 returns c =
     let v = c.loop-r.invariant in
-    let e : c.loop-r.r ≡ c.args.n = omega arith in
-    (sym (subst (λ (k : ℕ). good_lines c.args.text.now k ≡ true) e v.0), λ f. subst (λ (k : ℕ). take (8 * k) c.loop-r.words ≡ numbers_in c.args.text.now k) e v.1)
+    let e : c.loop-r.r ≡ c.args.n = omega arith in (
+      ap (λ (b : Bool). when b then c.args.n else 0) (sym (subst (λ (k : ℕ). good_lines c.args.text.now k ≡ true) e v.0)),
+      subst (λ (k : ℕ). take (8 * k) c.loop-r.words ≡ numbers_in c.args.text.now k) e v.1,
+    )
