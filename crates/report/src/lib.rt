@@ -10,7 +10,7 @@ ghost use Rattle.answer.specs.declared.Answer.{Answer};
 use answer::Answer;
 use ast::limit;
 use text::{read_sheet, write_rows};
-use words::clear;
+use words::word_at;
 
 // The bytes of a line.
 pub const LINE: usize = 81;
@@ -43,13 +43,13 @@ pub fn first_line(x: Answer) -> [u32; 8]
     ]
 }
 
-// Writes words as far as the lent ones go, and zeros after them.
+// Writes words as far as the lent ones go, and zeros after them. Word by word: a copy of a slice would have the library for C ask for `memcpy`.
 pub fn write_fitted(words: &[u32], lent: &mut [u32])
     ensures { lent.new ≡ fitted (length lent.old) words.now }
 {
-    let n = words.len().min(lent.len());
-    lent[..n].copy_from_slice(&words[..n]);
-    clear(&mut lent[n..]);
+    for i in 0..lent.len() {
+        lent[i] = word_at(words, i);
+    }
 }
 
 // Writes the report of an answer as text. Its rows stand in the words from the ninth on; the first line is put before them. Returns the
