@@ -61,16 +61,32 @@ pub fn find_name(sheet: &[u32], entries: &[u32], m: u32, n: u32) -> NamePlace
     NamePlace { place: 0, marks }
 }
 
+// The tag and the name of entry `i`. Measured: `has_local` reads them of each entry that it passes, with one test of their place.
+#[inline(always)]
+fn tag_and_name(entries: &[u32], i: u32) -> (u32, u32)
+    ensures { (result.0 ≡ entry_word entries.now i 0) × (result.1 ≡ entry_word entries.now i 1) }
+{
+    let at = 5 * (i as usize);
+    if at + 1 < entries.len() {
+        (entries[at], entries[at + 1])
+    } else {
+        (
+            entry_word(entries, i, entry::TAG),
+            entry_word(entries, i, entry::NAME),
+        )
+    }
+}
+
 // Is name `m` declared in the innermost scope?
 pub fn has_local(entries: &[u32], m: u32, n: u32) -> bool
     ensures { result ≡ taken_in entries.now m n }
 {
     for i in (0..n).rev() {
-        let tag = entry_word(entries, i, entry::TAG);
+        let (tag, name) = tag_and_name(entries, i);
         if tag == tag::SCOPE {
             return false;
         }
-        if entry_word(entries, i, entry::NAME) == m && tag::SCOPE < tag {
+        if name == m && tag::SCOPE < tag {
             return true;
         }
     }
