@@ -29,14 +29,14 @@ pub fn put_line(out: &mut Rows<'_>, tables: Tables, wanted: Wanted, a: Above, sl
     let n = tables.sheet.len() / 8;
     let c = wanted.class;
     if a.row == 0 {
-        return put_names(out, tables, wanted, n, c, slot);
+        return put_names(out, &tables, wanted, n, c, slot);
     }
     let p = Passed {
         class: parent_of(tables.sheet, tables.results, c),
         left: n - 1,
     };
     let next = put_copied(out, tables, wanted, a.row, a.count, slot);
-    put_own(out, tables, wanted, p, c, next)
+    put_own(out, &tables, wanted, p, c, next)
 }
 
 // How many names the wanted class has, or the largest number of a word.
@@ -60,5 +60,5 @@ pub fn count_line(tables: Tables, wanted: Wanted, a: Above) -> u32
         class: parent_of(tables.sheet, tables.results, c),
         left: n - 1,
     };
-    put_own(&mut out, tables, wanted, p, c, a.count)
+    put_own(&mut out, &tables, wanted, p, c, a.count)
 }

@@ -53,10 +53,10 @@ fn captured_at(nodes: &[u32], i: u32) -> OpenDecl
 
 // What a function captures, by rising index: the list whose last node is node `p - 1`.
 #[tactic(auto, using(crate::proofs::ListLaws::nodes_none))]
-fn emit_captured(out: &mut Rows<'_>, tables: Tables, row: u32, p: u32)
-    requires { length tables.sheet.now ≤ 16384 }
+fn emit_captured(out: &mut Rows<'_>, tables: &Tables<'_>, row: u32, p: u32)
+    requires { length tables.now.sheet.now ≤ 16384 }
     ensures step { written out.new
-        ≡ emit_all (map (λ y. eight (row ∷ code_of tables.entry.sheet.now (meaning_of_node y) y.two 0)) (chain_to tables.entry.nodes.now p))
+        ≡ emit_all (map (λ y. eight (row ∷ code_of tables.now.sheet.now (meaning_of_node y) y.two 0)) (chain_to tables.now.nodes.now p))
         (written out.old) }
     ensures same { out.new.words.ghost_name ≡ out.old.words.ghost_name }
 {
@@ -72,12 +72,12 @@ fn emit_captured(out: &mut Rows<'_>, tables: Tables, row: u32, p: u32)
 // What a literal that stands in function `fun` hands on, in the same order. Not one routine with `emit_captured`: a closure for the row
 // would have to tell both what it reads of the sheet and what of the store, which is no shorter.
 #[tactic(auto, using(crate::proofs::ListLaws::nodes_none))]
-fn emit_sources(out: &mut Rows<'_>, tables: Tables, row: u32, fun: FunId, p: u32)
-    requires { length tables.sheet.now ≤ 16384 }
+fn emit_sources(out: &mut Rows<'_>, tables: &Tables<'_>, row: u32, fun: FunId, p: u32)
+    requires { length tables.now.sheet.now ≤ 16384 }
     ensures step { (o : Store) → written out.new
         ≡ emit_all (map (λ y. eight
-        (row ∷ seen_in tables.entry.sheet.now (meaning_of_node y) y.two 0 fun.0 (store_in tables.entry o)))
-        (chain_to tables.entry.nodes.now p)) (written out.old) }
+        (row ∷ seen_in tables.now.sheet.now (meaning_of_node y) y.two 0 fun.0 (store_in tables.now o)))
+        (chain_to tables.now.nodes.now p)) (written out.old) }
     ensures same { out.new.words.ghost_name ≡ out.old.words.ghost_name }
 {
     if p == 0 {
@@ -109,7 +109,7 @@ pub fn emit_literal(out: &mut Rows<'_>, tables: Tables, row: u32)
         word(tables.sheet, row, column::CHILD),
         result::CAPTURES,
     );
-    emit_sources(out, tables, row, fun, last);
+    emit_sources(out, &tables, row, fun, last);
 }
 
 // A row for each escaping slot of function `f`.
@@ -150,6 +150,6 @@ pub fn emit_function(out: &mut Rows<'_>, tables: Tables, literals: Literals, f: 
         three: escaping.number(),
         four: 0,
     });
-    emit_captured(out, tables, f.0, last);
+    emit_captured(out, &tables, f.0, last);
     emit_escapes(out, f, escaping);
 }

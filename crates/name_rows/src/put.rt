@@ -43,9 +43,9 @@ pub struct Passed {
 
 // The row that tells name `m` at slot `i`.
 #[tactic(auto, using(ast::proofs::KindLaws::same_kind), unfolding(crate::specs::Put::name_row))]
-fn name_row(tables: Tables, wanted: Wanted, m: u32, i: u32) -> AnswerRow
+fn name_row(tables: &Tables<'_>, wanted: Wanted, m: u32, i: u32) -> AnswerRow
     ensures { (o : Store) (q : List ℕ) → words_of result
-        ≡ name_row (outside_in tables.entry) tables.entry.sheet.now (store_of o tables.entry.results.now q) wanted m i }
+        ≡ name_row (outside_in tables.now) tables.now.sheet.now (store_of o tables.now.results.now q) wanted m i }
 {
     if wanted.kind == Kind::Field {
         return AnswerRow {
@@ -84,16 +84,23 @@ pub fn put_row(out: &mut Rows<'_>, x: AnswerRow, slot: u32) -> u32
     one_more(slot)
 }
 
-// One name more, unless it is inherited. Measured: as a call it gets a copy of the tables for each name.
+// One name more, unless it is inherited. A call of its own: what it needs of the stack is then no part of each level of `put_stored`.
 #[tactic(auto, using(crate::proofs::PutLaws::new_old, crate::proofs::PutLaws::new_put, crate::proofs::PutLaws::put_one))]
-#[inline(always)]
-fn put_new(out: &mut Rows<'_>, tables: Tables, wanted: Wanted, p: Passed, m: u32, slot: u32) -> u32
+#[inline(never)]
+fn put_new(
+    out: &mut Rows<'_>,
+    tables: &Tables<'_>,
+    wanted: Wanted,
+    p: Passed,
+    m: u32,
+    slot: u32,
+) -> u32
     ensures step { (o : Store) → filled result out.new
-        ≡ put_new (outside_in tables.entry) tables.entry.sheet.now (store_in tables.entry o) wanted p
+        ≡ put_new (outside_in tables.now) tables.now.sheet.now (store_in tables.now o) wanted p
         (m ∷ []) (filled slot out.old) }
     ensures same { out.new.words.ghost_name ≡ out.old.words.ghost_name }
 {
-    if is_inherited(tables, wanted.kind, p.left, p.class, m) {
+    if is_inherited(*tables, wanted.kind, p.left, p.class, m) {
         return slot;
     }
     put_row(out, name_row(tables, wanted, m, slot), slot)
@@ -103,14 +110,14 @@ fn put_new(out: &mut Rows<'_>, tables: Tables, wanted: Wanted, p: Passed, m: u32
 #[tactic(auto, using(crate::proofs::PutLaws::new_rest, crate::proofs::PutLaws::new_end))]
 fn put_recorded(
     out: &mut Rows<'_>,
-    tables: Tables,
+    tables: &Tables<'_>,
     wanted: Wanted,
     p: Passed,
     names: RecordedNames,
     slot: u32,
 ) -> u32
     ensures step { (o : Store) → filled result out.new
-        ≡ put_new (outside_in tables.entry) tables.entry.sheet.now (store_in tables.entry o) wanted p
+        ≡ put_new (outside_in tables.now) tables.now.sheet.now (store_in tables.now o) wanted p
         (names_left names.entry) (filled slot out.old) }
     ensures same { out.new.words.ghost_name ≡ out.old.words.ghost_name }
 {
@@ -125,15 +132,15 @@ fn put_recorded(
 #[tactic(auto, using(crate::proofs::PutLaws::new_rest, crate::proofs::PutLaws::new_end))]
 fn put_listed(
     out: &mut Rows<'_>,
-    tables: Tables,
+    tables: &Tables<'_>,
     wanted: Wanted,
     p: Passed,
     r: u32,
     slot: u32,
 ) -> u32
     ensures step { (o : Store) → filled result out.new
-        ≡ put_new (outside_in tables.entry) tables.entry.sheet.now (store_in tables.entry o) wanted p
-        (map (a tables.entry.sheet.now) (kids_of tables.entry.sheet.now (kind_number wanted.kind) r)) (filled slot out.old) }
+        ≡ put_new (outside_in tables.now) tables.now.sheet.now (store_in tables.now o) wanted p
+        (map (a tables.now.sheet.now) (kids_of tables.now.sheet.now (kind_number wanted.kind) r)) (filled slot out.old) }
     ensures same { out.new.words.ghost_name ≡ out.old.words.ghost_name }
 {
     let mut next = slot;
@@ -148,15 +155,15 @@ fn put_listed(
 #[tactic(auto, using(crate::proofs::PutLaws::stored_none, crate::proofs::PutLaws::stored_last))]
 fn put_stored(
     out: &mut Rows<'_>,
-    tables: Tables,
+    tables: &Tables<'_>,
     wanted: Wanted,
     p: Passed,
     last: u32,
     slot: u32,
 ) -> u32
     ensures step { (o : Store) → filled result out.new
-        ≡ put_new (outside_in tables.entry) tables.entry.sheet.now (store_in tables.entry o) wanted p
-        (map (λ y. y.key) (chain_to tables.entry.nodes.now last)) (filled slot out.old) }
+        ≡ put_new (outside_in tables.now) tables.now.sheet.now (store_in tables.now o) wanted p
+        (map (λ y. y.key) (chain_to tables.now.nodes.now last)) (filled slot out.old) }
     ensures same { out.new.words.ghost_name ≡ out.old.words.ghost_name }
 {
     if last == 0 {
@@ -173,15 +180,15 @@ fn put_stored(
 #[tactic(auto, using(ast::proofs::KindLaws::same_kind, crate::proofs::PutLaws::own_stored, crate::proofs::PutLaws::own_listed, crate::proofs::PutLaws::own_recorded))]
 pub fn put_own(
     out: &mut Rows<'_>,
-    tables: Tables,
+    tables: &Tables<'_>,
     wanted: Wanted,
     p: Passed,
     c: ClassId,
     slot: u32,
 ) -> u32
     ensures step { (o : Store) → filled result out.new
-        ≡ put_new (outside_in tables.entry) tables.entry.sheet.now (store_in tables.entry o) wanted p
-        (own_in (outside_in tables.entry) tables.entry.sheet.now (store_in tables.entry o) (kind_number wanted.kind)
+        ≡ put_new (outside_in tables.now) tables.now.sheet.now (store_in tables.now o) wanted p
+        (own_in (outside_in tables.now) tables.now.sheet.now (store_in tables.now o) (kind_number wanted.kind)
         c.0) (filled slot out.old) }
     ensures same { out.new.words.ghost_name ≡ out.old.words.ghost_name }
 {
@@ -202,15 +209,15 @@ pub fn put_own(
 #[tactic(auto, using(crate::proofs::PutLaws::names_zero, crate::proofs::PutLaws::names_first, crate::proofs::PutLaws::names_after))]
 pub fn put_names(
     out: &mut Rows<'_>,
-    tables: Tables,
+    tables: &Tables<'_>,
     wanted: Wanted,
     n: usize,
     c: ClassId,
     slot: u32,
 ) -> u32
     ensures step { (o : Store) → filled result out.new
-        ≡ put_all (name_row (outside_in tables.entry) tables.entry.sheet.now (store_in tables.entry o) wanted)
-        (names_in (outside_in tables.entry) tables.entry.sheet.now (store_in tables.entry o) (kind_number wanted.kind) n
+        ≡ put_all (name_row (outside_in tables.now) tables.now.sheet.now (store_in tables.now o) wanted)
+        (names_in (outside_in tables.now) tables.now.sheet.now (store_in tables.now o) (kind_number wanted.kind) n
         c.0) (filled slot out.old) }
     ensures same { out.new.words.ghost_name ≡ out.old.words.ghost_name }
 {
@@ -240,5 +247,5 @@ pub fn count_names(tables: Tables, wanted: Wanted, n: usize, c: ClassId) -> u32
         words: &mut none,
         count: 0,
     };
-    put_names(&mut out, tables, wanted, n, c, 0)
+    put_names(&mut out, &tables, wanted, n, c, 0)
 }

@@ -9,8 +9,8 @@ use Rattle.fun_rows.proofs.+emit_captured.Goals as goal
 
 pub returns-clause-step : goal.returns-clause-step
 returns-clause-step t c =
-    nodes_last (λ y. eight (c.args.row ∷ code_of c.args.tables.sheet.now (meaning_of_node y) y.two 0))
-    c.args.tables.nodes.now c.args.p _ _ (written c.args.out.now) c.if-p-eq0.false
-    c.node_before.ensures c.emit_captured.ensures.step (captured_row_lem c.args.tables.sheet.now c.args.row
-    c.args.tables.nodes.now _ _ _ c.captured_at.ensures (c.code_of-x.ensures 0 0))
+    nodes_last (λ y. eight (c.args.row ∷ code_of c.args.tables.now.sheet.now (meaning_of_node y) y.two 0))
+    c.args.tables.now.nodes.now c.args.p _ _ (written c.args.out.now) c.if-p-eq0.false
+    c.node_before.ensures c.emit_captured.ensures.step (captured_row_lem c.args.tables.now.sheet.now c.args.row
+    c.args.tables.now.nodes.now _ _ _ c.captured_at.ensures (c.code_of-x.ensures 0 0))
     c.emit_decl.ensures.step

@@ -12,9 +12,9 @@ pub returns-clause-step : goal.returns-clause-step
 returns-clause-step t c =
     λ o. nodes_last
     (λ y. eight (c.args.row
-    ∷ seen_in c.args.tables.sheet.now (meaning_of_node y) y.two 0 c.args.fun.0
-    (store_of o c.args.tables.results.now c.args.tables.nodes.now)))
-    c.args.tables.nodes.now c.args.p _ _ (written c.args.out.now) c.if-p-eq0.false
-    c.node_before.ensures (c.emit_sources.ensures.step o) (source_row c.args.tables.sheet.now c.args.row c.args.tables.nodes.now _ _ _ c.captured_at.ensures
-    c.args.fun.0 (store_of o c.args.tables.results.now c.args.tables.nodes.now) (c.seen_in-x.ensures o 0 0))
+    ∷ seen_in c.args.tables.now.sheet.now (meaning_of_node y) y.two 0 c.args.fun.0
+    (store_of o c.args.tables.now.results.now c.args.tables.now.nodes.now)))
+    c.args.tables.now.nodes.now c.args.p _ _ (written c.args.out.now) c.if-p-eq0.false
+    c.node_before.ensures (c.emit_sources.ensures.step o) (source_row c.args.tables.now.sheet.now c.args.row c.args.tables.now.nodes.now _ _ _ c.captured_at.ensures
+    c.args.fun.0 (store_of o c.args.tables.now.results.now c.args.tables.now.nodes.now) (c.seen_in-x.ensures o 0 0))
     c.emit_decl.ensures.step
