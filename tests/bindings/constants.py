@@ -7,6 +7,8 @@ from pathlib import Path
 
 TOP = Path(__file__).resolve().parents[2]
 MODULES = ["column", "kind", "flag", "name", "code", "question", "limit"]
+# What the code runs with of these modules: an enum. The constants beside it are to be its numbers.
+ENUMS = {"kind": "Kind", "code": "Code", "question": "Question"}
 # Not in crates/ast: the layout of the report, of rows and of places, which edges.c tries; the size and the first words of a session, which
 # of_sessions() asks for.
 OWN = ("PLUSH_REPORT_", "PLUSH_ROW_WORDS", "PLUSH_ANSWER_WORDS", "PLUSH_SESSION_", "PLUSH_PLACE_")
@@ -20,8 +22,9 @@ def of_code():
     """(module, name) to value. The classes that are there without being declared are the module class."""
     found = {}
     for module in MODULES:
-        for name, value in re.findall(r"pub const (\w+): \w+ = (\d+);", text(f"crates/ast/src/{module}.rt")):
-            found[module, name] = int(value)
+        source = text(f"crates/ast/src/{module}.rt")
+        numbers = variants(source, ENUMS[module]) if module in ENUMS else constants(source)
+        found.update({(module, name): value for name, value in numbers.items()})
     for name, value in re.findall(r"pub const (\w+)_ID: ClassId = ClassId\((\d+)\);", text("crates/ast/src/lib.rt")):
         found["class", name] = int(value)
     found["class", "FIRST"] = int(re.search(r"pub const FIRST_CLASS: u32 = (\d+);", text("crates/ast/src/lib.rt"))[1])
@@ -59,6 +62,16 @@ def of_rust():
     modules["column"] = constants(text("bindings/rust/src/columns.rs"))
     modules["limit"] = constants(text("bindings/rust/src/limits.rs"))
     return {(module, name): value for module, names in modules.items() for name, value in names.items()}
+
+
+def beside_enums():
+    """The constants of crates/ast that stand beside an enum, each against its variant."""
+    for module, enum in ENUMS.items():
+        source = text(f"crates/ast/src/{module}.rt")
+        numbers = variants(source, enum)
+        for name, value in constants(source).items():
+            if numbers.get(name) != value:
+                yield f"crates/ast: {module}::{name} is {value}, the variant of {enum} {numbers.get(name)}"
 
 
 def differences(what, found, expected):
@@ -103,6 +116,7 @@ def main():
     code = of_code()
     wrong = [*differences("plush.h", of_header(), code), *differences("bindings/rust", of_rust(), code)]
     wrong += of_sessions()
+    wrong += beside_enums()
     copied = list(readme_lines())
     wrong += [problem for _, problem in copied if problem]
     print(*wrong, sep="\n", end="\n" if wrong else "")

@@ -85,3 +85,20 @@ pub const CLASS_COUNTS: u32 = 22;
 pub const FIELD: u32 = 23;
 
 pub const METHOD: u32 = 24;
+
+// The constants are the numbers of the variants, which the code runs with.
+const _: () = prove!(
+    NOTHING == Code::Nothing as u32
+        && FUN == Code::Fun as u32
+        && CLASS == Code::Class as u32
+        && GLOBAL == Code::Global as u32
+        && ARG == Code::Arg as u32
+        && LOCAL == Code::Local as u32
+        && CAPTURED == Code::Captured as u32
+        && TRUE == Code::True as u32
+        && FALSE == Code::False as u32
+        && FUNCTION_COUNTS == Code::FunctionCounts as u32
+        && CLASS_COUNTS == Code::ClassCounts as u32
+        && FIELD == Code::Field as u32
+        && METHOD == Code::Method as u32
+);

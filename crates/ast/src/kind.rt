@@ -192,3 +192,48 @@ pub const BINARY: u32 = 57;
 pub const TERNARY: u32 = 58;
 
 pub const CALL: u32 = 59;
+
+// The constants are the numbers of the variants, which the code runs with.
+const _: () = prove!(
+    HEADER == Kind::Header as u32
+        && UNIT == Kind::Unit as u32
+        && IMPORT == Kind::Import as u32
+        && CLASS == Kind::Class as u32
+        && FUNCTION == Kind::Function as u32
+        && FUNCTION_EXPORT == Kind::FunctionExport as u32
+        && CONSTANT_EXPORT == Kind::ConstantExport as u32
+        && LISTED == Kind::Listed as u32
+        && FIELD == Kind::Field as u32
+        && PARAMETER == Kind::Parameter as u32
+        && EXPRESSION_STATEMENT == Kind::ExpressionStatement as u32
+        && ASSIGN == Kind::Assign as u32
+        && RETURN == Kind::Return as u32
+        && BREAK == Kind::Break as u32
+        && CONTINUE == Kind::Continue as u32
+        && BLOCK == Kind::Block as u32
+        && IF == Kind::If as u32
+        && FOR == Kind::For as u32
+        && ASSERT == Kind::Assert as u32
+        && LET == Kind::Let as u32
+        && CLASS_DECLARATION == Kind::ClassDeclaration as u32
+        && NIL == Kind::Nil as u32
+        && TRUE == Kind::True as u32
+        && FALSE == Kind::False as u32
+        && INTEGER == Kind::Integer as u32
+        && FLOAT == Kind::Float as u32
+        && STRING == Kind::String as u32
+        && BYTES == Kind::Bytes as u32
+        && ARRAY == Kind::Array as u32
+        && DICT == Kind::Dict as u32
+        && PAIR == Kind::Pair as u32
+        && IDENTIFIER == Kind::Identifier as u32
+        && HOST_CONSTANT == Kind::HostConstant as u32
+        && LITERAL == Kind::Literal as u32
+        && INDEX == Kind::Index as u32
+        && MEMBER == Kind::Member as u32
+        && INSTANCEOF == Kind::Instanceof as u32
+        && UNARY == Kind::Unary as u32
+        && BINARY == Kind::Binary as u32
+        && TERNARY == Kind::Ternary as u32
+        && CALL == Kind::Call as u32
+);

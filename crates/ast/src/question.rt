@@ -153,3 +153,33 @@ pub const ENTRY_LEFT: u32 = 25;
 
 // No chain of imports comes back to its start.
 pub const NO_CIRCLE: u32 = 29;
+
+// The constants are the numbers of the variants, which the code runs with.
+const _: () = prove!(
+    ROWS_FIT == Question::RowsFit as u32
+        && NAMES_FIT == Question::NamesFit as u32
+        && FORMAT_FITS == Question::FormatFits as u32
+        && DEPTH_FITS == Question::DepthFits as u32
+        && IN_LOOP == Question::InLoop as u32
+        && MUTABLE == Question::Mutable as u32
+        && LET_FREE == Question::LetFree as u32
+        && DECLARED == Question::Declared as u32
+        && NULL_DECLARED == Question::NullDeclared as u32
+        && INSTANCEOF_CLASS == Question::InstanceofClass as u32
+        && PARENT_CLASS == Question::ParentClass as u32
+        && CONSTRUCTED_RECORD == Question::ConstructedRecord as u32
+        && METHOD_THERE == Question::MethodThere as u32
+        && METHOD_ARITY == Question::MethodArity as u32
+        && EXPORTED == Question::Exported as u32
+        && NAME_FREE == Question::NameFree as u32
+        && KNOWN == Question::Known as u32
+        && NO_CYCLE == Question::NoCycle as u32
+        && PARENT_RECORD == Question::ParentRecord as u32
+        && INIT_THERE == Question::InitThere as u32
+        && INIT_ARITY == Question::InitArity as u32
+        && ROOM == Question::Room as u32
+        && SESSION == Question::Session as u32
+        && SESSION_ROOM == Question::SessionRoom as u32
+        && ENTRY_LEFT == Question::EntryLeft as u32
+        && NO_CIRCLE == Question::NoCircle as u32
+);
