@@ -101,9 +101,15 @@ def back_cases():
             yield (BOTH, size, lent, 5, 4294960000, 3, 2, 0)
 
 
+def other_cases():
+    """Any number but 0, 2 and 3 stores by column."""
+    for way in (4, WORDS - 1):
+        yield (way, 16, 18, 7, 1000, 1, NO_PLACE, 0)
+
+
 def main():
     folder = Path(sys.argv[1])
-    cases = [*size_cases(), *word_cases(), *back_cases()]
+    cases = [*size_cases(), *word_cases(), *back_cases(), *other_cases()]
     assert len(cases) <= MOST_CASES
     lines = [expected(case) for case in cases]
     (folder / "stdin").write_text("".join("%10d" * 8 % case + "\n" for case in cases))

@@ -2,7 +2,7 @@
 // words of the target, and a checksum of all.
 //
 // The numbers of a case are
-//   0     1 to store by column, 2 for the way back, 3 for both, one after the other
+//   0     1 to store by column, 2 for the way back, 3 for both, one after the other; 0 for no case, any other as 1
 //   1, 2  how many words the source and the target have
 //   3     what each word of the target holds before
 //   4, 5  the source's first word, and how much each is above the one before it, modulo 2^32
@@ -22,13 +22,13 @@ enum Trial {
     Both,
 }
 
-// What the first number of a row says to try; nothing where it is no case.
+// What the first number of a row says to try, any other number what 1 says; nothing where it is 0, so that the row is no case.
 fn trial_of(number: u32) -> Option<Trial> {
     match number {
-        1 => Some(Trial::Store),
+        0 => None,
         2 => Some(Trial::TakeBack),
         3 => Some(Trial::Both),
-        _ => None,
+        _ => Some(Trial::Store),
     }
 }
 
