@@ -19,17 +19,20 @@ mkdir -p "$bench/src" "$bench/proofs/bench_outside"
 # the libraries, and one more that exports what is timed
 cp -R "$top"/crates/* "$out/repository/crates/"
 grep -v -E '^(question_tests|columns_tests|plush_resolve|plush_serve):' "$top/crates.txt" > "$out/repository/crates.txt"
-echo 'session_bench staticlib: definition answer session fresh_session session_names session_check session_outside prompt preview' >> "$out/repository/crates.txt"
+echo 'session_bench staticlib: definition answer name_index session fresh_session session_names session_check session_outside prompt preview' >> "$out/repository/crates.txt"
 (cd "$out/repository/crates" && rm -rf question_tests columns_tests plush_resolve plush_serve)
 cat > "$bench/src/lib.rt" <<'END_OF_CRATE'
 #![tactic(auto)]
 
 use fresh_session::fresh;
+use name_index::PLACES;
 use preview::preview;
 use prompt::enter;
+use session::lent::LentSession;
 use session_check::check_session;
-use session_outside::outside_size;
-use session_outside::outside_words;
+use session_names::space::{NameSpace, STARTS};
+use session_outside::runs::SessionRuns;
+use session_outside::{outside_size, outside_words};
 
 #[unsafe(no_mangle)]
 pub extern "C" fn bench_fresh(words: &mut [u32], bytes: &mut [u8]) {
@@ -50,23 +53,25 @@ pub extern "C" fn bench_preview(words: &[u32], bytes: &[u8], sheet: &[u32], name
 
 #[unsafe(no_mangle)]
 pub extern "C" fn bench_check(words: &[u32], bytes: &[u8]) -> usize {
-    let mut starts = [0u32; 1025];
-    let mut index = [0u32; 2048];
-    usize::from(check_session(words, bytes, &mut starts, &mut index).is_some())
+    let mut starts = [0u32; STARTS];
+    let mut index = [0u32; PLACES];
+    let space = NameSpace { starts: &mut starts, index: &mut index };
+    usize::from(check_session(LentSession { words, bytes }, space).is_some())
 }
 
 #[unsafe(no_mangle)]
 pub extern "C" fn bench_outside(words: &[u32], bytes: &[u8], out: &mut [u32]) -> usize {
-    let mut starts = [0u32; 1025];
-    let mut index = [0u32; 2048];
-    let Some(_list) = check_session(words, bytes, &mut starts, &mut index) else {
+    let mut starts = [0u32; STARTS];
+    let mut index = [0u32; PLACES];
+    let space = NameSpace { starts: &mut starts, index: &mut index };
+    let Some(_list) = check_session(LentSession { words, bytes }, space) else {
         return 0;
     };
     let size = outside_size(words);
     if out.len() < size {
         return 0;
     }
-    outside_words(words, out);
+    outside_words(SessionRuns { words }, out);
     size
 }
 END_OF_CRATE
@@ -75,10 +80,11 @@ use Rattle.std.proofs.Common.{arith}
 use Rattle.session_outside.proofs.ReadableLaws.{readable}
 use Rattle.session_bench.proofs.bench_outside.Goals as goal
 
+pub invariant_of-outside_words : goal.invariant_of-outside_words
+invariant_of-outside_words c = record { readable = readable c.args.words.now c.args.bytes.now c.in-Some.ensures.0 }
+
 pub outside_words-requires : goal.outside_words-requires
-outside_words-requires c =
-    (readable c.args.words.now c.args.bytes.now c.in-Some.ensures.0,
-    omega (arith, c.if-out-size.false, c.outside_size-size.ensures))
+outside_words-requires c = omega (arith, c.if-out-size.false, c.outside_size-size.ensures)
 END_OF_PROOF
 (cd "$out/repository/crates/session_bench" && rt lib > "$out/session_staticlib.log" 2>&1) || { tail -20 "$out/session_staticlib.log"; exit 1; }
 "$here/../oracle/build.sh" "$plush" "$out/oracle" > /dev/null
