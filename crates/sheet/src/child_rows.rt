@@ -7,7 +7,7 @@ ghost use Rattle.sheet.specs.Rest.{rows_left, kind_left};
 
 use ast::column;
 use ast::kind::Kind;
-use words::{is_kind, word_at};
+use words::{word, word_at};
 
 // The rows of a child list, at most `left` of them. The next is the word at place `link`, which is read when its row is asked for: measured, since a
 // word read ahead takes a branch more for each row.
@@ -62,8 +62,10 @@ impl<'a> Iterator for KindRows<'a> {
 
     #[inline(always)]
     fn next(&mut self) -> Option<u32> {
+        // Measured: read inside the loop, the number of the kind is looked up in a table for each row.
+        let kind = self.kind as u32;
         while let Some(row) = self.rows.next() {
-            if is_kind(self.sheet, row, self.kind) {
+            if word(self.sheet, row, column::KIND) == kind {
                 return Some(row);
             }
         }
